@@ -1,5 +1,26 @@
 // What every room shares: the few types in which public calls answer. The rules themselves are definitions, in specs/.
 
+// The limits of document 01, and the room that a call must be lent (specs/Limits.antt has the same numbers).
+pub const MOST_BYTES: usize = 4096;
+
+pub const MOST_NODES: usize = 512;
+
+pub const MOST_RULES: usize = 512;
+
+pub const MOST_FORMULA_NODES: usize = 1024;
+
+pub const OUTPUT_ROOM: usize = 4096;
+
+pub const TEXT_ROOM: usize = 20480;
+
+pub const FORMULA_TEXT_ROOM: usize = 11264;
+
+pub const STORED_ROOM: usize = 4608;
+
+pub const SCRATCH_ROOM: usize = 8192;
+
+pub const ENTRY_ROOM: usize = 512;
+
 // A refusal: its number and place as document 01's table has them, and the input that it is about: 1, 2 or 3, or 0 for none.
 pub struct Refusal {
     pub number: u8,
@@ -11,12 +32,6 @@ pub struct Refusal {
 pub enum Answer {
     Good(usize),
     Refused(Refusal),
-}
-
-// The two forms that are made of nodes alone: tag, names, parts.
-pub enum Form {
-    Term,
-    Formula,
 }
 
 // What a stored file holds.
