@@ -1,10 +1,11 @@
 -- What every byte that is passed keeps, every reading keeps: by one walk through the ways in which readings are put together.
 -- Assumes nothing.
-use Prim.Native.Nat.{ℕ, zero, suc, _+_, _-_}
+use Prim.Native.Nat.{ℕ, zero, suc, _+_, _-_, _<_}
 use mathlib.Core.Bool.{Bool}
 use mathlib.Core.List.{[], _∷_}
 use mathlib.Core.Option.{Option, none, some}
 use lib.ListN.{length}
+use borrow.Author.Tests.{ltb-true}
 use Rattle.rules.specs.Basic.{Bytes, _<?_, _≤?_, between}
 use Rattle.rules.specs.Name.{leads, follows}
 use Rattle.rules.specs.Layout.{Layout, headAt}
@@ -60,27 +61,27 @@ module _ {S : Type 0} (R : S → ℕ → Bytes → S → ℕ → Bytes → Type 
   unfolding name
   keeps-name most = keeps-then (byteFor (between 1 most) 5) _ (keeps-byteFor (between 1 most) 5) (λ n. keeps-then (room n) _ (keeps-room n) (λ _. keeps-letters n))
 
--- Where nodes are counted, a tag that is passed counts one.
-module _ (R : ℕ → ℕ → Bytes → ℕ → ℕ → Bytes → Type 0) (k : Kept R) (counted : (u at b : ℕ) (r : Bytes) → R u at (b ∷ r) (u + 1) (at + 1) r) where
-  pub keeps-tag : {H : Type 0} (most : ℕ) (heads : ℕ → Option H) → Keeps R (tag most heads)
+pub keeps-tooMany : (R : ℕ → ℕ → Bytes → ℕ → ℕ → Bytes → Type 0) (A : Type 0) → Keeps {A = A} R tooMany
+unfolding tooMany byte
+keeps-tooMany R A u at [] = tt
+keeps-tooMany R A u at (b ∷ r) = tt
+
+-- Where nodes are counted, a tag that is passed counts one, if that is not one too many.
+module _ (R : ℕ → ℕ → Bytes → ℕ → ℕ → Bytes → Type 0) (k : Kept R) (most : ℕ) (counted : (u at b : ℕ) (r : Bytes) → u < most → R u at (b ∷ r) (u + 1) (at + 1) r) where
+  pub keeps-tag : {H : Type 0} (heads : ℕ → Option H) → Keeps R (tag most heads)
   unfolding tag byte
-  keeps-tag most heads u at [] = tt
-  keeps-tag most heads u at (b ∷ r) = chosen _ (u <? most) _ _ (λ e. found (heads b)) (λ e. tt)
+  keeps-tag heads u at [] = tt
+  keeps-tag heads u at (b ∷ r) = chosen _ (u <? most) _ _ (λ e. found (ltb-true _ _ e) (heads b)) (λ e. tt)
     where
-      found : {H : Type 0} (o : Option H) → Holds (λ h v p r′. R u at (b ∷ r) v p r′) (listed u at (at + 1) r o)
-      found none = tt
-      found (some h) = counted u at b r
+      found : {H : Type 0} → u < most → (o : Option H) → Holds (λ h v p r′. R u at (b ∷ r) v p r′) (listed u at (at + 1) r o)
+      found l none = tt
+      found l (some h) = counted u at b r l
 
-  pub keeps-tooMany : (A : Type 0) → Keeps {A = A} R tooMany
-  unfolding tooMany byte
-  keeps-tooMany A u at [] = tt
-  keeps-tooMany A u at (b ∷ r) = tt
-
-  pub keeps-node : {H A : Type 0} (F : Layout H A) (most depth : ℕ) → Keeps R (node F most depth)
+  pub keeps-node : {H A : Type 0} (F : Layout H A) (depth : ℕ) → Keeps R (node F most depth)
   unfolding node
-  keeps-node {H} {A} F most zero = keeps-tooMany A
-  keeps-node {H} {A} F most (suc depth) =
-      keeps-then R k (tag most (headAt (F .heads))) _ (keeps-tag most (headAt (F .heads))) (λ h.
+  keeps-node {H} {A} F zero = keeps-tooMany R A
+  keeps-node {H} {A} F (suc depth) =
+      keeps-then R k (tag most (headAt (F .heads))) _ (keeps-tag (headAt (F .heads))) (λ h.
       keeps-then R k (times (name (F .longest)) (F .names h)) _ (keeps-times R k (name (F .longest)) (keeps-name R k (F .longest)) (F .names h)) (λ xs.
-      keeps-then R k (times (node F most depth) (F .parts h)) _ (keeps-times R k (node F most depth) (keeps-node F most depth) (F .parts h)) (λ ts.
+      keeps-then R k (times (node F most depth) (F .parts h)) _ (keeps-times R k (node F most depth) (keeps-node F depth) (F .parts h)) (λ ts.
       k .still)))

@@ -1,7 +1,7 @@
 -- What a reading of s leaves is s from the next position on; names leave the count as it was, and nodes never lower it.
 -- Each is a relation that a passed byte keeps, so all readings keep it (Keeps.antt).
 -- Assumes nothing.
-use Prim.Native.Nat.{ℕ, _+_, _≤_}
+use Prim.Native.Nat.{ℕ, _+_, _≤_, _<_}
 use mathlib.Core.Path.{_≡_, refl, ap, _∙_}
 use mathlib.Core.Bool.{Bool}
 use mathlib.Core.List.{_∷_}
@@ -85,13 +85,13 @@ module _ {S : Type 0} where
   steady-name most = to-steady (name most) (λ s. keeps-name (Along s) (along s) most)
 
 pub steady-tag : {H : Type 0} (most : ℕ) (heads : ℕ → Option H) → Steady (tag most heads)
-steady-tag most heads = to-steady (tag most heads) (λ s. keeps-tag (Along s) (along s) (λ u at b r h. stands-next s at b r h) most heads)
+steady-tag most heads = to-steady (tag most heads) (λ s. keeps-tag (Along s) (along s) most (λ u at b r l h. stands-next s at b r h) heads)
 
 pub steady-tooMany : (A : Type 0) → Steady {A = A} tooMany
-steady-tooMany A = to-steady tooMany (λ s. keeps-tooMany (Along s) (along s) (λ u at b r h. stands-next s at b r h) A)
+steady-tooMany A = to-steady tooMany (λ s. keeps-tooMany (Along s) A)
 
 pub steady-node : {H A : Type 0} (F : Layout H A) (most depth : ℕ) → Steady (node F most depth)
-steady-node F most depth = to-steady (node F most depth) (λ s. keeps-node (Along s) (along s) (λ u at b r h. stands-next s at b r h) F most depth)
+steady-node F most depth = to-steady (node F most depth) (λ s. keeps-node (Along s) (along s) most (λ u at b r l h. stands-next s at b r h) F depth)
 
 -- The count of what was met.
 abbrev pub Level : {S : Type 0} → S → ℕ → Bytes → S → ℕ → Bytes → Type 0
@@ -106,8 +106,15 @@ level = record { still = λ u at r. refl; on = λ e d. d ∙ e; passed = λ u at
 upward : Kept Upward
 upward = record { still = λ u at r. le-refl u; on = λ e d. le-trans e d; passed = λ u at b r. le-refl u }
 
-up : (u at b : ℕ) (r : Bytes) → Upward u at (b ∷ r) (u + 1) (at + 1) r
-up u at b r = omega arith
+-- and it does not pass the most that there may be
+abbrev pub Below : ℕ → ℕ → ℕ → Bytes → ℕ → ℕ → Bytes → Type 0
+Below most u at r v p r′ = u ≤ most → v ≤ most
+
+below : (most : ℕ) → Kept (Below most)
+below most = record { still = λ u at r h. h; on = λ f g h. g (f h); passed = λ u at b r h. h }
+
+up : {most : ℕ} (u at b : ℕ) (r : Bytes) → u < most → Upward u at (b ∷ r) (u + 1) (at + 1) r
+up u at b r l = omega arith
 
 module _ {S : Type 0} (u : S) (at : ℕ) (r : Bytes) {v : S} {p : ℕ} {r′ : Bytes} where
   pub name-level : (most : ℕ) {x : Name} → name most u at r ≡ got x v p r′ → v ≡ u
@@ -118,7 +125,10 @@ module _ {S : Type 0} (u : S) (at : ℕ) (r : Bytes) {v : S} {p : ℕ} {r′ : B
 
 module _ {H A : Type 0} (F : Layout H A) (most depth u at : ℕ) (r : Bytes) {v p : ℕ} {r′ : Bytes} where
   pub node-upward : {x : A} → node F most depth u at r ≡ got x v p r′ → u ≤ v
-  node-upward e = told _ (node F most depth u at r) (keeps-node Upward upward up F most depth u at r) e
+  node-upward e = told _ (node F most depth u at r) (keeps-node Upward upward most up F depth u at r) e
 
   pub nodes-upward : (n : ℕ) {xs : Tuple A n} → times (node F most depth) n u at r ≡ got xs v p r′ → u ≤ v
-  nodes-upward n e = told _ (times (node F most depth) n u at r) (keeps-times Upward upward (node F most depth) (keeps-node Upward upward up F most depth) n u at r) e
+  nodes-upward n e = told _ (times (node F most depth) n u at r) (keeps-times Upward upward (node F most depth) (keeps-node Upward upward most up F depth) n u at r) e
+
+  pub node-below : {x : A} → node F most depth u at r ≡ got x v p r′ → u ≤ most → v ≤ most
+  node-below e = told _ (node F most depth u at r) (keeps-node (Below most) (below most) most (λ u at b r l h. omega arith) F depth u at r) e
