@@ -4,3 +4,7 @@ pub mod Steady
 pub mod Written
 pub mod WrittenTerm
 pub mod WrittenFormula
+pub mod Names
+pub mod Sound
+pub mod Complete
+pub mod Decoding
