@@ -8,3 +8,4 @@ pub mod Names
 pub mod Sound
 pub mod Complete
 pub mod Decoding
+pub mod TextSize
