@@ -9,3 +9,6 @@ pub mod Sound
 pub mod Complete
 pub mod Decoding
 pub mod TextSize
+pub mod Same
+pub mod FreeSize
+pub mod SubstSize

@@ -2,7 +2,7 @@
 -- Assumes nothing.
 use Prim.Native.Nat.{ℕ, zero, suc, _+_, _-_, _≤_}
 use mathlib.Core.Path.{_≡_, refl, ap, _∙_}
-use mathlib.Core.Bool.{Bool, true, false, _&&_}
+use mathlib.Core.Bool.{Bool, true}
 use mathlib.Core.List.{[], _∷_, _++_}
 use native.Mathlib.Omega.{arith}
 use lib.ListN.{length, length-append}
@@ -11,6 +11,7 @@ use Rattle.rules.specs.Basic.{Bytes, _‥_, _≤?_, between}
 use Rattle.rules.specs.Name.{Name, leads, follows, encodeName}
 use Rattle.rules.specs.Legal.{All, LegalName}
 use Rattle.rules.specs.Reading.{got, many, byte, byteFor, room, letters, name}
+use Rattle.laws.specs.Same.{both-true}
 use Rattle.laws.specs.Holds.{Holds, and-then, chosen, weaker}
 
 -- What was read of an item: its bytes, the position behind them, the count with it, and that it is legal.
@@ -23,10 +24,6 @@ pub record Item {S A : Type 0} (enc : A → Bytes) (add : S → A → S) (Ok : A
 -- where nothing is counted
 abbrev pub still : {S A : Type 0} → S → A → S
 still u x = u
-
-both-true : (a b : Bool) → a && b ≡ true → (a ≡ true) × (b ≡ true)
-both-true true b e = (refl, e)
-both-true false b e = absurd (let z : _≡_ {A = ℕ} 0 1 = cc in omega arith)
 
 -- n bytes that are allowed; the letters of a name that is n bytes long
 abbrev Run : (ℕ → Bool) → ℕ → Bytes → Type 0
