@@ -12,3 +12,5 @@ pub mod TextSize
 pub mod Same
 pub mod FreeSize
 pub mod SubstSize
+pub mod SubstNone
+pub mod Occurrences
