@@ -14,3 +14,6 @@ pub mod FreeSize
 pub mod SubstSize
 pub mod SubstNone
 pub mod Occurrences
+pub mod SubstFree
+pub mod SubstReach
+pub mod SubstAmong
