@@ -17,3 +17,5 @@ pub mod Occurrences
 pub mod SubstFree
 pub mod SubstReach
 pub mod SubstAmong
+pub mod Parts
+pub mod SubstLegal
