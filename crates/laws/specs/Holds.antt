@@ -3,8 +3,9 @@
 use Prim.Native.Nat.{ℕ}
 use mathlib.Core.Path.{_≡_, refl}
 use mathlib.Core.Bool.{Bool, true, false}
+use mathlib.Core.List.{[], _∷_}
 use Rattle.rules.specs.Basic.{Bytes, if_then_else_}
-use Rattle.rules.specs.Reading.{Got, got, bad, Reader, andThen}
+use Rattle.rules.specs.Reading.{Got, got, bad, Reader, andThen, byte, tooMany}
 
 -- P of what was read, of the count, the next position and the rest.
 abbrev pub Holds : {S A : Type 0} → (A → S → ℕ → Bytes → Type 0) → Got S A → Type 0
@@ -28,3 +29,9 @@ module _ {S A : Type 0} (P : A → S → ℕ → Bytes → Type 0) where
   pub weaker : (Q : A → S → ℕ → Bytes → Type 0) (g : Got S A) → ((x : A) (u : S) (p : ℕ) (r : Bytes) → P x u p r → Q x u p r) → Holds P g → Holds Q g
   weaker Q (got x u p r) f h = f x u p r h
   weaker Q (bad n p) f h = tt
+
+-- Where no node may follow, nothing is read.
+pub none-read : {A : Type 0} (P : A → ℕ → ℕ → Bytes → Type 0) (u at : ℕ) (r : Bytes) → Holds P (tooMany u at r)
+unfolding tooMany byte
+none-read P u at [] = tt
+none-read P u at (b ∷ r) = tt

@@ -9,8 +9,8 @@ use borrow.Author.Tests.{ltb-true}
 use Rattle.rules.specs.Basic.{Bytes, _<?_, _≤?_, between}
 use Rattle.rules.specs.Name.{leads, follows}
 use Rattle.rules.specs.Layout.{Layout, headAt}
-use Rattle.rules.specs.Reading.{Reader, andThen, times, many, byte, byteFor, room, letters, name, tag, listed, tooMany, node}
-use Rattle.laws.specs.Holds.{Holds, and-then, chosen, weaker}
+use Rattle.rules.specs.Reading.{Reader, andThen, times, many, byte, byteFor, room, letters, name, tag, listed, node}
+use Rattle.laws.specs.Holds.{Holds, and-then, chosen, weaker, none-read}
 
 -- A relation of where a reader stands (what was met, the position, the rest) and where it stood before, that a byte which is passed keeps.
 pub record Kept {S : Type 0} (R : S → ℕ → Bytes → S → ℕ → Bytes → Type 0) : Type 0 where
@@ -61,11 +61,6 @@ module _ {S : Type 0} (R : S → ℕ → Bytes → S → ℕ → Bytes → Type 
   unfolding name
   keeps-name most = keeps-then (byteFor (between 1 most) 5) _ (keeps-byteFor (between 1 most) 5) (λ n. keeps-then (room n) _ (keeps-room n) (λ _. keeps-letters n))
 
-pub keeps-tooMany : (R : ℕ → ℕ → Bytes → ℕ → ℕ → Bytes → Type 0) (A : Type 0) → Keeps {A = A} R tooMany
-unfolding tooMany byte
-keeps-tooMany R A u at [] = tt
-keeps-tooMany R A u at (b ∷ r) = tt
-
 -- Where nodes are counted, a tag that is passed counts one, if that is not one too many.
 module _ (R : ℕ → ℕ → Bytes → ℕ → ℕ → Bytes → Type 0) (k : Kept R) (most : ℕ) (counted : (u at b : ℕ) (r : Bytes) → u < most → R u at (b ∷ r) (u + 1) (at + 1) r) where
   pub keeps-tag : {H : Type 0} (heads : ℕ → Option H) → Keeps R (tag most heads)
@@ -79,8 +74,8 @@ module _ (R : ℕ → ℕ → Bytes → ℕ → ℕ → Bytes → Type 0) (k : K
 
   pub keeps-node : {H A : Type 0} (F : Layout H A) (depth : ℕ) → Keeps R (node F most depth)
   unfolding node
-  keeps-node {H} {A} F zero = keeps-tooMany R A
-  keeps-node {H} {A} F (suc depth) =
+  keeps-node F zero = λ u at r. none-read _ u at r
+  keeps-node F (suc depth) =
       keeps-then R k (tag most (headAt (F .heads))) _ (keeps-tag (headAt (F .heads))) (λ h.
       keeps-then R k (times (name (F .longest)) (F .names h)) _ (keeps-times R k (name (F .longest)) (keeps-name R k (F .longest)) (F .names h)) (λ xs.
       keeps-then R k (times (node F most depth) (F .parts h)) _ (keeps-times R k (node F most depth) (keeps-node F depth) (F .parts h)) (λ ts.

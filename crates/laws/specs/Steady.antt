@@ -14,8 +14,8 @@ use Rattle.rules.specs.Basic.{Bytes}
 use Rattle.rules.specs.Layout.{Layout, Tuple}
 use Rattle.rules.specs.Name.{Name}
 use Rattle.rules.specs.Reading.{Got, got, bad, Reader, times, many, byte, byteFor, room, letters, name, tag, tooMany, node}
-use Rattle.laws.specs.Holds.{Holds, told}
-use Rattle.laws.specs.Keeps.{Kept, Keeps, keeps-byte, keeps-byteFor, keeps-room, keeps-times, keeps-many, keeps-letters, keeps-name, keeps-tag, keeps-tooMany, keeps-node}
+use Rattle.laws.specs.Holds.{Holds, told, none-read}
+use Rattle.laws.specs.Keeps.{Kept, Keeps, keeps-byte, keeps-byteFor, keeps-room, keeps-times, keeps-many, keeps-letters, keeps-name, keeps-tag, keeps-node}
 
 -- a place of s, and what is left of s there
 pub record Stands (s : Bytes) (p : ℕ) (r : Bytes) : Type 0 where
@@ -88,7 +88,7 @@ pub steady-tag : {H : Type 0} (most : ℕ) (heads : ℕ → Option H) → Steady
 steady-tag most heads = to-steady (tag most heads) (λ s. keeps-tag (Along s) (along s) most (λ u at b r l h. stands-next s at b r h) heads)
 
 pub steady-tooMany : (A : Type 0) → Steady {A = A} tooMany
-steady-tooMany A = to-steady tooMany (λ s. keeps-tooMany (Along s) A)
+steady-tooMany A s u at h = none-read _ u at (drop at s)
 
 pub steady-node : {H A : Type 0} (F : Layout H A) (most depth : ℕ) → Steady (node F most depth)
 steady-node F most depth = to-steady (node F most depth) (λ s. keeps-node (Along s) (along s) most (λ u at b r l h. stands-next s at b r h) F depth)
