@@ -13,6 +13,19 @@ use Rattle.rules.specs.Reading.{Got, got, bad, Reader, andThen, times, many, by
 use Rattle.reader.specs.View.{Read, Whole, Bad, view}
 use Rattle.reader.proofs.Views.{rest-in, rest-out, view-made, letter-on, letter-off}
 
+-- Its letters, up to `end`.
+module _ (s : Bytes) (u at end : ℕ) (some-left : at < end) (within : end ≤ length s) where
+  pub letters-off : leads (getD s at 0) ≡ false → view (letters (end - at) u at (drop at s)) ≡ Bad 5 at
+  unfolding letters
+  letters-off e = simp (letter-off leads s u at (omega arith) e)
+
+  pub letters-on : leads (getD s at 0) ≡ true
+      → view (many (byteFor follows 5) (end - (at + 1)) u (at + 1) (drop (at + 1) s)) ≡ view (letters (end - at) u at (drop at s))
+  unfolding letters
+  letters-on e =
+      let z : end - at - 1 ≡ end - (at + 1) = omega arith in
+      simp (letter-on leads s u at (omega arith) e, z) (sym (view-made (many (byteFor follows 5) (end - (at + 1)) u (at + 1) (drop (at + 1) s)) (λ bs. getD s at 0 ∷ bs)))
+
 module _ (most : ℕ) (s : Bytes) (u at : ℕ) where
   pub name-out : length s ≤ at → view (name most u at (drop at s)) ≡ Bad 3 at
   unfolding name byteFor byte
@@ -35,25 +48,8 @@ module _ (most : ℕ) (s : Bytes) (u at : ℕ) (h : at < length s) (l : 1 ≤ ge
       rw (rest-in s at h)
       (simp (le-leb 1 (getD s at 0) l, le-leb (getD s at 0) most m, length-drop (at + 1) s, lt-leb (getD s at 0) (length s - (at + 1)) g) (ap (λ p. Bad 3 p) z))
 
-  pub name-bad : getD s at 0 ≤ length s - (at + 1) → leads (getD s (at + 1) 0) ≡ false → view (name most u at (drop at s)) ≡ Bad 5 (at + 1)
-  unfolding name letters room
-  name-bad g e =
-      simp (
-        letter-on (between 1 most) s u at h (simp (le-leb 1 (getD s at 0) l, le-leb (getD s at 0) most m)),
-        length-drop (at + 1) s,
-        le-leb (getD s at 0) (length s - (at + 1)) g,
-        letter-off leads s u (at + 1) (omega arith) e,
-      )
-
-  pub name-on : getD s at 0 ≤ length s - (at + 1) → leads (getD s (at + 1) 0) ≡ true → (k : ℕ) → k ≡ getD s at 0 - 1
-      → view (many (byteFor follows 5) k u (at + 1 + 1) (drop (at + 1 + 1) s)) ≡ view (name most u at (drop at s))
-  unfolding name letters room
-  name-on g e k z =
-      simp (
-        letter-on (between 1 most) s u at h (simp (le-leb 1 (getD s at 0) l, le-leb (getD s at 0) most m)),
-        length-drop (at + 1) s,
-        le-leb (getD s at 0) (length s - (at + 1)) g,
-        letter-on leads s u (at + 1) (omega arith) e,
-        z,
-      )
-      (sym (view-made (many (byteFor follows 5) (getD s at 0 - 1) u (at + 1 + 1) (drop (at + 1 + 1) s)) (λ bs. getD s (at + 1) 0 ∷ bs)))
+  pub name-on : getD s at 0 ≤ length s - (at + 1) → (k : ℕ) → k ≡ getD s at 0 → view (letters k u (at + 1) (drop (at + 1) s)) ≡ view (name most u at (drop at s))
+  unfolding name byteFor byte room
+  name-on g k z =
+      rw (rest-in s at h)
+      (simp (le-leb 1 (getD s at 0) l, le-leb (getD s at 0) most m, length-drop (at + 1) s, le-leb (getD s at 0) (length s - (at + 1)) g, z))

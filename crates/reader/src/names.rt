@@ -1,9 +1,9 @@
 // Skips names: a length byte, then letters.
 ghost use mathlib.Core.Path.{_≡_};
-ghost use Prim.Native.Nat.{ℕ, _+_, _-_, _≤_};
+ghost use Prim.Native.Nat.{ℕ, _+_, _-_, _≤_, _<_};
 ghost use lib.ListN.{length, drop};
 ghost use Rattle.rules.specs.Name.{follows as followsName};
-ghost use Rattle.rules.specs.Reading.{byteFor, many, times, name};
+ghost use Rattle.rules.specs.Reading.{byteFor, many, letters, times, name};
 ghost use Rattle.reader.specs.Classes.{Letters};
 ghost use Rattle.reader.specs.View.{view, skipped};
 use crate::classes::follows;
@@ -16,7 +16,7 @@ pub enum Skip {
 }
 
 // The letters of a name after its first, up to `end`.
-pub fn skip_letters(s: &[u8], t: &[u8; 256], at: usize, end: usize) -> Skip
+fn skip_following(s: &[u8], t: &[u8; 256], at: usize, end: usize) -> Skip
     requires { ⌜ Letters (now t) ⌝ }
     requires { ⌜ end ≤ length (now s) ⌝ }
     ensures { λ r. ⌜ ((u : ℕ) → skipped u r ≡ view (many (byteFor followsName 5) (end - at) u at (drop at (now (s .entry))))) ⌝ }
@@ -33,6 +33,22 @@ pub fn skip_letters(s: &[u8], t: &[u8; 256], at: usize, end: usize) -> Skip
         }
     }
     Skip::To(p)
+}
+
+// The letters of a name, up to `end`.
+pub fn skip_letters(s: &[u8], t: &[u8; 256], at: usize, end: usize) -> Skip
+    requires { ⌜ Letters (now t) ⌝ }
+    requires { ⌜ (at < end) × (end ≤ length (now s)) ⌝ }
+    ensures { λ r. ⌜ ((u : ℕ) → skipped u r ≡ view (letters (end - at) u at (drop at (now (s .entry))))) ⌝ }
+{
+    if leads(t, s[at]) {
+        skip_following(s, t, at + 1, end)
+    } else {
+        Skip::Fault {
+            number: 5,
+            place: at,
+        }
+    }
 }
 
 pub fn skip_name(s: &[u8], t: &[u8; 256], longest: usize, at: usize) -> Skip
@@ -65,14 +81,7 @@ pub fn skip_name(s: &[u8], t: &[u8; 256], longest: usize, at: usize) -> Skip
             place: s.len(),
         };
     }
-    if leads(t, s[first]) {
-        skip_letters(s, t, first + 1, first + n)
-    } else {
-        Skip::Fault {
-            number: 5,
-            place: first,
-        }
-    }
+    skip_letters(s, t, first, first + n)
 }
 
 pub fn skip_names(s: &[u8], t: &[u8; 256], longest: usize, at: usize, n: usize) -> Skip

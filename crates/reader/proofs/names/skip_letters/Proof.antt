@@ -1,78 +1,45 @@
--- `names::skip_letters` meets its contract: what is left to read from p on is what was to be read from `at` on. Assumes nothing.
-use Prim.Native.Nat.{ℕ, suc, _+_, _-_, _≤_}
+-- `names::skip_letters` meets its contract: the first letter is tested, and then the others. Assumes nothing.
 use native.Mathlib.Omega.{arith}
-use borrow.Author.Needs.{needs}
-use mathlib.Core.Path.{_≡_, refl, sym, ap, _∙_}
+use mathlib.Core.Path.{_≡_, sym, _∙_}
 use mathlib.Core.Bool.{true, false}
-use lib.ListN.{length, getD, drop}
-use Rattle.rules.specs.Name.{follows}
-use Rattle.rules.specs.Reading.{byteFor, many}
-use Rattle.reader.specs.View.{view}
-use Rattle.reader.proofs.Views.{letter-on, letter-off, many-on, many-off, many-none}
+use lib.ListN.{getD}
+use Rattle.rules.specs.Name.{leads}
+use Rattle.reader.proofs.Name.{letters-on, letters-off}
+use borrow.Author.Needs.{needs}
 use Rattle.reader.proofs.names.skip_letters.Statement.{statement}
 use Rattle.reader.proofs.names.skip_letters.Tie as tie
 
-abbrev Inv-loop : tie.InvT-loop
-Inv-loop s t at end p₀ p =
-    (end ≤ length s) × ((u : ℕ) → view (many (byteFor follows 5) (end - at) u at (drop at s)) ≡ view (many (byteFor follows 5) (end - p) u p (drop p s)))
+shared-slice-read-leads : tie.Need-shared-slice-read-leads
+shared-slice-read-leads c = search needs
 
-abbrev μ-loop : tie.MeasureT-loop
-μ-loop s t at end p₀ p = end - p
+leads-requires : tie.Need-leads-requires
+leads-requires c κs = search needs
 
-loop-holds : tie.Need-loop-holds Inv-loop μ-loop
-loop-holds c = (c .before .pre .1, λ u. refl)
+add-skip-following : tie.Need-add-skip-following
+add-skip-following c = search needs
 
-shared-slice-read-follows : tie.Need-shared-slice-read-follows Inv-loop μ-loop
-shared-slice-read-follows c = omega arith
+skip-following-requires : tie.Need-skip-following-requires
+skip-following-requires c κs = search needs
 
-follows-requires : tie.Need-follows-requires Inv-loop μ-loop
-follows-requires c κs = search needs
-
-add-p : tie.Need-add-p Inv-loop μ-loop
-add-p c = omega arith
-
-loop-less : tie.Need-loop-less Inv-loop μ-loop
-loop-less c = omega arith
-
-loop-again : tie.Need-loop-again Inv-loop μ-loop
-loop-again c =
-    let l = c .before .before .before .before .loop in
-    let a = c .before .before .before .before .before .before .args in
-    let s = a .s .now in
-    let e : follows (getD s (l .p) 0) ≡ true = cc in (
-      l .inv .0,
-      λ u.
-          l .inv .1 u
-          ∙ many-on (byteFor follows 5) (a .end - l .p) u (l .p) (drop (l .p) s) (a .end - (l .p + 1)) (omega arith) _ u (l .p + 1) _ (letter-on follows s u (l .p) (omega arith) e),
-    )
-
-returns : tie.Need-returns Inv-loop μ-loop
+returns : tie.Need-returns
 returns c =
-    let l = c .before .before .before .before .loop in
-    let a = c .before .before .before .before .before .before .args in
-    let s = a .s .now in
-    let e : follows (getD s (l .p) 0) ≡ false = cc in
-    λ u.
-    sym (l .inv .1 u
-    ∙ many-off (byteFor follows 5) (a .end - l .p) u (l .p) (drop (l .p) s) (a .end - (l .p + 1)) (omega arith) 5 (l .p) (letter-off follows s u (l .p) (omega arith) e))
+    let a = c .before .before .before .before .before .args in
+    let e : leads (getD (a .s .now) (a .at) 0) ≡ true = cc in
+    λ u. c .skip-following .ensures u ∙ letters-on (a .s .now) u (a .at) (a .end) (omega arith) (omega arith) e
 
-returns-2 : tie.Need-returns-2 Inv-loop μ-loop
+returns-2 : tie.Need-returns-2
 returns-2 c =
-    let l = c .before .loop in
-    let a = c .before .before .before .args in
-    λ u. sym (l .inv .1 u ∙ many-none (byteFor follows 5) (a .end - l .p) u (l .p) (drop (l .p) (a .s .now)) (omega arith))
+    let a = c .before .before .before .before .args in
+    let e : leads (getD (a .s .now) (a .at) 0) ≡ false = cc in
+    λ u. sym (letters-off (a .s .now) u (a .at) (a .end) (omega arith) (omega arith) e)
 
 pub skip-letters-spec : {M : Type 1} → statement M
 skip-letters-spec =
     tie.close
     (tie.spec
-    Inv-loop
-    μ-loop
-    loop-holds
-    shared-slice-read-follows
-    follows-requires
-    add-p
-    loop-less
-    loop-again
+    shared-slice-read-leads
+    leads-requires
+    add-skip-following
+    skip-following-requires
     returns
     returns-2)
