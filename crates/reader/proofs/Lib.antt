@@ -6,3 +6,4 @@ pub mod Depth
 pub mod Node
 pub mod Rest
 pub mod Turn
+pub mod Whole

@@ -1,3 +1,4 @@
 pub mod Form
 pub mod View
 pub mod Classes
+pub mod Tables
