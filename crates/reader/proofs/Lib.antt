@@ -7,3 +7,4 @@ pub mod Node
 pub mod Rest
 pub mod Turn
 pub mod Whole
+pub mod Bare

@@ -22,7 +22,8 @@ use Rattle.laws.specs.Sound.{node-sound}
 use Rattle.laws.specs.Steady.{steady-node}
 use Rattle.reader.specs.Form.{Form, Term, Formula, ItemOf, layoutOf, countOf, mostOf, readOf}
 use Rattle.reader.specs.View.{Read, Whole, Bad, view}
-use Rattle.reader.proofs.Views.{rest-in, rest-out, view-bad, Passed, passed}
+use Rattle.reader.specs.Viewed.{view-bad, Passed, passed}
+use Rattle.reader.proofs.Views.{rest-in, rest-out}
 
 -- the count of nodes is that of what was read
 node-met : (f : Form) (most depth u at : ℕ) (r : Bytes) {x : ItemOf f} {v p : ℕ} {q : Bytes} → node (layoutOf f) most depth u at r ≡ got x v p q → v ≡ u + countOf f x

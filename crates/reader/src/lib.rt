@@ -100,3 +100,31 @@ pub fn check_formula(formula: &[u8]) -> Answer
 {
     formula_input(formula, 1)
 }
+
+// A bare name: it has no length byte, and is accepted with its length.
+pub fn name_input(s: &[u8], input: u8) -> Answer
+    ensures { λ r. ⌜ r ≡ answered (mapped length (readName input (now (s .entry)))) ⌝ }
+{
+    if s.len() < 1 {
+        return Answer::Refused(Refusal {
+            number: 5,
+            place: 0,
+            input,
+        });
+    }
+    if longest_name(Form::Term) < s.len() {
+        return Answer::Refused(Refusal {
+            number: 5,
+            place: 0,
+            input,
+        });
+    }
+    match skip_letters(s, &TERM_CLASSES, 0, s.len()) {
+        Skip::To(next) => Answer::Good(next),
+        Skip::Fault { number, place } => Answer::Refused(Refusal {
+            number,
+            place,
+            input,
+        }),
+    }
+}

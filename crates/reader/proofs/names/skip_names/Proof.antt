@@ -7,7 +7,8 @@ use lib.ListN.{length, drop}
 use Rattle.rules.specs.Reading.{times, name}
 use Rattle.laws.specs.Steady.{steady-name}
 use Rattle.reader.specs.View.{view, skipped}
-use Rattle.reader.proofs.Views.{times-on, times-off, times-none, view-bad, Passed, passed}
+use Rattle.reader.specs.Viewed.{view-bad, Passed, passed}
+use Rattle.reader.proofs.Views.{times-on, times-off, times-none}
 use Rattle.reader.proofs.names.skip_names.Statement.{statement}
 use Rattle.reader.proofs.names.skip_names.Tie as tie
 
