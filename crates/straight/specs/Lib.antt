@@ -1,0 +1,6 @@
+pub mod Straight
+pub mod Names
+pub mod Weights
+pub mod Frees
+pub mod Counted
+pub mod Same
