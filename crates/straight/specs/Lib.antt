@@ -4,3 +4,5 @@ pub mod Weights
 pub mod Frees
 pub mod Counted
 pub mod Same
+pub mod Contraction
+pub mod OneStep

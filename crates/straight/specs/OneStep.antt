@@ -1,0 +1,169 @@
+-- One step of a straight term takes out what `Taken` says, and leaves a straight term.
+-- By induction on the term, the parts being tried as `step` tries them; what a part loses, the whole loses.
+use Prim.Native.Nat.{ℕ, zero, suc, _+_, _*_, _≤_}
+use mathlib.Core.Path.{_≡_, refl, ap, sym, _∙_}
+use mathlib.Core.Bool.{Bool, true, false, _&&_, _||_}
+use mathlib.Core.Option.{Option, none, some}
+use native.Mathlib.Omega.{arith}
+use Rattle.rules.specs.Basic.{if_then_else_}
+use Rattle.rules.specs.Name.{Name, same}
+use Rattle.rules.specs.Term.{Term, var, leaf, one, two, abs, both, branch, One, inl, inr, fst, snd, abort, promote, derelict, Two, pair, app, discard, Both, letPair, copy, size}
+use Rattle.rules.specs.Free.{occurrences}
+use Rattle.rules.specs.Substitution.{subst}
+use Rattle.rules.specs.declared.Rule.{Rule}
+use Rattle.rules.specs.Step.{Contraction, no, by, contract, Stepped, normal, found, here, orElse, inPart, nameBytes, step}
+use Rattle.straight.specs.Straight.{plain, plainOne, plainTwo, plainBoth}
+use Rattle.straight.specs.Names.{and-left, and-right, and-both}
+use Rattle.straight.specs.Weights.{Weight, weigh}
+use Rattle.straight.specs.Counted.{Bound, Counted, part-one, part-left, part-right, part-abs, part-first, part-second}
+use Rattle.straight.specs.Contraction.{Taken, taken-app, taken-let, taken-derelict}
+
+-- what is said of a contraction, or of a step, if there is one
+abbrev Made : (Rule → Option Term → Term → Type 0) → Contraction → Type 0
+Made P no = Unit {0}
+Made P (by r h u) = P r h u
+
+abbrev pub Meets : (Rule → Option Term → Term → Type 0) → Stepped → Type 0
+Meets P normal = Unit {0}
+Meets P (found r p h u) = P r h u
+
+meets-here : (P : Rule → Option Term → Term → Type 0) (c : Contraction) (s : Stepped) → Made P c → Meets P s → Meets P (here c s)
+meets-here P no s m h = h
+meets-here P (by r p u) s m h = m
+
+meets-else : (P : Rule → Option Term → Term → Type 0) (s s′ : Stepped) → Meets P s → Meets P s′ → Meets P (orElse s s′)
+meets-else P normal s′ h k = k
+meets-else P (found r p m u) s′ h k = h
+
+meets-part : (P Q : Rule → Option Term → Term → Type 0) (o : ℕ) (f : Term → Term) (s : Stepped)
+    → ((r : Rule) (h : Option Term) (u : Term) → P r h u → Q r h (f u)) → Meets P s → Meets Q (inPart o f s)
+meets-part P Q o f normal k h = tt
+meets-part P Q o f (found r p m u) k h = k r m u h
+
+-- The node itself.
+never : {A : Type 0} → false ≡ true → A
+never h = absurd (let z : _≡_ {A = ℕ} 0 1 = cc in omega arith)
+
+made-app : (f a : Term) → Counted (two app f a) → Made (Taken (two app f a)) (contract (two app f a))
+unfolding contract
+made-app (abs x e) a c = taken-app x e a c
+made-app (var n) a c = tt
+made-app (leaf k) a c = tt
+made-app (one k e) a c = tt
+made-app (two k e b) a c = tt
+made-app (both k x y e b) a c = tt
+made-app (branch x y e l r) a c = tt
+
+made-let : (x y : Name) (p e : Term) → Counted (both letPair x y p e) → Made (Taken (both letPair x y p e)) (contract (both letPair x y p e))
+unfolding contract
+made-let x y (two pair a b) e c = taken-let x y a b e c
+made-let x y (two app a b) e c = tt
+made-let x y (two discard a b) e c = tt
+made-let x y (var n) e c = tt
+made-let x y (leaf k) e c = tt
+made-let x y (one k d) e c = tt
+made-let x y (abs n d) e c = tt
+made-let x y (both k n m d b) e c = tt
+made-let x y (branch n m d l r) e c = tt
+
+made-derelict : (e : Term) → Counted (one derelict e) → Made (Taken (one derelict e)) (contract (one derelict e))
+unfolding contract
+made-derelict (one promote v) c = taken-derelict v c
+made-derelict (one inl v) c = tt
+made-derelict (one inr v) c = tt
+made-derelict (one fst v) c = tt
+made-derelict (one snd v) c = tt
+made-derelict (one abort v) c = tt
+made-derelict (one derelict v) c = tt
+made-derelict (var n) c = tt
+made-derelict (leaf k) c = tt
+made-derelict (two k a b) c = tt
+made-derelict (abs x e) c = tt
+made-derelict (both k x y e b) c = tt
+made-derelict (branch x y e l r) c = tt
+
+made-two : (k : Two) (a b : Term) → Counted (two k a b) → Made (Taken (two k a b)) (contract (two k a b))
+unfolding contract plain
+made-two app a b c = made-app a b c
+made-two pair a b c = tt
+made-two discard a b c = never (c .plain)
+
+-- What a part loses, the whole loses.
+within : (f : Term → Term) (e : Term) {r : Rule} {h : Option Term} (u : Term) → Taken e r h u
+    → ((w : Weight) → weigh w (f e) + weigh w u ≡ weigh w (f u) + weigh w e)
+    → ((w : Weight) → weigh w e ≤ weigh w (f e))
+    → ((z : Name) → occurrences z u ≡ occurrences z e → occurrences z (f u) ≡ occurrences z (f e))
+    → plain (f u) ≡ true
+    → Taken (f e) r h (f u)
+within f e u m d l o p =
+    record {
+      names = m .names;
+      rule = m .rule;
+      weighs = λ w. omega (arith, m .weighs w, d w);
+      halfway = λ w. omega (arith, m .halfway w, l w);
+      frees = λ z. o z (m .frees z);
+      plain = p;
+    }
+
+in-one : (k : One) (e : Term) (r : Rule) (h : Option Term) (u : Term) → Counted (one k e) → Taken e r h u → Taken (one k e) r h (one k u)
+unfolding weigh occurrences plain
+in-one k e r h u c m =
+    within (one k) e u m (λ w. omega arith) (λ w. omega arith) (λ z q. q) (and-both (and-left (plainOne k) (plain e) (c .plain)) (m .plain))
+
+in-left : (k : Two) (a b : Term) (r : Rule) (h : Option Term) (u : Term) → Counted (two k a b) → Taken a r h u → Taken (two k a b) r h (two k u b)
+unfolding weigh occurrences plain
+in-left k a b r h u c m =
+    within (λ p. two k p b) a u m (λ w. omega arith) (λ w. omega arith) (λ z q. rw q)
+    (and-both (and-left (plainTwo k) (plain a && plain b) (c .plain)) (and-both (m .plain) ((part-right c) .plain)))
+
+in-right : (k : Two) (a b : Term) (r : Rule) (h : Option Term) (u : Term) → Counted (two k a b) → Taken b r h u → Taken (two k a b) r h (two k a u)
+unfolding weigh occurrences plain
+in-right k a b r h u c m =
+    within (two k a) b u m (λ w. omega arith) (λ w. omega arith) (λ z q. rw q)
+    (and-both (and-left (plainTwo k) (plain a && plain b) (c .plain)) (and-both ((part-left c) .plain) (m .plain)))
+
+in-abs : (x : Name) (e : Term) (r : Rule) (h : Option Term) (u : Term) → Taken e r h u → Taken (abs x e) r h (abs x u)
+unfolding weigh occurrences plain
+in-abs x e r h u m = within (abs x) e u m (λ w. omega arith) (λ w. omega arith) (λ z q. rw q) (m .plain)
+
+in-first : (k : Both) (x y : Name) (e b : Term) (r : Rule) (h : Option Term) (u : Term) → Counted (both k x y e b) → Taken e r h u → Taken (both k x y e b) r h (both k x y u b)
+unfolding weigh occurrences plain
+in-first k x y e b r h u c m =
+    within (λ p. both k x y p b) e u m (λ w. omega arith) (λ w. omega arith) (λ z q. rw q)
+    (and-both (and-left (plainBoth k) (plain e && plain b) (c .plain)) (and-both (m .plain) ((part-second c) .plain)))
+
+in-second : (k : Both) (x y : Name) (e b : Term) (r : Rule) (h : Option Term) (u : Term) → Counted (both k x y e b) → Taken b r h u → Taken (both k x y e b) r h (both k x y e u)
+unfolding weigh occurrences plain
+in-second k x y e b r h u c m =
+    within (both k x y e) b u m (λ w. omega arith) (λ w. omega arith) (λ z q. rw q)
+    (and-both (and-left (plainBoth k) (plain e && plain b) (c .plain)) (and-both ((part-first c) .plain) (m .plain)))
+
+pub taken : (t : Term) → Counted t → Meets (Taken t) (step t)
+unfolding step plain
+taken (var x) c = tt
+taken (leaf k) c = tt
+taken (one abort e) c = tt
+taken (one inl e) c = meets-part (Taken e) (Taken (one inl e)) 1 (one inl) (step e) (λ r h u m. in-one inl e r h u c m) (taken e (part-one c))
+taken (one inr e) c = meets-part (Taken e) (Taken (one inr e)) 1 (one inr) (step e) (λ r h u m. in-one inr e r h u c m) (taken e (part-one c))
+taken (one promote e) c = meets-part (Taken e) (Taken (one promote e)) 1 (one promote) (step e) (λ r h u m. in-one promote e r h u c m) (taken e (part-one c))
+taken (one fst e) c = never (c .plain)
+taken (one snd e) c = never (c .plain)
+taken (one derelict e) c =
+    meets-here (Taken (one derelict e)) (contract (one derelict e)) (inPart 1 (one derelict) (step e)) (made-derelict e c)
+    (meets-part (Taken e) (Taken (one derelict e)) 1 (one derelict) (step e) (λ r h u m. in-one derelict e r h u c m) (taken e (part-one c)))
+taken (two k a b) c =
+    meets-here (Taken (two k a b)) (contract (two k a b)) (orElse (inPart 1 (λ p. two k p b) (step a)) (inPart (1 + size a) (two k a) (step b))) (made-two k a b c)
+    (meets-else (Taken (two k a b)) (inPart 1 (λ p. two k p b) (step a)) (inPart (1 + size a) (two k a) (step b))
+    (meets-part (Taken a) (Taken (two k a b)) 1 (λ p. two k p b) (step a) (λ r h u m. in-left k a b r h u c m) (taken a (part-left c)))
+    (meets-part (Taken b) (Taken (two k a b)) (1 + size a) (two k a) (step b) (λ r h u m. in-right k a b r h u c m) (taken b (part-right c))))
+taken (abs x e) c = meets-part (Taken e) (Taken (abs x e)) (1 + nameBytes x) (abs x) (step e) (λ r h u m. in-abs x e r h u m) (taken e (part-abs c))
+taken (both letPair x y e b) c =
+    let o : ℕ = 1 + nameBytes x + nameBytes y in
+    meets-here (Taken (both letPair x y e b)) (contract (both letPair x y e b))
+    (orElse (inPart o (λ p. both letPair x y p b) (step e)) (inPart (o + size e) (both letPair x y e) (step b)))
+    (made-let x y e b c)
+    (meets-else (Taken (both letPair x y e b)) (inPart o (λ p. both letPair x y p b) (step e)) (inPart (o + size e) (both letPair x y e) (step b))
+    (meets-part (Taken e) (Taken (both letPair x y e b)) o (λ p. both letPair x y p b) (step e) (λ r h u m. in-first letPair x y e b r h u c m) (taken e (part-first c)))
+    (meets-part (Taken b) (Taken (both letPair x y e b)) (o + size e) (both letPair x y e) (step b) (λ r h u m. in-second letPair x y e b r h u c m) (taken b (part-second c))))
+taken (both copy x y e b) c = never (c .plain)
+taken (branch x y e l r) c = never (c .plain)
