@@ -1,4 +1,5 @@
 pub mod Straight
+pub mod Promise
 pub mod Names
 pub mod Weights
 pub mod Frees
@@ -6,3 +7,4 @@ pub mod Counted
 pub mod Same
 pub mod Contraction
 pub mod OneStep
+pub mod Reducing

@@ -1,11 +1,11 @@
 -- Names as tests see them: two that are the same are equal. By induction on their bytes.
 use Prim.Native.Nat.{ℕ}
-use mathlib.Core.Path.{_≡_, refl, ap, sym, _∙_}
+use mathlib.Core.Path.{_≡_, refl}
 use mathlib.Core.Bool.{Bool, true, false, _&&_}
 use mathlib.Core.List.{List, [], _∷_}
 use native.Mathlib.Omega.{arith}
-use lib.Dec.{eqb, eqb→eq, eqb-refl}
-use Rattle.rules.specs.Basic.{if_then_else_}
+use lib.Dec.{eqb}
+use borrow.Author.Tests.{eqb-true, eq-eqb}
 use Rattle.rules.specs.Name.{Name, same}
 
 pub and-left : (a b : Bool) → (a && b) ≡ true → a ≡ true
@@ -19,9 +19,6 @@ and-right false b h = absurd (let z : _≡_ {A = ℕ} 0 1 = cc in omega arith)
 pub and-both : {a b : Bool} → a ≡ true → b ≡ true → (a && b) ≡ true
 and-both p q = rw (p, q)
 
-pub eqb-true : (a b : ℕ) → eqb a b ≡ true → a ≡ b
-eqb-true a b h = eqb→eq a b (rw h tt)
-
 pub same-true : (x y : Name) → same x y ≡ true → x ≡ y
 same-true [] [] h = refl
 same-true [] (b ∷ y) h = absurd (let z : _≡_ {A = ℕ} 0 1 = cc in omega arith)
@@ -31,9 +28,6 @@ same-true (a ∷ x) (b ∷ y) h =
     let q : x ≡ y = same-true x y (and-right (eqb a b) (same x y) h) in
     cc
 
-T-true : (b : Bool) → lib.Dec.T b → b ≡ true
-T-true true h = refl
-
 pub same-refl : (x : Name) → same x x ≡ true
 same-refl [] = refl
-same-refl (a ∷ x) = rw (T-true (eqb a a) (eqb-refl a)) (same-refl x)
+same-refl (a ∷ x) = rw (eq-eqb a a refl) (same-refl x)

@@ -1,22 +1,28 @@
 -- One step of a straight term takes out what `Taken` says, and leaves a straight term.
 -- By induction on the term, the parts being tried as `step` tries them; what a part loses, the whole loses.
-use Prim.Native.Nat.{ℕ, zero, suc, _+_, _*_, _≤_}
-use mathlib.Core.Path.{_≡_, refl, ap, sym, _∙_}
-use mathlib.Core.Bool.{Bool, true, false, _&&_, _||_}
+use Prim.Native.Nat.{ℕ, _+_, _≤_, _<_}
+use mathlib.Core.Path.{_≡_, refl, _∙_}
+use mathlib.Core.Bool.{true, false, _&&_}
+use mathlib.Core.List.{List, [], _∷_}
 use mathlib.Core.Option.{Option, none, some}
 use native.Mathlib.Omega.{arith}
-use Rattle.rules.specs.Basic.{if_then_else_}
-use Rattle.rules.specs.Name.{Name, same}
-use Rattle.rules.specs.Term.{Term, var, leaf, one, two, abs, both, branch, One, inl, inr, fst, snd, abort, promote, derelict, Two, pair, app, discard, Both, letPair, copy, size}
+use lib.Dec.{leb}
+use lib.ListN.{length}
+use borrow.Author.Tests.{leb-true, le-leb}
+use Rattle.rules.specs.Limits.{Limits}
+use Rattle.rules.specs.Name.{Name}
+use Rattle.rules.specs.Term.{Term, var, leaf, one, two, abs, both, branch, One, inl, inr, fst, snd, abort, promote, derelict, Two, pair, app, discard, Both, letPair, copy, nodes, size, fits}
 use Rattle.rules.specs.Free.{occurrences}
-use Rattle.rules.specs.Substitution.{subst}
 use Rattle.rules.specs.declared.Rule.{Rule}
-use Rattle.rules.specs.Step.{Contraction, no, by, contract, Stepped, normal, found, here, orElse, inPart, nameBytes, step}
-use Rattle.straight.specs.Straight.{plain, plainOne, plainTwo, plainBoth}
+use Rattle.rules.specs.declared.Rule.the-variants.{App, Let, Case, Fst, Snd, Derelict, Copy, Discard}
+use Rattle.rules.specs.Step.{Contraction, no, by, contract, Stepped, normal, found, here, orElse, inPart, nameBytes, step, halfFits, stepFits}
+use Rattle.straight.specs.Straight.{plain, plainOne, plainTwo, plainBoth, Straight}
+use Rattle.straight.specs.Promise.{Loses, StraightStep}
 use Rattle.straight.specs.Names.{and-left, and-right, and-both}
-use Rattle.straight.specs.Weights.{Weight, weigh}
-use Rattle.straight.specs.Counted.{Bound, Counted, part-one, part-left, part-right, part-abs, part-first, part-second}
-use Rattle.straight.specs.Contraction.{Taken, taken-app, taken-let, taken-derelict}
+use Rattle.straight.specs.Weights.{Weight, weigh, nodesOf, bytesOf, usesOf, standsOf, nodes-weigh, bytes-weigh}
+use Rattle.straight.specs.Counted.{Counted, part-one, part-left, part-right, part-abs, part-first, part-second}
+use Rattle.straight.specs.Same.{counted, straight}
+use Rattle.straight.specs.Contraction.{Takes, gone, weighHalf, Taken, taken-app, taken-let, taken-derelict}
 
 -- what is said of a contraction, or of a step, if there is one
 abbrev Made : (Rule → Option Term → Term → Type 0) → Contraction → Type 0
@@ -167,3 +173,75 @@ taken (both letPair x y e b) c =
     (meets-part (Taken b) (Taken (both letPair x y e b)) (o + size e) (both letPair x y e) (step b) (λ r h u m. in-second letPair x y e b r h u c m) (taken b (part-second c))))
 taken (both copy x y e b) c = never (c .plain)
 taken (branch x y e l r) c = never (c .plain)
+
+-- The names that go take as many binders as uses, and a node each.
+gone-alike : (z : Name) (xs : List Name) → gone (standsOf z) xs ≡ gone (usesOf z) xs
+gone-alike z [] = refl
+gone-alike z (x ∷ xs) = omega (arith, gone-alike z xs)
+
+gone-nodes : (xs : List Name) → gone nodesOf xs ≡ length xs
+gone-nodes [] = refl
+gone-nodes (x ∷ xs) = omega (arith, gone-nodes xs)
+
+pub kept : (t : Term) (r : Rule) (h : Option Term) (u : Term) → Counted t → Taken t r h u → Counted u
+kept t r h u c m =
+    record {
+      plain = m .plain;
+      bound = λ z k.
+          let s = m .weighs (standsOf z) in
+          let p = m .weighs (usesOf z) in
+          let a = gone-alike z (m .names) in
+          let w = c .bound z (omega arith) in
+          record { placed = omega arith; used = omega arith; hidden = m .frees z ∙ w .hidden };
+    }
+
+pub taken-nodes : (t : Term) (r : Rule) (h : Option Term) (u : Term) → (m : Taken t r h u) → nodes t ≡ nodes u + (2 + length (m .names))
+taken-nodes t r h u m = omega (arith, m .weighs nodesOf, nodes-weigh t, nodes-weigh u, gone-nodes (m .names))
+
+loses : (r : Rule) (xs : List Name) (n m : ℕ) → Takes r xs → n ≡ m + (2 + length xs) → Loses r n m
+loses App xs n m h k = omega arith
+loses Let xs n m h k = omega arith
+loses Derelict xs n m h k = omega arith
+loses Case xs n m h k = h
+loses Fst xs n m h k = h
+loses Snd xs n m h k = h
+loses Copy xs n m h k = h
+loses Discard xs n m h k = h
+
+-- a term that is no larger fits too
+fits-less : (L : Limits) (t u : Term) → nodes u ≤ nodes t → size u ≤ size t → fits L t ≡ true → fits L u ≡ true
+unfolding fits
+fits-less L t u p q h =
+    let a = leb-true (nodes t) (L .nodes) (and-left (leb (nodes t) (L .nodes)) (leb (size t) (L .bytes)) h) in
+    let b = leb-true (size t) (L .bytes) (and-right (leb (nodes t) (L .nodes)) (leb (size t) (L .bytes)) h) in
+    and-both (le-leb (nodes u) (L .nodes) (omega arith)) (le-leb (size u) (L .bytes) (omega arith))
+
+half-fits : (L : Limits) (t : Term) (h : Option Term) → ((w : Weight) → weighHalf w h ≤ weigh w t) → fits L t ≡ true → halfFits L h ≡ true
+half-fits L t none k f = refl
+half-fits L t (some h) k f = fits-less L t h (omega (arith, k nodesOf, nodes-weigh t, nodes-weigh h)) (omega (arith, k bytesOf, bytes-weigh t, bytes-weigh h)) f
+
+pub taken-bytes : (t : Term) (r : Rule) (h : Option Term) (u : Term) → Taken t r h u → size u < size t
+taken-bytes t r h u m = omega (arith, m .weighs bytesOf, bytes-weigh t, bytes-weigh u)
+
+pub taken-fits : (L : Limits) (t : Term) (r : Rule) (h : Option Term) (u : Term) → Taken t r h u → fits L t ≡ true → stepFits L h u ≡ true
+taken-fits L t r h u m f =
+    and-both (half-fits L t h (m .halfway) f) (fits-less L t u (omega (arith, taken-nodes t r h u m)) (omega (arith, taken-bytes t r h u m)) f)
+
+-- ONE STEP OF A STRAIGHT TERM
+meets-map : (P Q : Rule → Option Term → Term → Type 0) (s : Stepped) → ((r : Rule) (h : Option Term) (u : Term) → P r h u → Q r h u) → Meets P s → Meets Q s
+meets-map P Q normal f h = tt
+meets-map P Q (found r p h u) f m = f r h u m
+
+pub one-step : (t : Term) → Straight t → Meets (StraightStep t) (step t)
+one-step t s =
+    let c = counted t s in
+    meets-map (Taken t) (StraightStep t) (step t)
+    (λ r h u m.
+    record {
+      straight = straight u (kept t r h u c m);
+      unbound = m .frees;
+      nodes = loses r (m .names) (nodes t) (nodes u) (m .rule) (taken-nodes t r h u m);
+      bytes = taken-bytes t r h u m;
+      fits = λ L. taken-fits L t r h u m;
+    })
+    (taken t c)
