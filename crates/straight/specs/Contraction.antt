@@ -1,26 +1,24 @@
 -- What a step takes out of a straight term: two nodes, and for each name of the contracted node its binder and its variable.
 -- Here the three contractions that a straight term can make; a substitution for a name that is free once moves what goes in to its place.
-use Prim.Native.Nat.{ℕ, zero, suc, _+_, _*_, _≤_}
-use mathlib.Core.Path.{_≡_, refl, ap, sym, _∙_}
+use Prim.Native.Nat.{ℕ, _+_, _*_, _≤_}
+use mathlib.Core.Path.{_≡_, refl, ap₂}
 use mathlib.Core.Bool.{Bool, true, false, _&&_, _||_}
 use mathlib.Core.List.{List, [], _∷_}
 use mathlib.Core.Option.{Option, none, some}
 use native.Mathlib.Omega.{arith}
-use native.Mathlib.Nat.{one-mul}
 use lib.ListN.{length}
 use Rattle.rules.specs.Basic.{if_then_else_}
 use Rattle.rules.specs.Name.{Name, same}
-use Rattle.rules.specs.Term.{Term, var, leaf, one, two, abs, both, branch, One, inl, inr, fst, snd, abort, promote, derelict, Two, pair, app, discard, Both, letPair, copy}
+use Rattle.rules.specs.Term.{Term, var, leaf, one, two, abs, both, branch, promote, derelict, pair, app, letPair}
 use Rattle.rules.specs.Free.{occurrences}
 use Rattle.rules.specs.Substitution.{subst}
 use Rattle.rules.specs.declared.Rule.{Rule}
 use Rattle.rules.specs.declared.Rule.the-variants.{App, Let, Case, Fst, Snd, Derelict, Copy, Discard}
-use Rattle.rules.specs.Step.{Contraction, no, by, contract, applied, ofPair, ofOne, ofPromote, inTurn}
 use Rattle.straight.specs.Straight.{plain, plainOne, plainTwo, plainBoth}
-use Rattle.straight.specs.Names.{and-left, and-right, and-both, same-true, same-refl}
-use Rattle.straight.specs.Weights.{Weight, weigh, just, usesOf, standsOf, weigh-subst}
-use Rattle.straight.specs.Frees.{flag, shown, shown-all, free-all, NoCatch, frees-subst}
-use Rattle.straight.specs.Counted.{Bound, Counted, part-one, part-left, part-right, part-abs, part-first, part-second, just-self, own-abs, own-first, own-second}
+use Rattle.laws.specs.Same.{both-true, same-equal}
+use Rattle.straight.specs.Weights.{Weight, weigh, standsOf, weigh-subst}
+use Rattle.straight.specs.FreeAfter.{flag, shown, shown-all, free-all, NoCatch, frees-subst}
+use Rattle.straight.specs.Counted.{Counted, part-one, part-left, part-right, part-abs, part-first, part-second, just-self, own-abs, own-first, own-second}
 
 -- A rule of a straight term has so many names; the five others do not occur.
 abbrev pub Takes : Rule → List Name → Type 0
@@ -55,15 +53,15 @@ pub record Put (x : Name) (v e : Term) : Type 0 where
   pub weighs : (w : Weight) → weigh w (subst x v e) + w .variable x ≡ weigh w e + weigh w v
   pub frees : (z : Name) → occurrences z (subst x v e) ≡ shown (same z x) (occurrences z e) + occurrences z v
 
-put-frees : (x z : Name) (b : Bool) (n m p q k : ℕ) → same z x ≡ b → (z ≡ x → m ≡ 1) → k ≡ 1 → n + k * flag b ≡ m + k * q → n ≡ shown b m + q
-put-frees x z true n m p q k e f g h = let o : m ≡ 1 = f (same-true z x e) in let i : n + 1 * 1 ≡ m + 1 * q = rw g at h in omega arith
-put-frees x z false n m p q k e f g h = let i : n + 1 * 0 ≡ m + 1 * q = rw g at h in omega arith
+put-frees : (x z : Name) (b : Bool) (n m q k : ℕ) → same z x ≡ b → (z ≡ x → m ≡ 1) → k ≡ 1 → n + k * flag b ≡ m + k * q → n ≡ shown b m + q
+put-frees x z true n m q k e f g h = let o : m ≡ 1 = f (same-equal z x e) in let i : n + 1 * 1 ≡ m + 1 * q = rw g at h in omega arith
+put-frees x z false n m q k e f g h = let i : n + 1 * 0 ≡ m + 1 * q = rw g at h in omega arith
 
 pub put : (x : Name) (v e : Term) → occurrences x e ≡ 1 → NoCatch v e → Put x v e
 put x v e h c =
     record {
       weighs = λ w. let k = rw h at (weigh-subst w x v e) in omega (arith, k);
-      frees = λ z. put-frees x z (same z x) (occurrences z (subst x v e)) (occurrences z e) 0 (occurrences z v) (occurrences x e) refl (λ p. rw p h) h (frees-subst x v z e c);
+      frees = λ z. put-frees x z (same z x) (occurrences z (subst x v e)) (occurrences z e) (occurrences z v) (occurrences x e) refl (λ p. rw p h) h (frees-subst x v z e c);
     }
 
 -- nothing but what was there, or goes in
@@ -75,16 +73,16 @@ pub plain-subst : (x : Name) (v e : Term) → plain v ≡ true → plain e ≡ t
 unfolding plain subst
 plain-subst x v (var y) p q = plain-if (same x y) v (var y) p refl
 plain-subst x v (leaf k) p q = refl
-plain-subst x v (one k e) p q = and-both (and-left (plainOne k) (plain e) q) (plain-subst x v e p (and-right (plainOne k) (plain e) q))
+plain-subst x v (one k e) p q = ap₂ _&&_ (both-true (plainOne k) (plain e) q .0) (plain-subst x v e p (both-true (plainOne k) (plain e) q .1))
 plain-subst x v (two k a b) p q =
-    let r = and-right (plainTwo k) (plain a && plain b) q in
-    and-both (and-left (plainTwo k) (plain a && plain b) q) (and-both (plain-subst x v a p (and-left (plain a) (plain b) r)) (plain-subst x v b p (and-right (plain a) (plain b) r)))
+    let r = both-true (plainTwo k) (plain a && plain b) q .1 in
+    ap₂ _&&_ (both-true (plainTwo k) (plain a && plain b) q .0) (ap₂ _&&_ (plain-subst x v a p (both-true (plain a) (plain b) r .0)) (plain-subst x v b p (both-true (plain a) (plain b) r .1)))
 plain-subst x v (abs y e) p q = plain-if (same x y) e (subst x v e) q (plain-subst x v e p q)
 plain-subst x v (both k y z e b) p q =
-    let r = and-right (plainBoth k) (plain e && plain b) q in
-    let i = and-right (plain e) (plain b) r in
-    and-both (and-left (plainBoth k) (plain e && plain b) q)
-    (and-both (plain-subst x v e p (and-left (plain e) (plain b) r)) (plain-if (same x y || same x z) b (subst x v b) i (plain-subst x v b p i)))
+    let r = both-true (plainBoth k) (plain e && plain b) q .1 in
+    let i = both-true (plain e) (plain b) r .1 in
+    ap₂ _&&_ (both-true (plainBoth k) (plain e && plain b) q .0)
+    (ap₂ _&&_ (plain-subst x v e p (both-true (plain e) (plain b) r .0)) (plain-if (same x y || same x z) b (subst x v b) i (plain-subst x v b p i)))
 plain-subst x v (branch y z e l r) p q = q
 
 -- App of Abs
@@ -132,7 +130,7 @@ taken-let x y a b e c =
       halfway = λ w. omega (arith, m .weighs w);
       frees = λ z.
           let-frees (same z x) (same z y) (occurrences z (subst y b (subst x a e))) (occurrences z (subst x a e)) (occurrences z e) (occurrences z a) (occurrences z b)
-          (m′ .frees z) (m .frees z) (λ q. rw (same-true z y q) ya);
+          (m′ .frees z) (m .frees z) (λ q. rw (same-equal z y q) ya);
       plain = plain-subst y b (subst x a e) ((part-right (part-first c)) .plain) (plain-subst x a e ((part-left (part-first c)) .plain) ((part-second c) .plain));
     }
 

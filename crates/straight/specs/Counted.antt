@@ -1,18 +1,16 @@
 -- Straight, said by counts alone: a name at a binder stands at one, is used once, and is not free.
 -- The two say the same; and a part of a straight term is straight.
-use Prim.Native.Nat.{ℕ, zero, suc, _+_, _≤_}
-use mathlib.Core.Path.{_≡_, refl, ap, sym, _∙_}
-use mathlib.Core.Bool.{Bool, true, false, _&&_, _||_}
-use mathlib.Core.List.{List, [], _∷_, _++_, map}
+use Prim.Native.Nat.{_≤_}
+use mathlib.Core.Path.{_≡_}
+use mathlib.Core.Bool.{true, _&&_, _||_}
 use native.Mathlib.Omega.{arith}
-use Rattle.rules.specs.Basic.{if_then_else_, _‥_}
 use Rattle.rules.specs.Name.{Name, same}
-use Rattle.rules.specs.Term.{Term, var, leaf, one, two, abs, both, branch, One, Two, Both}
+use Rattle.rules.specs.Term.{Term, one, two, abs, both, One, Two, Both}
 use Rattle.rules.specs.Free.{occurrences}
-use Rattle.straight.specs.Straight.{Binder, binders, count, stands, uses, plain, plainOne, plainTwo, plainBoth, Each, Once, Straight}
-use Rattle.straight.specs.Names.{and-left, and-right, same-true, same-refl}
-use Rattle.straight.specs.Weights.{weigh, just, usesOf, standsOf, uses-weigh, stands-weigh}
-use Rattle.straight.specs.Frees.{shown, shown-most, shown-all, flag-or, free-most, free-all}
+use Rattle.straight.specs.Straight.{plain, plainOne, plainTwo, plainBoth}
+use Rattle.laws.specs.Same.{both-true, same-itself}
+use Rattle.straight.specs.Weights.{weigh, just, usesOf, standsOf}
+use Rattle.straight.specs.FreeAfter.{shown-all, flag-or, free-all}
 
 pub record Bound (z : Name) (t : Term) : Type 0 where
   pub placed : weigh (standsOf z) t ≡ 1
@@ -28,7 +26,7 @@ pub part-one : {k : One} {e : Term} → Counted (one k e) → Counted e
 unfolding weigh occurrences plain
 part-one {k} {e} c =
     record {
-      plain = and-right (plainOne k) (plain e) (c .plain);
+      plain = both-true (plainOne k) (plain e) (c .plain) .1;
       bound = λ z h. let b = c .bound z (omega arith) in record { placed = omega arith; used = omega arith; hidden = omega arith };
     }
 
@@ -48,7 +46,7 @@ pub part-left : {k : Two} {a b : Term} → Counted (two k a b) → Counted a
 unfolding weigh plain
 part-left {k} {a} {b} c =
     record {
-      plain = and-left (plain a) (plain b) (and-right (plainTwo k) (plain a && plain b) (c .plain));
+      plain = both-true (plain a) (plain b) (both-true (plainTwo k) (plain a && plain b) (c .plain) .1) .0;
       bound = λ z h. bound-left z k a b (c .bound z (omega arith)) h;
     }
 
@@ -56,7 +54,7 @@ pub part-right : {k : Two} {a b : Term} → Counted (two k a b) → Counted b
 unfolding weigh plain
 part-right {k} {a} {b} c =
     record {
-      plain = and-right (plain a) (plain b) (and-right (plainTwo k) (plain a && plain b) (c .plain));
+      plain = both-true (plain a) (plain b) (both-true (plainTwo k) (plain a && plain b) (c .plain) .1) .1;
       bound = λ z h. bound-right z k a b (c .bound z (omega arith)) h;
     }
 
@@ -88,7 +86,7 @@ pub part-first : {k : Both} {x y : Name} {e b : Term} → Counted (both k x y e 
 unfolding weigh plain
 part-first {k} {x} {y} {e} {b} c =
     record {
-      plain = and-left (plain e) (plain b) (and-right (plainBoth k) (plain e && plain b) (c .plain));
+      plain = both-true (plain e) (plain b) (both-true (plainBoth k) (plain e && plain b) (c .plain) .1) .0;
       bound = λ z h. bound-first z k x y e b (c .bound z (omega arith)) h;
     }
 
@@ -96,13 +94,13 @@ pub part-second : {k : Both} {x y : Name} {e b : Term} → Counted (both k x y e
 unfolding weigh plain
 part-second {k} {x} {y} {e} {b} c =
     record {
-      plain = and-right (plain e) (plain b) (and-right (plainBoth k) (plain e && plain b) (c .plain));
+      plain = both-true (plain e) (plain b) (both-true (plainBoth k) (plain e && plain b) (c .plain) .1) .1;
       bound = λ z h. bound-second z k x y e b (c .bound z (omega arith)) h;
     }
 
 -- The names at a binder are used in what it covers.
 pub just-self : (x : Name) → just x x ≡ 1
-just-self x = rw (same-refl x)
+just-self x = rw (same-itself x)
 
 pub own-abs : (x : Name) (e : Term) → Counted (abs x e) → weigh (usesOf x) e ≡ 1
 unfolding weigh

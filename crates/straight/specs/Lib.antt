@@ -1,10 +1,9 @@
 pub mod Straight
 pub mod Promise
-pub mod Names
 pub mod Weights
-pub mod Frees
+pub mod FreeAfter
 pub mod Counted
-pub mod Same
+pub mod Agree
 pub mod Contraction
 pub mod OneStep
 pub mod Reducing

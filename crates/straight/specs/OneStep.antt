@@ -1,8 +1,8 @@
 -- One step of a straight term takes out what `Taken` says, and leaves a straight term.
 -- By induction on the term, the parts being tried as `step` tries them; what a part loses, the whole loses.
 use Prim.Native.Nat.{ℕ, _+_, _≤_, _<_}
-use mathlib.Core.Path.{_≡_, refl, _∙_}
-use mathlib.Core.Bool.{true, false, _&&_}
+use mathlib.Core.Path.{_≡_, refl, _∙_, ap₂}
+use mathlib.Core.Bool.{true, false≢true, _&&_}
 use mathlib.Core.List.{List, [], _∷_}
 use mathlib.Core.Option.{Option, none, some}
 use native.Mathlib.Omega.{arith}
@@ -18,10 +18,10 @@ use Rattle.rules.specs.declared.Rule.the-variants.{App, Let, Case, Fst, Snd, De
 use Rattle.rules.specs.Step.{Contraction, no, by, contract, Stepped, normal, found, here, orElse, inPart, nameBytes, step, halfFits, stepFits}
 use Rattle.straight.specs.Straight.{plain, plainOne, plainTwo, plainBoth, Straight}
 use Rattle.straight.specs.Promise.{Loses, StraightStep}
-use Rattle.straight.specs.Names.{and-left, and-right, and-both}
+use Rattle.laws.specs.Same.{both-true}
 use Rattle.straight.specs.Weights.{Weight, weigh, nodesOf, bytesOf, usesOf, standsOf, nodes-weigh, bytes-weigh}
 use Rattle.straight.specs.Counted.{Counted, part-one, part-left, part-right, part-abs, part-first, part-second}
-use Rattle.straight.specs.Same.{counted, straight}
+use Rattle.straight.specs.Agree.{counted, straight}
 use Rattle.straight.specs.Contraction.{Takes, gone, weighHalf, Taken, taken-app, taken-let, taken-derelict}
 
 -- what is said of a contraction, or of a step, if there is one
@@ -47,9 +47,6 @@ meets-part P Q o f normal k h = tt
 meets-part P Q o f (found r p m u) k h = k r m u h
 
 -- The node itself.
-never : {A : Type 0} → false ≡ true → A
-never h = absurd (let z : _≡_ {A = ℕ} 0 1 = cc in omega arith)
-
 made-app : (f a : Term) → Counted (two app f a) → Made (Taken (two app f a)) (contract (two app f a))
 unfolding contract
 made-app (abs x e) a c = taken-app x e a c
@@ -92,7 +89,7 @@ made-two : (k : Two) (a b : Term) → Counted (two k a b) → Made (Taken (two k
 unfolding contract plain
 made-two app a b c = made-app a b c
 made-two pair a b c = tt
-made-two discard a b c = never (c .plain)
+made-two discard a b c = absurd (false≢true (c .plain))
 
 -- What a part loses, the whole loses.
 within : (f : Term → Term) (e : Term) {r : Rule} {h : Option Term} (u : Term) → Taken e r h u
@@ -114,19 +111,19 @@ within f e u m d l o p =
 in-one : (k : One) (e : Term) (r : Rule) (h : Option Term) (u : Term) → Counted (one k e) → Taken e r h u → Taken (one k e) r h (one k u)
 unfolding weigh occurrences plain
 in-one k e r h u c m =
-    within (one k) e u m (λ w. omega arith) (λ w. omega arith) (λ z q. q) (and-both (and-left (plainOne k) (plain e) (c .plain)) (m .plain))
+    within (one k) e u m (λ w. omega arith) (λ w. omega arith) (λ z q. q) (ap₂ _&&_ (both-true (plainOne k) (plain e) (c .plain) .0) (m .plain))
 
 in-left : (k : Two) (a b : Term) (r : Rule) (h : Option Term) (u : Term) → Counted (two k a b) → Taken a r h u → Taken (two k a b) r h (two k u b)
 unfolding weigh occurrences plain
 in-left k a b r h u c m =
     within (λ p. two k p b) a u m (λ w. omega arith) (λ w. omega arith) (λ z q. rw q)
-    (and-both (and-left (plainTwo k) (plain a && plain b) (c .plain)) (and-both (m .plain) ((part-right c) .plain)))
+    (ap₂ _&&_ (both-true (plainTwo k) (plain a && plain b) (c .plain) .0) (ap₂ _&&_ (m .plain) ((part-right c) .plain)))
 
 in-right : (k : Two) (a b : Term) (r : Rule) (h : Option Term) (u : Term) → Counted (two k a b) → Taken b r h u → Taken (two k a b) r h (two k a u)
 unfolding weigh occurrences plain
 in-right k a b r h u c m =
     within (two k a) b u m (λ w. omega arith) (λ w. omega arith) (λ z q. rw q)
-    (and-both (and-left (plainTwo k) (plain a && plain b) (c .plain)) (and-both ((part-left c) .plain) (m .plain)))
+    (ap₂ _&&_ (both-true (plainTwo k) (plain a && plain b) (c .plain) .0) (ap₂ _&&_ ((part-left c) .plain) (m .plain)))
 
 in-abs : (x : Name) (e : Term) (r : Rule) (h : Option Term) (u : Term) → Taken e r h u → Taken (abs x e) r h (abs x u)
 unfolding weigh occurrences plain
@@ -136,13 +133,13 @@ in-first : (k : Both) (x y : Name) (e b : Term) (r : Rule) (h : Option Term) (u 
 unfolding weigh occurrences plain
 in-first k x y e b r h u c m =
     within (λ p. both k x y p b) e u m (λ w. omega arith) (λ w. omega arith) (λ z q. rw q)
-    (and-both (and-left (plainBoth k) (plain e && plain b) (c .plain)) (and-both (m .plain) ((part-second c) .plain)))
+    (ap₂ _&&_ (both-true (plainBoth k) (plain e && plain b) (c .plain) .0) (ap₂ _&&_ (m .plain) ((part-second c) .plain)))
 
 in-second : (k : Both) (x y : Name) (e b : Term) (r : Rule) (h : Option Term) (u : Term) → Counted (both k x y e b) → Taken b r h u → Taken (both k x y e b) r h (both k x y e u)
 unfolding weigh occurrences plain
 in-second k x y e b r h u c m =
     within (both k x y e) b u m (λ w. omega arith) (λ w. omega arith) (λ z q. rw q)
-    (and-both (and-left (plainBoth k) (plain e && plain b) (c .plain)) (and-both ((part-first c) .plain) (m .plain)))
+    (ap₂ _&&_ (both-true (plainBoth k) (plain e && plain b) (c .plain) .0) (ap₂ _&&_ ((part-first c) .plain) (m .plain)))
 
 pub taken : (t : Term) → Counted t → Meets (Taken t) (step t)
 unfolding step plain
@@ -152,8 +149,8 @@ taken (one abort e) c = tt
 taken (one inl e) c = meets-part (Taken e) (Taken (one inl e)) 1 (one inl) (step e) (λ r h u m. in-one inl e r h u c m) (taken e (part-one c))
 taken (one inr e) c = meets-part (Taken e) (Taken (one inr e)) 1 (one inr) (step e) (λ r h u m. in-one inr e r h u c m) (taken e (part-one c))
 taken (one promote e) c = meets-part (Taken e) (Taken (one promote e)) 1 (one promote) (step e) (λ r h u m. in-one promote e r h u c m) (taken e (part-one c))
-taken (one fst e) c = never (c .plain)
-taken (one snd e) c = never (c .plain)
+taken (one fst e) c = absurd (false≢true (c .plain))
+taken (one snd e) c = absurd (false≢true (c .plain))
 taken (one derelict e) c =
     meets-here (Taken (one derelict e)) (contract (one derelict e)) (inPart 1 (one derelict) (step e)) (made-derelict e c)
     (meets-part (Taken e) (Taken (one derelict e)) 1 (one derelict) (step e) (λ r h u m. in-one derelict e r h u c m) (taken e (part-one c)))
@@ -171,8 +168,8 @@ taken (both letPair x y e b) c =
     (meets-else (Taken (both letPair x y e b)) (inPart o (λ p. both letPair x y p b) (step e)) (inPart (o + size e) (both letPair x y e) (step b))
     (meets-part (Taken e) (Taken (both letPair x y e b)) o (λ p. both letPair x y p b) (step e) (λ r h u m. in-first letPair x y e b r h u c m) (taken e (part-first c)))
     (meets-part (Taken b) (Taken (both letPair x y e b)) (o + size e) (both letPair x y e) (step b) (λ r h u m. in-second letPair x y e b r h u c m) (taken b (part-second c))))
-taken (both copy x y e b) c = never (c .plain)
-taken (branch x y e l r) c = never (c .plain)
+taken (both copy x y e b) c = absurd (false≢true (c .plain))
+taken (branch x y e l r) c = absurd (false≢true (c .plain))
 
 -- The names that go take as many binders as uses, and a node each.
 gone-alike : (z : Name) (xs : List Name) → gone (standsOf z) xs ≡ gone (usesOf z) xs
@@ -212,9 +209,9 @@ loses Discard xs n m h k = h
 fits-less : (L : Limits) (t u : Term) → nodes u ≤ nodes t → size u ≤ size t → fits L t ≡ true → fits L u ≡ true
 unfolding fits
 fits-less L t u p q h =
-    let a = leb-true (nodes t) (L .nodes) (and-left (leb (nodes t) (L .nodes)) (leb (size t) (L .bytes)) h) in
-    let b = leb-true (size t) (L .bytes) (and-right (leb (nodes t) (L .nodes)) (leb (size t) (L .bytes)) h) in
-    and-both (le-leb (nodes u) (L .nodes) (omega arith)) (le-leb (size u) (L .bytes) (omega arith))
+    let a = leb-true (nodes t) (L .nodes) (both-true (leb (nodes t) (L .nodes)) (leb (size t) (L .bytes)) h .0) in
+    let b = leb-true (size t) (L .bytes) (both-true (leb (nodes t) (L .nodes)) (leb (size t) (L .bytes)) h .1) in
+    ap₂ _&&_ (le-leb (nodes u) (L .nodes) (omega arith)) (le-leb (size u) (L .bytes) (omega arith))
 
 half-fits : (L : Limits) (t : Term) (h : Option Term) → ((w : Weight) → weighHalf w h ≤ weigh w t) → fits L t ≡ true → halfFits L h ≡ true
 half-fits L t none k f = refl
@@ -225,7 +222,7 @@ taken-bytes t r h u m = omega (arith, m .weighs bytesOf, bytes-weigh t, bytes-we
 
 pub taken-fits : (L : Limits) (t : Term) (r : Rule) (h : Option Term) (u : Term) → Taken t r h u → fits L t ≡ true → stepFits L h u ≡ true
 taken-fits L t r h u m f =
-    and-both (half-fits L t h (m .halfway) f) (fits-less L t u (omega (arith, taken-nodes t r h u m)) (omega (arith, taken-bytes t r h u m)) f)
+    ap₂ _&&_ (half-fits L t h (m .halfway) f) (fits-less L t u (omega (arith, taken-nodes t r h u m)) (omega (arith, taken-bytes t r h u m)) f)
 
 -- ONE STEP OF A STRAIGHT TERM
 meets-map : (P Q : Rule → Option Term → Term → Type 0) (s : Stepped) → ((r : Rule) (h : Option Term) (u : Term) → P r h u → Q r h u) → Meets P s → Meets Q s

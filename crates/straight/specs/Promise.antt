@@ -12,7 +12,7 @@ use Rattle.rules.specs.declared.Rule.{Rule}
 use Rattle.rules.specs.declared.Rule.the-variants.{App, Let, Case, Fst, Snd, Derelict, Copy, Discard}
 use Rattle.rules.specs.declared.Counts.{Counts}
 use Rattle.rules.specs.Step.{step, isNormal, stepFits}
-use Rattle.rules.specs.Reduction.{Reduced, stopped, reduce}
+use Rattle.rules.specs.Reduction.{stopped, reduce}
 use Rattle.straight.specs.Straight.{Straight}
 
 -- The nodes before and after a step: 3 fewer by an application, 4 by a pair, 2 by a derelict. The five other rules do not occur.

@@ -1,8 +1,8 @@
 -- Bounded reduction of a straight term: by induction on the step limit, each step losing two nodes at least.
 use Prim.Native.Nat.{ℕ, zero, suc, _+_, _*_, _≤_}
-use mathlib.Core.Path.{_≡_, refl, sym, ap, _∙_}
-use mathlib.Core.Bool.{Bool, true, false}
-use mathlib.Core.Option.{Option, none, some}
+use mathlib.Core.Path.{_≡_, refl, ap, _∙_}
+use mathlib.Core.Bool.{Bool, true}
+use mathlib.Core.Option.{Option}
 use native.Mathlib.Omega.{arith}
 use Rattle.rules.specs.Limits.{Limits}
 use Rattle.rules.specs.Name.{Name}
@@ -12,9 +12,9 @@ use Rattle.rules.specs.declared.Rule.{Rule}
 use Rattle.rules.specs.declared.Rule.the-variants.{App, Let, Case, Fst, Snd, Derelict, Copy, Discard}
 use Rattle.rules.specs.declared.Counts.{Counts}
 use Rattle.rules.specs.Step.{Stepped, normal, found, step, isNormal, halfFits, stepFits}
-use Rattle.rules.specs.Reduction.{noCounts, plus, Reduced, stopped, outgrew, reduceFrom, reduce}
+use Rattle.rules.specs.Reduction.{plus, Reduced, stopped, reduceFrom}
 use Rattle.straight.specs.Straight.{Straight}
-use Rattle.straight.specs.Names.{and-right}
+use Rattle.laws.specs.Same.{both-true}
 use Rattle.straight.specs.Promise.{Loses, StraightStep, only, StraightReduction}
 use Rattle.straight.specs.OneStep.{Meets, one-step}
 
@@ -128,15 +128,15 @@ module _ (L : Limits) where
   next limit go t w f n a l d c (found App p h u) e m =
       more L limit t u a l d (suc a) l d 3 (reduceFrom L (suc limit) n (only a l d) t) (reduceFrom L limit (suc n) (only (suc a) l d) u)
       (at-found L limit n (only a l d) t App p h u e (m .fits L f)) (m .unbound) (m .nodes) (omega arith) (omega arith)
-      (go u (m .straight) (and-right (halfFits L h) (fits L u) (m .fits L f)) (suc n) (suc a) l d (omega arith))
+      (go u (m .straight) (both-true (halfFits L h) (fits L u) (m .fits L f) .1) (suc n) (suc a) l d (omega arith))
   next limit go t w f n a l d c (found Let p h u) e m =
       more L limit t u a l d a (suc l) d 4 (reduceFrom L (suc limit) n (only a l d) t) (reduceFrom L limit (suc n) (only a (suc l) d) u)
       (at-found L limit n (only a l d) t Let p h u e (m .fits L f)) (m .unbound) (m .nodes) (omega arith) (omega arith)
-      (go u (m .straight) (and-right (halfFits L h) (fits L u) (m .fits L f)) (suc n) a (suc l) d (omega arith))
+      (go u (m .straight) (both-true (halfFits L h) (fits L u) (m .fits L f) .1) (suc n) a (suc l) d (omega arith))
   next limit go t w f n a l d c (found Derelict p h u) e m =
       more L limit t u a l d a l (suc d) 2 (reduceFrom L (suc limit) n (only a l d) t) (reduceFrom L limit (suc n) (only a l (suc d)) u)
       (at-found L limit n (only a l d) t Derelict p h u e (m .fits L f)) (m .unbound) (m .nodes) (omega arith) (omega arith)
-      (go u (m .straight) (and-right (halfFits L h) (fits L u) (m .fits L f)) (suc n) a l (suc d) (omega arith))
+      (go u (m .straight) (both-true (halfFits L h) (fits L u) (m .fits L f) .1) (suc n) a l (suc d) (omega arith))
   next limit go t w f n a l d c (found Case p h u) e m = absurd (m .nodes)
   next limit go t w f n a l d c (found Fst p h u) e m = absurd (m .nodes)
   next limit go t w f n a l d c (found Snd p h u) e m = absurd (m .nodes)

@@ -1,18 +1,18 @@
 -- What a term weighs, where each node, variable and name at a binder has a weight; and what it weighs after a substitution.
 -- Nodes, bytes, uses of a name and binders of a name are weights, so one law by induction on the term serves the four.
-use Prim.Native.Nat.{ℕ, zero, suc, _+_, _*_, _≤_}
-use mathlib.Core.Path.{_≡_, refl, ap, sym, _∙_}
+use Prim.Native.Nat.{ℕ, _+_, _*_}
+use mathlib.Core.Path.{_≡_, refl, ap}
 use mathlib.Core.Bool.{Bool, true, false, _||_}
 use mathlib.Core.List.{List, [], _∷_, _++_, map}
 use native.Mathlib.Omega.{arith}
 use native.Mathlib.Nat.{zero-mul, one-mul}
 use lib.ListN.{length, length-append}
-use Rattle.rules.specs.Basic.{if_then_else_, _‥_}
+use Rattle.rules.specs.Basic.{if_then_else_}
 use Rattle.rules.specs.Name.{Name, same}
 use Rattle.rules.specs.Term.{Term, var, leaf, one, two, abs, both, branch, encode, nodes, size}
 use Rattle.rules.specs.Free.{occurrences}
 use Rattle.rules.specs.Substitution.{subst}
-use Rattle.straight.specs.Names.{same-true}
+use Rattle.laws.specs.Same.{same-equal}
 use Rattle.straight.specs.Straight.{Binder, binders, variables, count, stands, uses}
 
 pub record Weight : Type 0 where
@@ -106,7 +106,7 @@ module _ (w : Weight) (x : Name) (v : Term) where
 
   gives-var : (y : Name) (b : Bool) → same x y ≡ b → Gives (var y) (if b then v else var y) (if b then 1 else 0)
   unfolding weigh
-  gives-var y true h = omega (arith, one-mul (w .variable x), one-mul (weigh w v), ap (w .variable) (same-true x y h))
+  gives-var y true h = omega (arith, one-mul (w .variable x), one-mul (weigh w v), ap (w .variable) (same-equal x y h))
   gives-var y false h = simp zero-mul
 
   pub weigh-subst : (t : Term) → weigh w (subst x v t) + occurrences x t * w .variable x ≡ weigh w t + occurrences x t * weigh w v

@@ -1,16 +1,16 @@
 -- How often a name is free after a substitution that catches no name: what it was, and what comes with what goes in.
 -- By induction on the term; at a binder either the binder's name is sought or asked for, or it is not.
-use Prim.Native.Nat.{ℕ, zero, suc, _+_, _*_, _≤_}
+use Prim.Native.Nat.{ℕ, _+_, _*_, _≤_}
 use mathlib.Core.Path.{_≡_, refl, ap, sym, _∙_}
-use mathlib.Core.Bool.{Bool, true, false, _||_}
+use mathlib.Core.Bool.{Bool, true, false, true≢false, _||_}
 use native.Mathlib.Omega.{arith}
-use native.Mathlib.Nat.{zero-mul, mul-zero, one-mul}
+use native.Mathlib.Nat.{zero-mul, one-mul}
 use Rattle.rules.specs.Basic.{if_then_else_}
 use Rattle.rules.specs.Name.{Name, same}
 use Rattle.rules.specs.Term.{Term, var, leaf, one, two, abs, both, branch}
 use Rattle.rules.specs.Free.{occurrences}
 use Rattle.rules.specs.Substitution.{subst}
-use Rattle.straight.specs.Names.{same-true, same-refl}
+use Rattle.laws.specs.Same.{same-equal, same-itself}
 use Rattle.straight.specs.Weights.{weigh, just, usesOf, standsOf}
 
 -- 1 for true; and a count that a binder hides
@@ -79,16 +79,15 @@ apart x y z p q = go (same z x) refl
     go : (b : Bool) → same z x ≡ b → flag b ≡ 0
     go false e = refl
     go true e =
-        let f : x ≡ y = sym (same-true z x e) ∙ same-true z y q in
-        let g : same x y ≡ true = ap (λ (n : Name). same x n) (sym f) ∙ same-refl x in
-        absurd (let c : _≡_ {A = ℕ} 0 1 = cc in omega arith)
+        let f : x ≡ y = sym (same-equal z x e) ∙ same-equal z y q in
+        absurd (true≢false (sym (same-itself x) ∙ ap (same x) f ∙ p))
 
 or-left : (b c : Bool) → (b || c) ≡ false → b ≡ false
 or-left true c h = h
 or-left false c h = refl
 
 or-right : (b c : Bool) → (b || c) ≡ false → c ≡ false
-or-right true c h = absurd (let z : _≡_ {A = ℕ} 0 1 = cc in omega arith)
+or-right true c h = absurd (true≢false h)
 or-right false c h = h
 
 or-some : (b c : Bool) → (b || c) ≡ true → 1 ≤ flag b + flag c
@@ -108,7 +107,7 @@ module _ (x : Name) (v : Term) (z : Name) where
 
   frees-var : (y : Name) (b : Bool) → same x y ≡ b → Frees (var y) (if b then v else var y) (if b then 1 else 0)
   unfolding occurrences
-  frees-var y true h = omega (arith, one-mul (just z x), one-mul (occurrences z v), ap (just z) (same-true x y h))
+  frees-var y true h = omega (arith, one-mul (just z x), one-mul (occurrences z v), ap (just z) (same-equal x y h))
   frees-var y false h = simp zero-mul
 
   -- under a binder: `hidden` says that it hides z, `stops` that it hides x

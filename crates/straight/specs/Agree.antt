@@ -1,18 +1,18 @@
 -- `Straight` and `Counted` say the same.
 -- One way: what a binder covers holds the only use, so none is free. The other way: by induction, since parts of a counted term are counted.
-use Prim.Native.Nat.{ℕ, zero, suc, _+_, _≤_}
-use mathlib.Core.Path.{_≡_, refl, ap, sym, _∙_}
-use mathlib.Core.Bool.{Bool, true, false, _&&_, _||_}
+use Prim.Native.Nat.{ℕ, _+_, _≤_}
+use mathlib.Core.Path.{_≡_, refl, sym, _∙_}
+use mathlib.Core.Bool.{Bool, true, false, false≢true, _||_}
 use mathlib.Core.List.{List, [], _∷_, _++_, map}
 use native.Mathlib.Omega.{arith}
-use Rattle.rules.specs.Basic.{if_then_else_, _‥_}
+use Rattle.rules.specs.Basic.{_‥_}
 use Rattle.rules.specs.Name.{Name, same}
 use Rattle.rules.specs.Term.{Term, var, leaf, one, two, abs, both, branch}
 use Rattle.rules.specs.Free.{occurrences}
-use Rattle.straight.specs.Straight.{Binder, _over_, binders, count, stands, uses, plain, Each, Once, Straight}
-use Rattle.straight.specs.Names.{same-true, same-refl}
-use Rattle.straight.specs.Weights.{weigh, just, usesOf, standsOf, uses-weigh, stands-weigh}
-use Rattle.straight.specs.Frees.{flag, shown, shown-most, free-most}
+use Rattle.straight.specs.Straight.{Binder, binders, count, stands, plain, Each, Once, Straight}
+use Rattle.laws.specs.Same.{same-equal, same-itself}
+use Rattle.straight.specs.Weights.{weigh, usesOf, standsOf, uses-weigh, stands-weigh}
+use Rattle.straight.specs.FreeAfter.{flag, shown, shown-most, free-most}
 use Rattle.straight.specs.Counted.{Bound, Counted, part-one, part-left, part-right, part-abs, part-first, part-second, just-self, own-abs, own-first, own-second}
 
 pub each-append : {A : Type 0} (P : A → Type 0) (xs ys : List A) → Each P xs → Each P ys → Each P (xs ++ ys)
@@ -35,7 +35,7 @@ binder-of z P (b ∷ bs) h n = go (same z (b .name)) refl n (λ m. binder-of z P
   where
     go : (s : Bool) → same z (b .name) ≡ s → 1 ≤ flag s + count z (map (λ c. c .name) bs)
         → (1 ≤ count z (map (λ c. c .name) bs) → (c : Binder) × (z ≡ c .name) × P c) → (c : Binder) × (z ≡ c .name) × P c
-    go true e m k = (b, same-true z (b .name) e, h .0)
+    go true e m k = (b, same-equal z (b .name) e, h .0)
     go false e m k = k (omega arith)
 
 -- What a binder covers holds uses that are not free.
@@ -44,7 +44,7 @@ Covers t b = occurrences (b .name) t + weigh (usesOf (b .name)) (b .covers) ≤ 
 
 hides : (b : Bool) (n : ℕ) → b ≡ true → shown b n ≡ 0
 hides true n h = refl
-hides false n h = absurd (let z : _≡_ {A = ℕ} 0 1 = cc in omega arith)
+hides false n h = absurd (false≢true h)
 
 second : (b c : Bool) → c ≡ true → (b || c) ≡ true
 second true c h = refl
@@ -52,7 +52,7 @@ second false c h = h
 
 first : (b c : Bool) → b ≡ true → (b || c) ≡ true
 first true c h = refl
-first false c h = absurd (let z : _≡_ {A = ℕ} 0 1 = cc in omega arith)
+first false c h = absurd (false≢true h)
 
 covers : (t : Term) → Each (Covers t) (binders t)
 unfolding binders occurrences weigh
@@ -64,13 +64,13 @@ covers (two k a b) =
     (each-map (Covers a) (Covers (two k a b)) (binders a) (λ c h. omega (arith, free-most (c .name) b)) (covers a))
     (each-map (Covers b) (Covers (two k a b)) (binders b) (λ c h. omega (arith, free-most (c .name) a)) (covers b))
 covers (abs x e) = (
-  omega (arith, hides (same x x) (occurrences x e) (same-refl x)),
+  omega (arith, hides (same x x) (occurrences x e) (same-itself x)),
   each-map (Covers e) (Covers (abs x e)) (binders e) (λ c h. omega (arith, shown-most (same (c .name) x) (occurrences (c .name) e))) (covers e),
 )
 covers (both k x y e b) = (
-  omega (arith, free-most x e, hides (same x x || same x y) (occurrences x b) (first (same x x) (same x y) (same-refl x))),
+  omega (arith, free-most x e, hides (same x x || same x y) (occurrences x b) (first (same x x) (same x y) (same-itself x))),
   (
-    omega (arith, free-most y e, hides (same y x || same y y) (occurrences y b) (second (same y x) (same y y) (same-refl y))),
+    omega (arith, free-most y e, hides (same y x || same y y) (occurrences y b) (second (same y x) (same y y) (same-itself y))),
     each-append (Covers (both k x y e b)) (binders e) (binders b)
         (each-map (Covers e) (Covers (both k x y e b)) (binders e)
         (λ c h. omega (arith, free-most (c .name) b, shown-most (same (c .name) x || same (c .name) y) (occurrences (c .name) b)))
@@ -81,9 +81,9 @@ covers (both k x y e b) = (
   ),
 )
 covers (branch x y e l r) = (
-  omega (arith, free-most x e, free-most x r, hides (same x x) (occurrences x l) (same-refl x), shown-most (same x y) (occurrences x r)),
+  omega (arith, free-most x e, free-most x r, hides (same x x) (occurrences x l) (same-itself x), shown-most (same x y) (occurrences x r)),
   (
-    omega (arith, free-most y e, free-most y l, hides (same y y) (occurrences y r) (same-refl y), shown-most (same y x) (occurrences y l)),
+    omega (arith, free-most y e, free-most y l, hides (same y y) (occurrences y r) (same-itself y), shown-most (same y x) (occurrences y l)),
     each-append (Covers (branch x y e l r)) (binders e) (binders l ‥ binders r)
         (each-map (Covers e) (Covers (branch x y e l r)) (binders e)
         (λ c h.
@@ -141,7 +141,7 @@ record Inside (t : Term) (b : Binder) : Type 0 where
 
 not-plain : {x y : Name} {e l r : Term} → Counted (branch x y e l r) → ⊥
 unfolding plain
-not-plain c = let h : false ≡ true = c .plain in let z : _≡_ {A = ℕ} 0 1 = cc in omega arith
+not-plain c = false≢true (c .plain)
 
 inside : (t : Term) → Counted t → Each (Inside t) (binders t)
 unfolding binders occurrences weigh
