@@ -7,3 +7,6 @@ pub mod Agree
 pub mod Contraction
 pub mod OneStep
 pub mod Reducing
+pub mod Decides
+pub mod Substituted
+pub mod Order
