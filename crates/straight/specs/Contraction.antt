@@ -8,6 +8,7 @@ use mathlib.Core.Option.{Option, none, some}
 use native.Mathlib.Omega.{arith}
 use lib.ListN.{length}
 use Rattle.rules.specs.Basic.{if_then_else_}
+use Rattle.rules.specs.Legal.{Legal}
 use Rattle.rules.specs.Name.{Name, same}
 use Rattle.rules.specs.Term.{Term, var, leaf, one, two, abs, both, branch, promote, derelict, pair, app, letPair}
 use Rattle.rules.specs.Free.{occurrences}
@@ -18,6 +19,7 @@ use Rattle.straight.specs.Straight.{plain, plainOne, plainTwo, plainBoth
 use Rattle.laws.specs.Same.{both-true, same-equal}
 use Rattle.straight.specs.Weights.{Weight, weigh, standsOf, weigh-subst}
 use Rattle.straight.specs.FreeAfter.{flag, shown, shown-all, free-all, NoCatch, frees-subst}
+use Rattle.straight.specs.LegalAfter.{legal-subst}
 use Rattle.straight.specs.Counted.{Counted, part-one, part-left, part-right, part-abs, part-first, part-second, just-self, own-abs, own-first, own-second}
 
 -- A rule of a straight term has so many names; the five others do not occur.
@@ -47,6 +49,7 @@ pub record Taken (t : Term) (r : Rule) (half : Option Term) (u : Term) : Type 0 
   pub halfway : (w : Weight) → weighHalf w half ≤ weigh w t
   pub frees : (z : Name) → occurrences z u ≡ occurrences z t
   pub plain : plain u ≡ true
+  pub legal : Legal t → Legal u
 
 -- v put in for x, which is free in e once
 pub record Put (x : Name) (v e : Term) : Type 0 where
@@ -100,6 +103,7 @@ taken-app x e a c =
       halfway = λ w. omega arith;
       frees = λ z. m .frees z;
       plain = plain-subst x a e ((part-right c) .plain) ((part-abs (part-left c)) .plain);
+      legal = λ h. legal-subst x a e (h .1) (h .0 .1);
     }
 
 -- LetPair of Pair
@@ -132,10 +136,11 @@ taken-let x y a b e c =
           let-frees (same z x) (same z y) (occurrences z (subst y b (subst x a e))) (occurrences z (subst x a e)) (occurrences z e) (occurrences z a) (occurrences z b)
           (m′ .frees z) (m .frees z) (λ q. rw (same-equal z y q) ya);
       plain = plain-subst y b (subst x a e) ((part-right (part-first c)) .plain) (plain-subst x a e ((part-left (part-first c)) .plain) ((part-second c) .plain));
+      legal = λ h. legal-subst y b (subst x a e) (h .2 .1) (legal-subst x a e (h .2 .0) (h .3));
     }
 
 -- Derelict of Promote
 pub taken-derelict : (v : Term) → Counted (one derelict (one promote v)) → Taken (one derelict (one promote v)) Derelict none v
 unfolding weigh occurrences
 taken-derelict v c =
-    record { names = []; rule = refl; weighs = λ w. omega arith; halfway = λ w. omega arith; frees = λ z. refl; plain = (part-one (part-one c)) .plain }
+    record { names = []; rule = refl; weighs = λ w. omega arith; halfway = λ w. omega arith; frees = λ z. refl; plain = (part-one (part-one c)) .plain; legal = λ h. h }

@@ -2,6 +2,7 @@ pub mod Straight
 pub mod Promise
 pub mod Weights
 pub mod FreeAfter
+pub mod LegalAfter
 pub mod Counted
 pub mod Agree
 pub mod Contraction

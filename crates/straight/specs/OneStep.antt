@@ -10,6 +10,7 @@ use lib.Dec.{leb}
 use lib.ListN.{length}
 use borrow.Author.Tests.{leb-true, le-leb}
 use Rattle.rules.specs.Limits.{Limits}
+use Rattle.rules.specs.Legal.{Legal}
 use Rattle.rules.specs.Name.{Name}
 use Rattle.rules.specs.Term.{Term, var, leaf, one, two, abs, both, branch, One, inl, inr, fst, snd, abort, promote, derelict, Two, pair, app, discard, Both, letPair, copy, nodes, size, fits}
 use Rattle.rules.specs.Free.{occurrences}
@@ -97,8 +98,9 @@ within : (f : Term → Term) (e : Term) {r : Rule} {h : Option Term} (u : Term) 
     → ((w : Weight) → weigh w e ≤ weigh w (f e))
     → ((z : Name) → occurrences z u ≡ occurrences z e → occurrences z (f u) ≡ occurrences z (f e))
     → plain (f u) ≡ true
+    → (Legal (f e) → Legal (f u))
     → Taken (f e) r h (f u)
-within f e u m d l o p =
+within f e u m d l o p g =
     record {
       names = m .names;
       rule = m .rule;
@@ -106,40 +108,46 @@ within f e u m d l o p =
       halfway = λ w. omega (arith, m .halfway w, l w);
       frees = λ z. o z (m .frees z);
       plain = p;
+      legal = g;
     }
 
 in-one : (k : One) (e : Term) (r : Rule) (h : Option Term) (u : Term) → Counted (one k e) → Taken e r h u → Taken (one k e) r h (one k u)
 unfolding weigh occurrences plain
 in-one k e r h u c m =
     within (one k) e u m (λ w. omega arith) (λ w. omega arith) (λ z q. q) (ap₂ _&&_ (both-true (plainOne k) (plain e) (c .plain) .0) (m .plain))
+    (m .legal)
 
 in-left : (k : Two) (a b : Term) (r : Rule) (h : Option Term) (u : Term) → Counted (two k a b) → Taken a r h u → Taken (two k a b) r h (two k u b)
 unfolding weigh occurrences plain
 in-left k a b r h u c m =
     within (λ p. two k p b) a u m (λ w. omega arith) (λ w. omega arith) (λ z q. rw q)
     (ap₂ _&&_ (both-true (plainTwo k) (plain a && plain b) (c .plain) .0) (ap₂ _&&_ (m .plain) ((part-right c) .plain)))
+    (λ q. (m .legal (q .0), q .1))
 
 in-right : (k : Two) (a b : Term) (r : Rule) (h : Option Term) (u : Term) → Counted (two k a b) → Taken b r h u → Taken (two k a b) r h (two k a u)
 unfolding weigh occurrences plain
 in-right k a b r h u c m =
     within (two k a) b u m (λ w. omega arith) (λ w. omega arith) (λ z q. rw q)
     (ap₂ _&&_ (both-true (plainTwo k) (plain a && plain b) (c .plain) .0) (ap₂ _&&_ ((part-left c) .plain) (m .plain)))
+    (λ q. (q .0, m .legal (q .1)))
 
 in-abs : (x : Name) (e : Term) (r : Rule) (h : Option Term) (u : Term) → Taken e r h u → Taken (abs x e) r h (abs x u)
 unfolding weigh occurrences plain
-in-abs x e r h u m = within (abs x) e u m (λ w. omega arith) (λ w. omega arith) (λ z q. rw q) (m .plain)
+in-abs x e r h u m = within (abs x) e u m (λ w. omega arith) (λ w. omega arith) (λ z q. rw q) (m .plain) (λ q. (q .0, m .legal (q .1)))
 
 in-first : (k : Both) (x y : Name) (e b : Term) (r : Rule) (h : Option Term) (u : Term) → Counted (both k x y e b) → Taken e r h u → Taken (both k x y e b) r h (both k x y u b)
 unfolding weigh occurrences plain
 in-first k x y e b r h u c m =
     within (λ p. both k x y p b) e u m (λ w. omega arith) (λ w. omega arith) (λ z q. rw q)
     (ap₂ _&&_ (both-true (plainBoth k) (plain e && plain b) (c .plain) .0) (ap₂ _&&_ (m .plain) ((part-second c) .plain)))
+    (λ q. (q .0, q .1, m .legal (q .2), q .3))
 
 in-second : (k : Both) (x y : Name) (e b : Term) (r : Rule) (h : Option Term) (u : Term) → Counted (both k x y e b) → Taken b r h u → Taken (both k x y e b) r h (both k x y e u)
 unfolding weigh occurrences plain
 in-second k x y e b r h u c m =
     within (both k x y e) b u m (λ w. omega arith) (λ w. omega arith) (λ z q. rw q)
     (ap₂ _&&_ (both-true (plainBoth k) (plain e && plain b) (c .plain) .0) (ap₂ _&&_ ((part-first c) .plain) (m .plain)))
+    (λ q. (q .0, q .1, q .2, m .legal (q .3)))
 
 pub taken : (t : Term) → Counted t → Meets (Taken t) (step t)
 unfolding step plain
@@ -236,6 +244,7 @@ one-step t s =
     (λ r h u m.
     record {
       straight = straight u (kept t r h u c m);
+      legal = m .legal;
       unbound = m .frees;
       nodes = loses r (m .names) (nodes t) (nodes u) (m .rule) (taken-nodes t r h u m);
       bytes = taken-bytes t r h u m;

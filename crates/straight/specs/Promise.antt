@@ -5,6 +5,7 @@ use mathlib.Core.Path.{_≡_}
 use mathlib.Core.Bool.{Bool, true}
 use mathlib.Core.Option.{Option}
 use Rattle.rules.specs.Limits.{Limits}
+use Rattle.rules.specs.Legal.{Legal}
 use Rattle.rules.specs.Name.{Name}
 use Rattle.rules.specs.Term.{Term, nodes, size, fits}
 use Rattle.rules.specs.Free.{occurrences}
@@ -29,6 +30,7 @@ Loses Discard n m = ⊥
 -- A step by rule r, from t by way of half (the body after the first of two substitutions) to u.
 pub record StraightStep (t : Term) (r : Rule) (half : Option Term) (u : Term) : Type 0 where
   pub straight : Straight u
+  pub legal : Legal t → Legal u
   pub unbound : (x : Name) → occurrences x u ≡ occurrences x t
   pub nodes : Loses r (nodes t) (nodes u)
   pub bytes : size u < size t
@@ -50,6 +52,7 @@ pub record StraightReduction (L : Limits) (limit : ℕ) (t : Term) : Type 0 wher
   pub stops : reduce L limit t ≡ stopped (app + lets + derelict) (only app lets derelict) noneLeft result
   pub says : noneLeft ≡ isNormal (step result)
   pub straight : Straight result
+  pub legal : Legal t → Legal result
   pub unbound : (x : Name) → occurrences x result ≡ occurrences x t
   pub lost : nodes t ≡ nodes result + (3 * app + 4 * lets + 2 * derelict)
   pub fits : fits L result ≡ true

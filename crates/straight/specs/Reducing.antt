@@ -5,6 +5,7 @@ use mathlib.Core.Bool.{Bool, true}
 use mathlib.Core.Option.{Option}
 use native.Mathlib.Omega.{arith}
 use Rattle.rules.specs.Limits.{Limits}
+use Rattle.rules.specs.Legal.{Legal}
 use Rattle.rules.specs.Name.{Name}
 use Rattle.rules.specs.Term.{Term, var, leaf, one, two, abs, both, branch, nodes, fits}
 use Rattle.rules.specs.Free.{occurrences}
@@ -30,6 +31,7 @@ pub record Rest (L : Limits) (limit : ℕ) (t : Term) (a l d : ℕ) (all : Reduc
   pub total : steps ≡ app + lets + derelict
   pub says : noneLeft ≡ isNormal (step result)
   pub straight : Straight result
+  pub legal : Legal t → Legal result
   pub unbound : (x : Name) → occurrences x result ≡ occurrences x t
   pub lost : nodes t + (3 * a + 4 * l + 2 * d) ≡ nodes result + (3 * app + 4 * lets + 2 * derelict)
   pub fits : fits L result ≡ true
@@ -68,12 +70,13 @@ at-found L limit n c t r p h u e f = rw (e, reduceFrom) (rw f)
 more : (L : Limits) (limit : ℕ) (t u : Term) (a l d a′ l′ d′ k : ℕ) (all all′ : Reduced)
     → all ≡ all′
     → ((x : Name) → occurrences x u ≡ occurrences x t)
+    → (Legal t → Legal u)
     → nodes t ≡ nodes u + k
     → 3 * a′ + 4 * l′ + 2 * d′ ≡ 3 * a + 4 * l + 2 * d + k
     → 2 ≤ k
     → Rest L limit u a′ l′ d′ all′
     → Rest L (suc limit) t a l d all
-more L limit t u a l d a′ l′ d′ k all all′ e o n c q w =
+more L limit t u a l d a′ l′ d′ k all all′ e o g n c q w =
     record {
       steps = w .steps;
       app = w .app;
@@ -85,6 +88,7 @@ more L limit t u a l d a′ l′ d′ k all all′ e o n c q w =
       total = w .total;
       says = w .says;
       straight = w .straight;
+      legal = λ h. w .legal (g h);
       unbound = λ x. w .unbound x ∙ o x;
       lost = omega (arith, w .lost);
       fits = w .fits;
@@ -112,6 +116,7 @@ over L limit t n a l d b all e c s f i g =
       total = c;
       says = i;
       straight = s;
+      legal = λ h. h;
       unbound = λ x. refl;
       lost = refl;
       fits = f;
@@ -127,15 +132,15 @@ module _ (L : Limits) where
   next limit go t w f n a l d c normal e m = over L (suc limit) t n a l d true (reduceFrom L (suc limit) n (only a l d) t) (at-normal L limit n (only a l d) t e) c w f (rw e) (λ h. refl)
   next limit go t w f n a l d c (found App p h u) e m =
       more L limit t u a l d (suc a) l d 3 (reduceFrom L (suc limit) n (only a l d) t) (reduceFrom L limit (suc n) (only (suc a) l d) u)
-      (at-found L limit n (only a l d) t App p h u e (m .fits L f)) (m .unbound) (m .nodes) (omega arith) (omega arith)
+      (at-found L limit n (only a l d) t App p h u e (m .fits L f)) (m .unbound) (m .legal) (m .nodes) (omega arith) (omega arith)
       (go u (m .straight) (both-true (halfFits L h) (fits L u) (m .fits L f) .1) (suc n) (suc a) l d (omega arith))
   next limit go t w f n a l d c (found Let p h u) e m =
       more L limit t u a l d a (suc l) d 4 (reduceFrom L (suc limit) n (only a l d) t) (reduceFrom L limit (suc n) (only a (suc l) d) u)
-      (at-found L limit n (only a l d) t Let p h u e (m .fits L f)) (m .unbound) (m .nodes) (omega arith) (omega arith)
+      (at-found L limit n (only a l d) t Let p h u e (m .fits L f)) (m .unbound) (m .legal) (m .nodes) (omega arith) (omega arith)
       (go u (m .straight) (both-true (halfFits L h) (fits L u) (m .fits L f) .1) (suc n) a (suc l) d (omega arith))
   next limit go t w f n a l d c (found Derelict p h u) e m =
       more L limit t u a l d a l (suc d) 2 (reduceFrom L (suc limit) n (only a l d) t) (reduceFrom L limit (suc n) (only a l (suc d)) u)
-      (at-found L limit n (only a l d) t Derelict p h u e (m .fits L f)) (m .unbound) (m .nodes) (omega arith) (omega arith)
+      (at-found L limit n (only a l d) t Derelict p h u e (m .fits L f)) (m .unbound) (m .legal) (m .nodes) (omega arith) (omega arith)
       (go u (m .straight) (both-true (halfFits L h) (fits L u) (m .fits L f) .1) (suc n) a l (suc d) (omega arith))
   next limit go t w f n a l d c (found Case p h u) e m = absurd (m .nodes)
   next limit go t w f n a l d c (found Fst p h u) e m = absurd (m .nodes)
@@ -162,6 +167,7 @@ module _ (L : Limits) where
         stops = r .stops ∙ ap (λ (n : ℕ). stopped n (only (r .app) (r .lets) (r .derelict)) (r .noneLeft) (r .result)) (r .total);
         says = r .says;
         straight = r .straight;
+        legal = r .legal;
         unbound = r .unbound;
         lost = omega (arith, r .lost);
         fits = r .fits;
