@@ -177,7 +177,7 @@ straight t c =
           record {
             placed = sym (stands-weigh (b .name) t) ∙ w .placed;
             used = sym (uses-weigh (b .name) t) ∙ w .used;
-            inside = sym (uses-weigh (b .name) (b .covers)) ∙ i .inside;
+            inside = sym (uses-weigh (b .name) (b .covers)) ∙ i .inside ∙ sym (w .used) ∙ uses-weigh (b .name) t;
           })
           (inside t c);
     }

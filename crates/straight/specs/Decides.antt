@@ -23,10 +23,10 @@ once-decides t b =
     let u = uses (b .name) t in
     let i = uses (b .name) (b .covers) in (
       λ h.
-          let p = both-true (s == 1) ((u == 1) && (i == 1)) h in
-          let q = both-true (u == 1) (i == 1) (p .1) in
-          record { placed = eqb-true s 1 (p .0); used = eqb-true u 1 (q .0); inside = eqb-true i 1 (q .1) },
-      λ o. ap₂ _&&_ (eq-eqb s 1 (o .placed)) (ap₂ _&&_ (eq-eqb u 1 (o .used)) (eq-eqb i 1 (o .inside))),
+          let p = both-true (s == 1) ((u == 1) && (i == u)) h in
+          let q = both-true (u == 1) (i == u) (p .1) in
+          record { placed = eqb-true s 1 (p .0); used = eqb-true u 1 (q .0); inside = eqb-true i u (q .1) },
+      λ o. ap₂ _&&_ (eq-eqb s 1 (o .placed)) (ap₂ _&&_ (eq-eqb u 1 (o .used)) (eq-eqb i u (o .inside))),
     )
 
 pub straight-decides : (t : Term) → (straight t ≡ true) ↔ Straight t

@@ -11,3 +11,5 @@ pub mod Reducing
 pub mod Decides
 pub mod Substituted
 pub mod Order
+pub mod Calling
+pub mod Needed

@@ -1,19 +1,24 @@
--- What is promised of a straight term (demand 3): of one step, and of bounded reduction.
--- Assumes nothing: these are statements; OneStep and Reducing prove them.
+-- What is promised of a straight term (demand 3): of one step, of bounded reduction, and of the public call.
+-- Assumes nothing: these are statements; OneStep, Reducing and Calling prove them.
 use Prim.Native.Nat.{ℕ, _+_, _-_, _*_, _≤_, _<_}
 use mathlib.Core.Path.{_≡_}
 use mathlib.Core.Bool.{Bool, true}
-use mathlib.Core.Option.{Option}
+use mathlib.Core.Option.{Option, some}
+use Rattle.rules.specs.Basic.{Bytes}
 use Rattle.rules.specs.Limits.{Limits}
+use Rattle.rules.specs.Refusal.{good}
 use Rattle.rules.specs.Legal.{Legal}
 use Rattle.rules.specs.Name.{Name}
-use Rattle.rules.specs.Term.{Term, nodes, size, fits}
+use Rattle.rules.specs.Term.{Term, encode, nodes, size, fits}
+use Rattle.rules.specs.Reading.{readTerm}
 use Rattle.rules.specs.Free.{occurrences}
 use Rattle.rules.specs.declared.Rule.{Rule}
 use Rattle.rules.specs.declared.Rule.the-variants.{App, Let, Case, Fst, Snd, Derelict, Copy, Discard}
 use Rattle.rules.specs.declared.Counts.{Counts}
 use Rattle.rules.specs.Step.{step, isNormal, stepFits}
 use Rattle.rules.specs.Reduction.{stopped, reduce}
+use Rattle.rules.specs.Buffers.{filled}
+use Rattle.rules.specs.Calls.{reduceCall}
 use Rattle.straight.specs.Straight.{Straight}
 
 -- The nodes before and after a step: 3 fewer by an application, 4 by a pair, 2 by a derelict. The five other rules do not occur.
@@ -58,3 +63,18 @@ pub record StraightReduction (L : Limits) (limit : ℕ) (t : Term) : Type 0 wher
   pub fits : fits L result ≡ true
   -- the limit is at least half of one less than the node count
   pub enough : nodes t - 1 ≤ 2 * limit → noneLeft ≡ true
+
+-- The public call on the bytes i of a straight term t, with long enough buffers o and s: it is not refused, and answers that reduction.
+pub record StraightCall (L : Limits) (t : Term) (limit : ℕ) (i o s : Bytes) : Type 0 where
+  pub reduction : StraightReduction L limit t
+  pub answer : reduceCall L i limit o s .answer
+      ≡ good
+      (record {
+        steps = reduction .app + reduction .lets + reduction .derelict;
+        counts = only (reduction .app) (reduction .lets) (reduction .derelict);
+        noneLeft = reduction .noneLeft;
+      })
+  pub length : reduceCall L i limit o s .length ≡ size (reduction .result)
+  pub output : reduceCall L i limit o s .output ≡ filled o (some (encode (reduction .result)))
+  -- the result's bytes are read as the result again
+  pub reads : readTerm L 1 (encode (reduction .result)) ≡ good (reduction .result)

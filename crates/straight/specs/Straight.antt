@@ -85,7 +85,7 @@ Each P (x ∷ xs) = P x × Each P xs
 pub record Once (t : Term) (b : Binder) : Type 0 where
   pub placed : stands (b .name) t ≡ 1
   pub used : uses (b .name) t ≡ 1
-  pub inside : uses (b .name) (b .covers) ≡ 1
+  pub inside : uses (b .name) (b .covers) ≡ uses (b .name) t
 
 pub record Straight (t : Term) : Type 0 where
   pub plain : plain t ≡ true
@@ -97,7 +97,7 @@ every p [] = true
 every p (x ∷ xs) = p x && every p xs
 
 unfoldable pub once : Term → Binder → Bool
-once t b = (stands (b .name) t == 1) && ((uses (b .name) t == 1) && (uses (b .name) (b .covers) == 1))
+once t b = (stands (b .name) t == 1) && ((uses (b .name) t == 1) && (uses (b .name) (b .covers) == uses (b .name) t))
 
 unfoldable pub straight : Term → Bool
 straight t = plain t && every (once t) (binders t)
