@@ -1,6 +1,7 @@
 pub mod Holds
 pub mod Keeps
 pub mod Steady
+pub mod SteadyProof
 pub mod Written
 pub mod WrittenTerm
 pub mod WrittenFormula
@@ -14,3 +15,10 @@ pub mod FreeSize
 pub mod SubstSize
 pub mod SubstNone
 pub mod Occurrences
+pub mod SubstFree
+pub mod SubstReach
+pub mod SubstAmong
+pub mod Parts
+pub mod SubstLegal
+pub mod StepLegal
+pub mod Fits

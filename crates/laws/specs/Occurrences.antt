@@ -31,11 +31,11 @@ keeps true b c h = rw (h refl)
 keeps false b c h = refl
 
 -- when a count is not 0
-some-of : (m n : ℕ) → (0 <? (m + n)) ≡ ((0 <? m) || (0 <? n))
+pub some-of : (m n : ℕ) → (0 <? (m + n)) ≡ ((0 <? m) || (0 <? n))
 some-of zero n = rw (zero-add n)
 some-of (suc m) n = lt-ltb 0 (suc m + n) (omega arith) ∙ sym (ap (λ b. b || (0 <? n)) (lt-ltb 0 (suc m) (omega arith)))
 
-some-left : (b : Bool) (n : ℕ) → (0 <? (if b then 0 else n)) ≡ (not b && (0 <? n))
+pub some-left : (b : Bool) (n : ℕ) → (0 <? (if b then 0 else n)) ≡ (not b && (0 <? n))
 some-left true n = refl
 some-left false n = refl
 
