@@ -1,26 +1,26 @@
--- What a step takes out of a straight term: two nodes, and for each name of the contracted node its binder and its variable.
--- Here the three contractions that a straight term can make; a substitution for a name that is free once moves what goes in to its place.
+-- What a contraction takes out of a straight term: two nodes, and for each name of the contracted node its binder and its one variable.
+-- Three rules can apply; by the laws of what is put in once.
+-- Assumes nothing.
 use Prim.Native.Nat.{ℕ, _+_, _*_, _≤_}
-use mathlib.Core.Path.{_≡_, refl, ap₂}
-use mathlib.Core.Bool.{Bool, true, false, _&&_, _||_}
+use mathlib.Core.Path.{_≡_, refl}
+use mathlib.Core.Bool.{Bool, true, false, _||_, false≢true}
 use mathlib.Core.List.{List, [], _∷_}
 use mathlib.Core.Option.{Option, none, some}
 use native.Mathlib.Omega.{arith}
 use lib.ListN.{length}
-use Rattle.rules.specs.Basic.{if_then_else_}
-use Rattle.rules.specs.Legal.{Legal}
 use Rattle.rules.specs.Name.{Name, same}
-use Rattle.rules.specs.Term.{Term, var, leaf, one, two, abs, both, branch, promote, derelict, pair, app, letPair}
+use Rattle.rules.specs.Term.{Term, var, leaf, one, two, abs, both, branch, promote, derelict, pair, app, letPair, inl, inr, fst, snd, abort, Two, discard}
 use Rattle.rules.specs.Free.{occurrences}
 use Rattle.rules.specs.Substitution.{subst}
 use Rattle.rules.specs.declared.Rule.{Rule}
 use Rattle.rules.specs.declared.Rule.the-variants.{App, Let, Case, Fst, Snd, Derelict, Copy, Discard}
-use Rattle.straight.specs.Straight.{plain, plainOne, plainTwo, plainBoth}
-use Rattle.laws.specs.Same.{both-true, same-equal}
-use Rattle.straight.specs.Weights.{Weight, weigh, standsOf, weigh-subst}
-use Rattle.straight.specs.FreeAfter.{flag, shown, shown-all, free-all, NoCatch, frees-subst}
-use Rattle.straight.specs.LegalAfter.{legal-subst}
+use Rattle.rules.specs.Step.{Contraction, no, by, contract}
+use Rattle.laws.specs.Same.{same-equal}
+use Rattle.straight.specs.Straight.{plain}
+use Rattle.straight.specs.Weights.{Weight, weigh, standsOf}
+use Rattle.straight.specs.FreeAfter.{shown, shown-all, free-all}
 use Rattle.straight.specs.Counted.{Counted, part-one, part-left, part-right, part-abs, part-first, part-second, just-self, own-abs, own-first, own-second}
+use Rattle.straight.specs.Put.{put, plain-subst}
 
 -- A rule of a straight term has so many names; the five others do not occur.
 abbrev pub Takes : Rule → List Name → Type 0
@@ -49,44 +49,6 @@ pub record Taken (t : Term) (r : Rule) (half : Option Term) (u : Term) : Type 0 
   pub halfway : (w : Weight) → weighHalf w half ≤ weigh w t
   pub frees : (z : Name) → occurrences z u ≡ occurrences z t
   pub plain : plain u ≡ true
-  pub legal : Legal t → Legal u
-
--- v put in for x, which is free in e once
-pub record Put (x : Name) (v e : Term) : Type 0 where
-  pub weighs : (w : Weight) → weigh w (subst x v e) + w .variable x ≡ weigh w e + weigh w v
-  pub frees : (z : Name) → occurrences z (subst x v e) ≡ shown (same z x) (occurrences z e) + occurrences z v
-
-put-frees : (x z : Name) (b : Bool) (n m q k : ℕ) → same z x ≡ b → (z ≡ x → m ≡ 1) → k ≡ 1 → n + k * flag b ≡ m + k * q → n ≡ shown b m + q
-put-frees x z true n m q k e f g h = let o : m ≡ 1 = f (same-equal z x e) in let i : n + 1 * 1 ≡ m + 1 * q = rw g at h in omega arith
-put-frees x z false n m q k e f g h = let i : n + 1 * 0 ≡ m + 1 * q = rw g at h in omega arith
-
-pub put : (x : Name) (v e : Term) → occurrences x e ≡ 1 → NoCatch v e → Put x v e
-put x v e h c =
-    record {
-      weighs = λ w. let k = rw h at (weigh-subst w x v e) in omega (arith, k);
-      frees = λ z. put-frees x z (same z x) (occurrences z (subst x v e)) (occurrences z e) (occurrences z v) (occurrences x e) refl (λ p. rw p h) h (frees-subst x v z e c);
-    }
-
--- nothing but what was there, or goes in
-plain-if : (b : Bool) (e u : Term) → plain e ≡ true → plain u ≡ true → plain (if b then e else u) ≡ true
-plain-if true e u p q = p
-plain-if false e u p q = q
-
-pub plain-subst : (x : Name) (v e : Term) → plain v ≡ true → plain e ≡ true → plain (subst x v e) ≡ true
-unfolding plain subst
-plain-subst x v (var y) p q = plain-if (same x y) v (var y) p refl
-plain-subst x v (leaf k) p q = refl
-plain-subst x v (one k e) p q = ap₂ _&&_ (both-true (plainOne k) (plain e) q .0) (plain-subst x v e p (both-true (plainOne k) (plain e) q .1))
-plain-subst x v (two k a b) p q =
-    let r = both-true (plainTwo k) (plain a && plain b) q .1 in
-    ap₂ _&&_ (both-true (plainTwo k) (plain a && plain b) q .0) (ap₂ _&&_ (plain-subst x v a p (both-true (plain a) (plain b) r .0)) (plain-subst x v b p (both-true (plain a) (plain b) r .1)))
-plain-subst x v (abs y e) p q = plain-if (same x y) e (subst x v e) q (plain-subst x v e p q)
-plain-subst x v (both k y z e b) p q =
-    let r = both-true (plainBoth k) (plain e && plain b) q .1 in
-    let i = both-true (plain e) (plain b) r .1 in
-    ap₂ _&&_ (both-true (plainBoth k) (plain e && plain b) q .0)
-    (ap₂ _&&_ (plain-subst x v e p (both-true (plain e) (plain b) r .0)) (plain-if (same x y || same x z) b (subst x v b) i (plain-subst x v b p i)))
-plain-subst x v (branch y z e l r) p q = q
 
 -- App of Abs
 pub taken-app : (x : Name) (e a : Term) → Counted (two app (abs x e) a) → Taken (two app (abs x e) a) App none (subst x a e)
@@ -103,7 +65,6 @@ taken-app x e a c =
       halfway = λ w. omega arith;
       frees = λ z. m .frees z;
       plain = plain-subst x a e ((part-right c) .plain) ((part-abs (part-left c)) .plain);
-      legal = λ h. legal-subst x a e (h .1) (h .0 .1);
     }
 
 -- LetPair of Pair
@@ -136,11 +97,60 @@ taken-let x y a b e c =
           let-frees (same z x) (same z y) (occurrences z (subst y b (subst x a e))) (occurrences z (subst x a e)) (occurrences z e) (occurrences z a) (occurrences z b)
           (m′ .frees z) (m .frees z) (λ q. rw (same-equal z y q) ya);
       plain = plain-subst y b (subst x a e) ((part-right (part-first c)) .plain) (plain-subst x a e ((part-left (part-first c)) .plain) ((part-second c) .plain));
-      legal = λ h. legal-subst y b (subst x a e) (h .2 .1) (legal-subst x a e (h .2 .0) (h .3));
     }
 
 -- Derelict of Promote
 pub taken-derelict : (v : Term) → Counted (one derelict (one promote v)) → Taken (one derelict (one promote v)) Derelict none v
 unfolding weigh occurrences
 taken-derelict v c =
-    record { names = []; rule = refl; weighs = λ w. omega arith; halfway = λ w. omega arith; frees = λ z. refl; plain = (part-one (part-one c)) .plain; legal = λ h. h }
+    record { names = []; rule = refl; weighs = λ w. omega arith; halfway = λ w. omega arith; frees = λ z. refl; plain = (part-one (part-one c)) .plain }
+
+-- what is said of a contraction, if there is one
+abbrev pub Made : (Rule → Option Term → Term → Type 0) → Contraction → Type 0
+Made P no = Unit {0}
+Made P (by r h u) = P r h u
+
+-- The node itself.
+made-app : (f a : Term) → Counted (two app f a) → Made (Taken (two app f a)) (contract (two app f a))
+unfolding contract
+made-app (abs x e) a c = taken-app x e a c
+made-app (var n) a c = tt
+made-app (leaf k) a c = tt
+made-app (one k e) a c = tt
+made-app (two k e b) a c = tt
+made-app (both k x y e b) a c = tt
+made-app (branch x y e l r) a c = tt
+
+pub made-let : (x y : Name) (p e : Term) → Counted (both letPair x y p e) → Made (Taken (both letPair x y p e)) (contract (both letPair x y p e))
+unfolding contract
+made-let x y (two pair a b) e c = taken-let x y a b e c
+made-let x y (two app a b) e c = tt
+made-let x y (two discard a b) e c = tt
+made-let x y (var n) e c = tt
+made-let x y (leaf k) e c = tt
+made-let x y (one k d) e c = tt
+made-let x y (abs n d) e c = tt
+made-let x y (both k n m d b) e c = tt
+made-let x y (branch n m d l r) e c = tt
+
+pub made-derelict : (e : Term) → Counted (one derelict e) → Made (Taken (one derelict e)) (contract (one derelict e))
+unfolding contract
+made-derelict (one promote v) c = taken-derelict v c
+made-derelict (one inl v) c = tt
+made-derelict (one inr v) c = tt
+made-derelict (one fst v) c = tt
+made-derelict (one snd v) c = tt
+made-derelict (one abort v) c = tt
+made-derelict (one derelict v) c = tt
+made-derelict (var n) c = tt
+made-derelict (leaf k) c = tt
+made-derelict (two k a b) c = tt
+made-derelict (abs x e) c = tt
+made-derelict (both k x y e b) c = tt
+made-derelict (branch x y e l r) c = tt
+
+pub made-two : (k : Two) (a b : Term) → Counted (two k a b) → Made (Taken (two k a b)) (contract (two k a b))
+unfolding contract plain
+made-two app a b c = made-app a b c
+made-two pair a b c = tt
+made-two discard a b c = absurd (false≢true (c .plain))

@@ -7,9 +7,9 @@ use mathlib.Core.Option.{Option, some}
 use Rattle.rules.specs.Basic.{Bytes}
 use Rattle.rules.specs.Limits.{Limits}
 use Rattle.rules.specs.Refusal.{good}
-use Rattle.rules.specs.Legal.{Legal}
 use Rattle.rules.specs.Name.{Name}
 use Rattle.rules.specs.Term.{Term, encode, nodes, size, fits}
+use Rattle.rules.specs.Legal.{Legal}
 use Rattle.rules.specs.Reading.{readTerm}
 use Rattle.rules.specs.Free.{occurrences}
 use Rattle.rules.specs.declared.Rule.{Rule}
@@ -35,7 +35,6 @@ Loses Discard n m = ⊥
 -- A step by rule r, from t by way of half (the body after the first of two substitutions) to u.
 pub record StraightStep (t : Term) (r : Rule) (half : Option Term) (u : Term) : Type 0 where
   pub straight : Straight u
-  pub legal : Legal t → Legal u
   pub unbound : (x : Name) → occurrences x u ≡ occurrences x t
   pub nodes : Loses r (nodes t) (nodes u)
   pub bytes : size u < size t

@@ -5,19 +5,21 @@ use mathlib.Core.Bool.{Bool, true}
 use mathlib.Core.Option.{Option}
 use native.Mathlib.Omega.{arith}
 use Rattle.rules.specs.Limits.{Limits}
-use Rattle.rules.specs.Legal.{Legal}
 use Rattle.rules.specs.Name.{Name}
 use Rattle.rules.specs.Term.{Term, var, leaf, one, two, abs, both, branch, nodes, fits}
+use Rattle.rules.specs.Legal.{Legal}
 use Rattle.rules.specs.Free.{occurrences}
 use Rattle.rules.specs.declared.Rule.{Rule}
 use Rattle.rules.specs.declared.Rule.the-variants.{App, Let, Case, Fst, Snd, Derelict, Copy, Discard}
 use Rattle.rules.specs.declared.Counts.{Counts}
 use Rattle.rules.specs.Step.{Stepped, normal, found, step, isNormal, halfFits, stepFits}
 use Rattle.rules.specs.Reduction.{plus, Reduced, stopped, reduceFrom}
-use Rattle.straight.specs.Straight.{Straight}
 use Rattle.laws.specs.Same.{both-true}
+use Rattle.laws.specs.StepLegal.{step-legal}
+use Rattle.straight.specs.Straight.{Straight}
 use Rattle.straight.specs.Promise.{Loses, StraightStep, only, StraightReduction}
-use Rattle.straight.specs.OneStep.{Meets, one-step}
+use Rattle.straight.specs.OneStep.{Meets}
+use Rattle.straight.specs.StepKept.{one-step}
 
 -- The rest of a reduction, from t after so many steps of each rule.
 pub record Rest (L : Limits) (limit : ℕ) (t : Term) (a l d : ℕ) (all : Reduced) : Type 0 where
@@ -132,15 +134,15 @@ module _ (L : Limits) where
   next limit go t w f n a l d c normal e m = over L (suc limit) t n a l d true (reduceFrom L (suc limit) n (only a l d) t) (at-normal L limit n (only a l d) t e) c w f (rw e) (λ h. refl)
   next limit go t w f n a l d c (found App p h u) e m =
       more L limit t u a l d (suc a) l d 3 (reduceFrom L (suc limit) n (only a l d) t) (reduceFrom L limit (suc n) (only (suc a) l d) u)
-      (at-found L limit n (only a l d) t App p h u e (m .fits L f)) (m .unbound) (m .legal) (m .nodes) (omega arith) (omega arith)
+      (at-found L limit n (only a l d) t App p h u e (m .fits L f)) (m .unbound) (λ q. (rw e at (step-legal t q)) .1) (m .nodes) (omega arith) (omega arith)
       (go u (m .straight) (both-true (halfFits L h) (fits L u) (m .fits L f) .1) (suc n) (suc a) l d (omega arith))
   next limit go t w f n a l d c (found Let p h u) e m =
       more L limit t u a l d a (suc l) d 4 (reduceFrom L (suc limit) n (only a l d) t) (reduceFrom L limit (suc n) (only a (suc l) d) u)
-      (at-found L limit n (only a l d) t Let p h u e (m .fits L f)) (m .unbound) (m .legal) (m .nodes) (omega arith) (omega arith)
+      (at-found L limit n (only a l d) t Let p h u e (m .fits L f)) (m .unbound) (λ q. (rw e at (step-legal t q)) .1) (m .nodes) (omega arith) (omega arith)
       (go u (m .straight) (both-true (halfFits L h) (fits L u) (m .fits L f) .1) (suc n) a (suc l) d (omega arith))
   next limit go t w f n a l d c (found Derelict p h u) e m =
       more L limit t u a l d a l (suc d) 2 (reduceFrom L (suc limit) n (only a l d) t) (reduceFrom L limit (suc n) (only a l (suc d)) u)
-      (at-found L limit n (only a l d) t Derelict p h u e (m .fits L f)) (m .unbound) (m .legal) (m .nodes) (omega arith) (omega arith)
+      (at-found L limit n (only a l d) t Derelict p h u e (m .fits L f)) (m .unbound) (λ q. (rw e at (step-legal t q)) .1) (m .nodes) (omega arith) (omega arith)
       (go u (m .straight) (both-true (halfFits L h) (fits L u) (m .fits L f) .1) (suc n) a l (suc d) (omega arith))
   next limit go t w f n a l d c (found Case p h u) e m = absurd (m .nodes)
   next limit go t w f n a l d c (found Fst p h u) e m = absurd (m .nodes)
