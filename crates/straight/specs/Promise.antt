@@ -19,7 +19,7 @@ use Rattle.rules.specs.Step.{step, isNormal, stepFits}
 use Rattle.rules.specs.Reduction.{stopped, reduce}
 use Rattle.rules.specs.Buffers.{filled}
 use Rattle.rules.specs.Calls.{reduceCall}
-use Rattle.straight.specs.Straight.{Straight}
+use Rattle.straight.specs.Straight.{stands, Straight}
 
 -- The nodes before and after a step: 3 fewer by an application, 4 by a pair, 2 by a derelict. The five other rules do not occur.
 abbrev pub Loses : Rule → (before after : ℕ) → Type 0
@@ -36,6 +36,7 @@ Loses Discard n m = ⊥
 pub record StraightStep (t : Term) (r : Rule) (half : Option Term) (u : Term) : Type 0 where
   pub straight : Straight u
   pub unbound : (x : Name) → occurrences x u ≡ occurrences x t
+  pub binders : (x : Name) → stands x u ≤ stands x t
   pub nodes : Loses r (nodes t) (nodes u)
   pub bytes : size u < size t
   -- so 8 is not given
@@ -57,7 +58,9 @@ pub record StraightReduction (L : Limits) (limit : ℕ) (t : Term) : Type 0 wher
   pub says : noneLeft ≡ isNormal (step result)
   pub straight : Straight result
   pub legal : Legal t → Legal result
+  -- each name is free as often as before, and none comes to a binder
   pub unbound : (x : Name) → occurrences x result ≡ occurrences x t
+  pub binders : (x : Name) → stands x result ≤ stands x t
   pub lost : nodes t ≡ nodes result + (3 * app + 4 * lets + 2 * derelict)
   pub fits : fits L result ≡ true
   -- the limit is at least half of one less than the node count

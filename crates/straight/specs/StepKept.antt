@@ -18,7 +18,7 @@ use Rattle.rules.specs.Step.{Stepped, normal, found, step, halfFits, stepFits}
 use Rattle.laws.specs.Same.{both-true}
 use Rattle.straight.specs.Straight.{plain, Straight}
 use Rattle.straight.specs.Promise.{Loses, StraightStep}
-use Rattle.straight.specs.Weights.{Weight, weigh, standsOf, nodesOf, bytesOf, usesOf, nodes-weigh, bytes-weigh}
+use Rattle.straight.specs.Weights.{Weight, weigh, standsOf, nodesOf, bytesOf, usesOf, nodes-weigh, bytes-weigh, stands-weigh}
 use Rattle.straight.specs.Counted.{Counted}
 use Rattle.straight.specs.Agree.{counted, straight}
 use Rattle.straight.specs.Contraction.{Takes, gone, weighHalf, Taken}
@@ -90,6 +90,7 @@ one-step t s =
     record {
       straight = straight u (kept t r h u c m);
       unbound = m .frees;
+      binders = λ x. omega (arith, m .weighs (standsOf x), stands-weigh x t, stands-weigh x u);
       nodes = loses r (m .names) (nodes t) (nodes u) (m .rule) (taken-nodes t r h u m);
       bytes = taken-bytes t r h u m;
       fits = λ L. taken-fits L t r h u m;
