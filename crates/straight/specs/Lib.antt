@@ -12,5 +12,6 @@ pub mod Reducing
 pub mod Decides
 pub mod Substituted
 pub mod Order
+pub mod OrderBytes
 pub mod Calling
 pub mod Needed
