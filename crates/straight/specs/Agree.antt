@@ -1,8 +1,9 @@
 -- `Straight` and `Counted` say the same.
 -- One way: what a binder covers holds the only use, so none is free. The other way: by induction, since parts of a counted term are counted.
+-- Assumes nothing.
 use Prim.Native.Nat.{ℕ, _+_, _≤_}
 use mathlib.Core.Path.{_≡_, refl, sym, _∙_}
-use mathlib.Core.Bool.{Bool, true, false, false≢true, _||_}
+use mathlib.Core.Bool.{Bool, true, false, false≢true, _||_, or-true}
 use mathlib.Core.List.{List, [], _∷_, _++_, map}
 use native.Mathlib.Omega.{arith}
 use Rattle.rules.specs.Basic.{_‥_}
@@ -42,82 +43,56 @@ binder-of z P (b ∷ bs) h n = go (same z (b .name)) refl n (λ m. binder-of z P
 abbrev Covers : Term → Binder → Type 0
 Covers t b = occurrences (b .name) t + weigh (usesOf (b .name)) (b .covers) ≤ weigh (usesOf (b .name)) t
 
-hides : (b : Bool) (n : ℕ) → b ≡ true → shown b n ≡ 0
-hides true n h = refl
-hides false n h = absurd (false≢true h)
+-- and so in a term of which e is a part
+wider : (e t : Term) → ((z : Name) → occurrences z t + weigh (usesOf z) e ≤ weigh (usesOf z) t + occurrences z e) → (bs : List Binder) → Each (Covers e) bs → Each (Covers t) bs
+wider e t f bs h = each-map (Covers e) (Covers t) bs (λ b k. omega (arith, f (b .name))) h
 
-second : (b c : Bool) → c ≡ true → (b || c) ≡ true
-second true c h = refl
-second false c h = h
+-- a binder's name is hidden in what it covers
+hides : (x : Name) (n : ℕ) → shown (same x x) n ≡ 0
+hides x n = rw (same-itself x)
 
-first : (b c : Bool) → b ≡ true → (b || c) ≡ true
-first true c h = refl
-first false c h = absurd (false≢true h)
+hides-first : (x y : Name) (n : ℕ) → shown (same x x || same x y) n ≡ 0
+hides-first x y n = rw (same-itself x)
+
+hides-second : (x y : Name) (n : ℕ) → shown (same y x || same y y) n ≡ 0
+hides-second x y n = rw (same-itself y, or-true)
 
 covers : (t : Term) → Each (Covers t) (binders t)
 unfolding binders occurrences weigh
 covers (var x) = tt
 covers (leaf k) = tt
-covers (one k e) = each-map (Covers e) (Covers (one k e)) (binders e) (λ c h. omega arith) (covers e)
+covers (one k e) = wider e (one k e) (λ z. omega arith) (binders e) (covers e)
 covers (two k a b) =
     each-append (Covers (two k a b)) (binders a) (binders b)
-    (each-map (Covers a) (Covers (two k a b)) (binders a) (λ c h. omega (arith, free-most (c .name) b)) (covers a))
-    (each-map (Covers b) (Covers (two k a b)) (binders b) (λ c h. omega (arith, free-most (c .name) a)) (covers b))
-covers (abs x e) = (
-  omega (arith, hides (same x x) (occurrences x e) (same-itself x)),
-  each-map (Covers e) (Covers (abs x e)) (binders e) (λ c h. omega (arith, shown-most (same (c .name) x) (occurrences (c .name) e))) (covers e),
-)
-covers (both k x y e b) = (
-  omega (arith, free-most x e, hides (same x x || same x y) (occurrences x b) (first (same x x) (same x y) (same-itself x))),
-  (
-    omega (arith, free-most y e, hides (same y x || same y y) (occurrences y b) (second (same y x) (same y y) (same-itself y))),
-    each-append (Covers (both k x y e b)) (binders e) (binders b)
-        (each-map (Covers e) (Covers (both k x y e b)) (binders e)
-        (λ c h. omega (arith, free-most (c .name) b, shown-most (same (c .name) x || same (c .name) y) (occurrences (c .name) b)))
-        (covers e))
-        (each-map (Covers b) (Covers (both k x y e b)) (binders b)
-        (λ c h. omega (arith, free-most (c .name) e, shown-most (same (c .name) x || same (c .name) y) (occurrences (c .name) b)))
-        (covers b)),
-  ),
-)
-covers (branch x y e l r) = (
-  omega (arith, free-most x e, free-most x r, hides (same x x) (occurrences x l) (same-itself x), shown-most (same x y) (occurrences x r)),
-  (
-    omega (arith, free-most y e, free-most y l, hides (same y y) (occurrences y r) (same-itself y), shown-most (same y x) (occurrences y l)),
-    each-append (Covers (branch x y e l r)) (binders e) (binders l ‥ binders r)
-        (each-map (Covers e) (Covers (branch x y e l r)) (binders e)
-        (λ c h.
-        omega (
-          arith,
-          free-most (c .name) l,
-          free-most (c .name) r,
-          shown-most (same (c .name) x) (occurrences (c .name) l),
-          shown-most (same (c .name) y) (occurrences (c .name) r),
-        ))
-        (covers e))
-        (each-append (Covers (branch x y e l r)) (binders l) (binders r)
-        (each-map (Covers l) (Covers (branch x y e l r)) (binders l)
-        (λ c h.
-        omega (
-          arith,
-          free-most (c .name) e,
-          free-most (c .name) r,
-          shown-most (same (c .name) x) (occurrences (c .name) l),
-          shown-most (same (c .name) y) (occurrences (c .name) r),
-        ))
-        (covers l))
-        (each-map (Covers r) (Covers (branch x y e l r)) (binders r)
-        (λ c h.
-        omega (
-          arith,
-          free-most (c .name) e,
-          free-most (c .name) l,
-          shown-most (same (c .name) x) (occurrences (c .name) l),
-          shown-most (same (c .name) y) (occurrences (c .name) r),
-        ))
-        (covers r))),
-  ),
-)
+    (wider a (two k a b) (λ z. omega (arith, free-most z b)) (binders a) (covers a))
+    (wider b (two k a b) (λ z. omega (arith, free-most z a)) (binders b) (covers b))
+covers (abs x e) =
+    (omega (arith, hides x (occurrences x e)), wider e (abs x e) (λ z. omega (arith, shown-most (same z x) (occurrences z e))) (binders e) (covers e))
+covers (both k x y e b) =
+    let t = both k x y e b in
+    let m : (z : Name) → shown (same z x || same z y) (occurrences z b) ≤ occurrences z b = λ z. shown-most (same z x || same z y) (occurrences z b) in (
+      omega (arith, free-most x e, hides-first x y (occurrences x b)),
+      (
+        omega (arith, free-most y e, hides-second x y (occurrences y b)),
+        each-append (Covers t) (binders e) (binders b)
+            (wider e t (λ z. omega (arith, free-most z b, m z)) (binders e) (covers e))
+            (wider b t (λ z. omega (arith, free-most z e, m z)) (binders b) (covers b)),
+      ),
+    )
+covers (branch x y e l r) =
+    let t = branch x y e l r in
+    let m : (z : Name) → shown (same z x) (occurrences z l) ≤ occurrences z l = λ z. shown-most (same z x) (occurrences z l) in
+    let n : (z : Name) → shown (same z y) (occurrences z r) ≤ occurrences z r = λ z. shown-most (same z y) (occurrences z r) in (
+      omega (arith, free-most x e, free-most x r, hides x (occurrences x l), n x),
+      (
+        omega (arith, free-most y e, free-most y l, hides y (occurrences y r), m y),
+        each-append (Covers t) (binders e) (binders l ‥ binders r)
+            (wider e t (λ z. omega (arith, free-most z l, free-most z r, m z, n z)) (binders e) (covers e))
+            (each-append (Covers t) (binders l) (binders r)
+            (wider l t (λ z. omega (arith, free-most z e, free-most z r, m z, n z)) (binders l) (covers l))
+            (wider r t (λ z. omega (arith, free-most z e, free-most z l, m z, n z)) (binders r) (covers r))),
+      ),
+    )
 
 once-bound : (t : Term) (b : Binder) → Once t b → Covers t b → Bound (b .name) t
 once-bound t b o c =
@@ -125,8 +100,8 @@ once-bound t b o c =
     let i = uses-weigh (b .name) (b .covers) in
     record { placed = stands-weigh (b .name) t ∙ o .placed; used = u ∙ o .used; hidden = omega (arith, o .used, o .inside) }
 
-pub counted : (t : Term) → Straight t → Counted t
-counted t s =
+pub straight-counted : (t : Term) → Straight t → Counted t
+straight-counted t s =
     record {
       plain = s .plain;
       bound = λ z h.
@@ -139,36 +114,34 @@ record Inside (t : Term) (b : Binder) : Type 0 where
   stands : 1 ≤ weigh (standsOf (b .name)) t
   inside : weigh (usesOf (b .name)) (b .covers) ≡ 1
 
-not-plain : {x y : Name} {e l r : Term} → Counted (branch x y e l r) → ⊥
-unfolding plain
-not-plain c = false≢true (c .plain)
+deeper : (e t : Term) → ((z : Name) → weigh (standsOf z) e ≤ weigh (standsOf z) t) → (bs : List Binder) → Each (Inside e) bs → Each (Inside t) bs
+deeper e t f bs h = each-map (Inside e) (Inside t) bs (λ b i. record { stands = omega (arith, i .stands, f (b .name)); inside = i .inside }) h
 
 inside : (t : Term) → Counted t → Each (Inside t) (binders t)
-unfolding binders occurrences weigh
+unfolding binders weigh plain
 inside (var x) c = tt
 inside (leaf k) c = tt
-inside (one k e) c = each-map (Inside e) (Inside (one k e)) (binders e) (λ b i. record { stands = omega arith; inside = i .inside }) (inside e (part-one c))
+inside (one k e) c = deeper e (one k e) (λ z. omega arith) (binders e) (inside e (part-one c))
 inside (two k a b) c =
     each-append (Inside (two k a b)) (binders a) (binders b)
-    (each-map (Inside a) (Inside (two k a b)) (binders a) (λ n i. record { stands = omega arith; inside = i .inside }) (inside a (part-left c)))
-    (each-map (Inside b) (Inside (two k a b)) (binders b) (λ n i. record { stands = omega arith; inside = i .inside }) (inside b (part-right c)))
-inside (abs x e) c = (
-  record { stands = omega (arith, just-self x); inside = own-abs x e c },
-  each-map (Inside e) (Inside (abs x e)) (binders e) (λ n i. record { stands = omega arith; inside = i .inside }) (inside e (part-abs c)),
-)
-inside (both k x y e b) c = (
-  record { stands = omega (arith, just-self x); inside = own-first k x y e b c },
-  (
-    record { stands = omega (arith, just-self y); inside = own-second k x y e b c },
-    each-append (Inside (both k x y e b)) (binders e) (binders b)
-        (each-map (Inside e) (Inside (both k x y e b)) (binders e) (λ n i. record { stands = omega arith; inside = i .inside }) (inside e (part-first c)))
-        (each-map (Inside b) (Inside (both k x y e b)) (binders b) (λ n i. record { stands = omega arith; inside = i .inside }) (inside b (part-second c))),
-  ),
-)
-inside (branch x y e l r) c = absurd (not-plain c)
+    (deeper a (two k a b) (λ z. omega arith) (binders a) (inside a (part-left c)))
+    (deeper b (two k a b) (λ z. omega arith) (binders b) (inside b (part-right c)))
+inside (abs x e) c =
+    (record { stands = omega (arith, just-self x); inside = own-abs x e c }, deeper e (abs x e) (λ z. omega arith) (binders e) (inside e (part-abs c)))
+inside (both k x y e b) c =
+    let t = both k x y e b in (
+      record { stands = omega (arith, just-self x); inside = own-first k x y e b c },
+      (
+        record { stands = omega (arith, just-self y); inside = own-second k x y e b c },
+        each-append (Inside t) (binders e) (binders b)
+            (deeper e t (λ z. omega arith) (binders e) (inside e (part-first c)))
+            (deeper b t (λ z. omega arith) (binders b) (inside b (part-second c))),
+      ),
+    )
+inside (branch x y e l r) c = absurd (false≢true (c .plain))
 
-pub straight : (t : Term) → Counted t → Straight t
-straight t c =
+pub counted-straight : (t : Term) → Counted t → Straight t
+counted-straight t c =
     record {
       plain = c .plain;
       once = each-map (Inside t) (Once t) (binders t)

@@ -1,5 +1,6 @@
 -- Straight, said by counts alone: a name at a binder stands at one, is used once, and is not free.
 -- The two say the same; and a part of a straight term is straight.
+-- Assumes nothing.
 use Prim.Native.Nat.{_≤_}
 use mathlib.Core.Path.{_≡_}
 use mathlib.Core.Bool.{true, _&&_, _||_}

@@ -1,5 +1,6 @@
 -- How often a name is free after a substitution that catches no name: what it was, and what comes with what goes in.
 -- By induction on the term; at a binder either the binder's name is sought or asked for, or it is not.
+-- Assumes nothing.
 use Prim.Native.Nat.{ℕ, _+_, _*_, _≤_}
 use mathlib.Core.Path.{_≡_, refl, ap, sym, _∙_}
 use mathlib.Core.Bool.{Bool, true, false, true≢false, _||_}

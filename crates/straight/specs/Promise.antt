@@ -1,5 +1,5 @@
 -- What is promised of a straight term (demand 3): of one step, of bounded reduction, and of the public call.
--- Assumes nothing: these are statements; OneStep, Reducing and Calling prove them.
+-- Assumes nothing: these are statements; StepKept, Reducing and Calling prove them.
 use Prim.Native.Nat.{ℕ, _+_, _-_, _*_, _≤_, _<_}
 use mathlib.Core.Path.{_≡_}
 use mathlib.Core.Bool.{Bool, true}

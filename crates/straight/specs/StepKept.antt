@@ -20,7 +20,7 @@ use Rattle.straight.specs.Straight.{plain, Straight}
 use Rattle.straight.specs.Promise.{Loses, StraightStep}
 use Rattle.straight.specs.Weights.{Weight, weigh, standsOf, nodesOf, bytesOf, usesOf, nodes-weigh, bytes-weigh, stands-weigh}
 use Rattle.straight.specs.Counted.{Counted}
-use Rattle.straight.specs.Agree.{counted, straight}
+use Rattle.straight.specs.Agree.{straight-counted, counted-straight}
 use Rattle.straight.specs.Contraction.{Takes, gone, weighHalf, Taken}
 use Rattle.straight.specs.OneStep.{Meets, taken}
 
@@ -84,11 +84,11 @@ meets-map P Q (found r p h u) f m = f r h u m
 
 pub one-step : (t : Term) → Straight t → Meets (StraightStep t) (step t)
 one-step t s =
-    let c = counted t s in
+    let c = straight-counted t s in
     meets-map (Taken t) (StraightStep t) (step t)
     (λ r h u m.
     record {
-      straight = straight u (kept t r h u c m);
+      straight = counted-straight u (kept t r h u c m);
       unbound = m .frees;
       binders = λ x. omega (arith, m .weighs (standsOf x), stands-weigh x t, stands-weigh x u);
       nodes = loses r (m .names) (nodes t) (nodes u) (m .rule) (taken-nodes t r h u m);

@@ -1,5 +1,6 @@
 -- What a term weighs, where each node, variable and name at a binder has a weight; and what it weighs after a substitution.
 -- Nodes, bytes, uses of a name and binders of a name are weights, so one law by induction on the term serves the four.
+-- Assumes nothing.
 use Prim.Native.Nat.{ℕ, _+_, _*_}
 use mathlib.Core.Path.{_≡_, refl, ap}
 use mathlib.Core.Bool.{Bool, true, false, _||_}
