@@ -83,6 +83,8 @@ table =
     ∷ (record { term = two app (abs x ⟨⟩) (var z); limit = 1; lacks = used-once ∷ []; breaks = unbound-kept ∷ [] })
     -- ((\x. (x, x)) z): used twice, z is doubled
     ∷ (record { term = two app (abs x (two pair (var x) (var x))) (var z); limit = 1; lacks = used-once ∷ []; breaks = unbound-kept ∷ [] })
+    -- ((\x. (x x)) (\y. (y y))): used twice, and no limit is enough
+    ∷ (record { term = two app (abs x (two app (var x) (var x))) (abs y (two app (var y) (var y))); limit = 4; lacks = used-once ∷ []; breaks = result-straight ∷ nodes-lost ∷ limit-enough ∷ [] })
     -- ((\x. ()) x): used outside, x is lost
     ∷ (record { term = two app (abs x ⟨⟩) (var x); limit = 1; lacks = inside ∷ []; breaks = unbound-kept ∷ [] })
     -- P1, ((\x. \y. x) y): y is caught, and the result is straight
@@ -92,15 +94,23 @@ table =
     -- P3, P9 and a term with a step of each of the three rules are straight, and break nothing
     ∷ (record { term = one abort (two app (abs x (var x)) ⟨⟩); limit = 9; lacks = []; breaks = [] })
     ∷ (record { term = two app (two app (abs x (abs y (two app (var x) (var y)))) (var z)) (var z); limit = 4; lacks = []; breaks = [] })
-    ∷ (record { term = two app (abs x (both letPair y z (two pair (var x) ⟨⟩) (two pair (one derelict (one promote (var z))) (var y)))) ⟨⟩; limit = 1; lacks = []; breaks = [] })
+    ∷ (record { term = two app (abs x (both letPair y z (two pair (var x) ⟨⟩) (two pair (one derelict (one promote (var z))) (var y)))) ⟨⟩; limit = 9; lacks = []; breaks = [] })
     ∷ []
 
-abbrev pub stated : Row → List Condition × List Promise
-stated r = (r .lacks, r .breaks)
+-- the conditions that it lacks, the promises that it breaks, and whether it is straight
+abbrev pub Found : Type 0
+Found = List Condition × List Promise × Bool
 
-abbrev pub computed : Row → List Condition × List Promise
-computed r = (lacks (r .term), breaks (r .limit) (r .term))
+abbrev pub nothing : List Condition → Bool
+nothing [] = true
+nothing (c ∷ cs) = false
+
+abbrev pub stated : Row → Found
+stated r = (r .lacks, r .breaks, nothing (r .lacks))
+
+abbrev pub computed : Row → Found
+computed r = (lacks (r .term), breaks (r .limit) (r .term), straight (r .term))
 
 pub needed : map computed table ≡ map stated table
-unfolding lacks breaks
+unfolding lacks breaks straight once plain binders variables count
 needed = refl
