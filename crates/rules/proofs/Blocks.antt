@@ -8,7 +8,7 @@ use lib.ListN.{length, replicate}
 use Rattle.rules.specs.Basic.{Bytes, say, digits, low-high, _‥_}
 use Rattle.rules.specs.Limits.{Limits, limits}
 use Rattle.rules.specs.Refusal.{Outcome}
-use Rattle.rules.specs.Name.{same, leads, follows}
+use Rattle.rules.specs.Name.{leads, follows}
 use Rattle.rules.specs.Term.{Term, one, two, leaf, unit, inl, fst, snd, promote, derelict, discard, nodes, encode, fits}
 use Rattle.rules.specs.Reading.{times, many, byte, byteFor, room, letters, name, tag, tooMany, node, proofAt, whole, readTerm, readProof}
 use Rattle.rules.specs.Text.{text}
@@ -18,7 +18,7 @@ use Rattle.rules.specs.Reduction.{reduceFrom}
 use Rattle.rules.specs.Stored.{Kind, check, weighed, blocks, stored, openBlock, openBlocks, opened}
 use Rattle.rules.specs.declared.Kind.the-variants.{Term as aTerm, Proof as aProof}
 use Rattle.rules.specs.Program.{countsLine, refusalLine, patchrun}
-use Rattle.rules.proofs.Notation.{v, ⟨⟩, ⟨_﹐_⟩, _·_, ƛ_⇒_, lets_﹐_≔_⨟_, copies_⇉_﹐_⨟_, cases_of_⇒_or_⇒_, hex, repeat, wrong}
+use Rattle.rules.proofs.Notation.{equal, v, ⟨⟩, ⟨_﹐_⟩, _·_, ƛ_⇒_, lets_﹐_≔_⨟_, copies_⇉_﹐_⨟_, cases_of_⇒_or_⇒_, hex, repeat, wrong}
 use Rattle.rules.proofs.Called.{numbers, answers, refuses_at_of_}
 
 infix 65 block_checked_
@@ -60,9 +60,9 @@ file t = stored aTerm (encode t)
 
 unfoldable pub right : Row → Bool
 unfolding times many byte byteFor room letters name tag tooMany node proofAt whole readTerm readProof leads follows encode nodes fits text subst step contract reduceFrom digits weighed blocks stored openBlock openBlocks opened countsLine refusalLine patchrun
-right (s stored-is f) = same (stored aTerm s) f
-right (k opens f ⟹ a) = same (numbers (λ s. s) (opened limits k f)) a
-right (program f ⟹ w) = same (patchrun limits f) (say w)
+right (s stored-is f) = equal (stored aTerm s) f
+right (k opens f ⟹ a) = equal (numbers (λ s. s) (opened limits k f)) a
+right (program f ⟹ w) = equal (patchrun limits f) (say w)
 
 -- two blocks: 507 bytes of content
 abbrev pub content : Bytes

@@ -9,7 +9,7 @@ use lib.ListN.{length, replicate}
 use Rattle.rules.specs.Basic.{Bytes, _‥_, digits}
 use Rattle.rules.specs.Limits.{Limits}
 use Rattle.rules.specs.Refusal.{Refusal, Outcome, good, refused}
-use Rattle.rules.specs.Name.{same, leads, follows, before}
+use Rattle.rules.specs.Name.{leads, follows, before}
 use Rattle.rules.specs.Formula.{formulaNodes}
 use Rattle.rules.specs.Term.{nodes, encode, fits}
 use Rattle.rules.specs.Proof.{rules}
@@ -23,7 +23,7 @@ use Rattle.rules.specs.Extraction.{extractFrom, extract, oldest, axiomNa
 use Rattle.rules.specs.Stored.{Kind, weighed, blocks, stored, openBlock, openBlocks, opened}
 use Rattle.rules.specs.Buffers.{Wrote, Worked}
 use Rattle.rules.specs.Calls.{checkTermCall, checkFormulaCall, checkProofCall, freeVarsCall, textCall, formulaTextCall, substituted, substituteCall, StepAnswer, Normal, Found, stepCall, ReduceAnswer, ReduceCall, reduceCall, isNormalCall, childOf, childCall, childFaultCall, storeCall, loadCall, startCall, Entry, Extracted, extractCall}
-use Rattle.rules.proofs.Notation.{ruleNumber}
+use Rattle.rules.proofs.Notation.{equal, ruleNumber}
 
 -- asked: output 90, text 450, formula text 110, stored 512, scratch 180, 6 entries
 abbrev pub tiny : Limits
@@ -148,7 +148,7 @@ pub data Row : Type 0 where
 
 unfoldable pub right : Row → Bool
 unfolding after
-right (c ⟹ a ⟫ ls) = same (after c) (a ‥ lefts (lentTo c) ls)
+right (c ⟹ a ⟫ ls) = equal (after c) (a ‥ lefts (lentTo c) ls)
 
 -- how a row says an answer
 abbrev pub answers : List ℕ → List ℕ

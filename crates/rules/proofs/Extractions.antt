@@ -5,16 +5,16 @@ use mathlib.Core.Path.{_≡_, refl}
 use mathlib.Core.Bool.{Bool, true, false, _&&_}
 use mathlib.Core.List.{List, [], _∷_}
 use lib.ListN.{length, take}
-use Rattle.rules.specs.Basic.{Bytes, say, digits, _==_, _‥_}
+use lib.Dec.{eqb}
+use Rattle.rules.specs.Basic.{Bytes, say, digits, _‥_}
 use Rattle.rules.specs.Limits.{Limits, limits}
 use Rattle.rules.specs.Refusal.{Refusal, Outcome, good, refused}
-use Rattle.rules.specs.Name.{same}
 use Rattle.rules.specs.Formula.{Formula, atom, constant, exponential, connective, plain, negated, Bottom, Top, Zero, OfCourse, WhyNot, Tensor, Par, With, Plus, Lolli}
 use Rattle.rules.specs.Term.{Term, nodes, encode, size}
 use Rattle.rules.specs.Proof.{Proof, proof, row, Rule, plain as plainRule, focus, cut, FocusPositive, FocusNegative, Axiom, OneIntro, BottomIntro, TensorIntro, ParIntro, TopIntro, WithIntro, PlusIntroLeft, PlusIntroRight, OfCourseIntro, WhyNotIntro, Weakening, Contraction, Dereliction, Blur}
 use Rattle.rules.specs.Text.{text}
 use Rattle.rules.specs.Extraction.{extractFrom, extract, oldest, axiomName}
-use Rattle.rules.proofs.Notation.{A, A⊥, 𝟏, by_on_from_, cuts_from_, hex, wrong}
+use Rattle.rules.proofs.Notation.{equal, A, A⊥, 𝟏, by_on_from_, cuts_from_, hex, wrong}
 
 infix 75 _▹_
 infix 70 _gives_
@@ -67,29 +67,29 @@ isGood (refused r) = false
 
 abbrev pub is8 : Outcome (Term × ℕ) → Bool
 is8 (good r) = false
-is8 (refused r) = r .number == 8
+is8 (refused r) = eqb (r .number) 8
 
 -- the text and the counter; and at the term's own size it is given, at one byte or one node less it is 8
 abbrev pub answered : (counter : ℕ) → Proof → Answer → Outcome (Term × ℕ) → Bool
 answered n p (w ▹ m) (refused r) = false
 answered n p (w ▹ m) (good r) =
-    same (text (r .0)) (say w) && ((r .1 == m) && (isGood (extractFrom (fitting (size (r .0)) (nodes (r .0))) n p)
+    equal (text (r .0)) (say w) && (eqb (r .1) m && (isGood (extractFrom (fitting (size (r .0)) (nodes (r .0))) n p)
     && (is8 (extractFrom (fitting (size (r .0) - 1) (nodes (r .0))) n p) && is8 (extractFrom (fitting (size (r .0)) (nodes (r .0) - 1)) n p))))
 
 abbrev pub right-from : (counter : ℕ) → Proof → Answer → Bool
 right-from n p a = answered n p a (extractFrom limits n p)
 
 abbrev pub each : Rule → (premises : ℕ) → List Answer → Bool
-each r k [] = k == 4
+each r k [] = eqb k 4
 each r k (a ∷ as′) = right-from 0 (proof r (𝟏 ∷ []) (row (take k premises))) a && each r (suc k) as′
 
 abbrev pub bytesAre : Bytes → Outcome (Term × ℕ) → Bool
-bytesAre s (good r) = same (encode (r .0)) s
+bytesAre s (good r) = equal (encode (r .0)) s
 bytesAre s (refused r) = false
 
 abbrev pub refusedBy : ℕ → Outcome (Term × ℕ) → Bool
 refusedBy n (good r) = false
-refusedBy n (refused r) = (r .number == n) && ((r .place == 0) && (r .input == 0))
+refusedBy n (refused r) = eqb (r .number) n && (eqb (r .place) 0 && eqb (r .input) 0)
 
 unfoldable pub right : Row → Bool
 unfolding text encode nodes extractFrom extract oldest axiomName digits

@@ -5,17 +5,18 @@ use mathlib.Core.Path.{_≡_, refl}
 use mathlib.Core.Bool.{Bool, true, false, _&&_}
 use mathlib.Core.List.{List, [], _∷_, map}
 use lib.ListN.{length}
-use Rattle.rules.specs.Basic.{Bytes, say, decimal, digits, if_then_else_, _==_, _‥_}
+use lib.Dec.{eqb}
+use Rattle.rules.specs.Basic.{Bytes, say, digits, if_then_else_}
 use Rattle.rules.specs.Limits.{limits}
 use Rattle.rules.specs.Refusal.{Outcome, good, refused}
-use Rattle.rules.specs.Name.{leads, follows, same}
+use Rattle.rules.specs.Name.{leads, follows}
 use Rattle.rules.specs.Formula.{encodeFormula, formulaNodes}
 use Rattle.rules.specs.Term.{Term, nodes, encode, parts}
 use Rattle.rules.specs.Proof.{Proof, encodeRule, encodeFormulas, encodeProof}
 use Rattle.rules.specs.Reading.{times, many, byte, byteFor, room, letters, name, tag, tooMany, node, proofAt, whole, readTerm, readFormula, readProof}
 use Rattle.rules.specs.Text.{text, formulaText}
 use Rattle.rules.specs.Extraction.{extractFrom, extract, oldest, axiomName}
-use Rattle.rules.proofs.Notation.{hex, wrong}
+use Rattle.rules.proofs.Notation.{equal, hex, wrong}
 
 infix 70 _prints_of_
 infix 70 _prints-formula_
@@ -30,20 +31,20 @@ abbrev pub goodAnd : {A : Type 0} → Outcome A → (A → Bool) → Bool
 goodAnd (good a) k = k a
 goodAnd (refused r) k = false
 
-abbrev pub allSame : List Bytes → List Bytes → Bool
-allSame [] [] = true
-allSame [] (y ∷ ys) = false
-allSame (x ∷ xs) [] = false
-allSame (x ∷ xs) (y ∷ ys) = same x y && allSame xs ys
+abbrev pub allEqual : List Bytes → List Bytes → Bool
+allEqual [] [] = true
+allEqual [] (y ∷ ys) = false
+allEqual (x ∷ xs) [] = false
+allEqual (x ∷ xs) (y ∷ ys) = equal x y && allEqual xs ys
 
 unfoldable pub right : Row → Bool
 unfolding times many byte byteFor room letters name tag tooMany node proofAt whole readTerm readFormula readProof leads follows encode nodes text encodeFormula formulaText encodeRule encodeFormulas encodeProof extractFrom extract oldest axiomName digits
 right (s prints w of ws) =
     goodAnd (readTerm limits 1 (hex s))
-    (λ t. same (encode t) (hex s) && (same (text t) (say w) && (allSame (map text (parts t)) (map say ws) && (nodes t == suc (length ws)))))
-right (s prints-formula w) = goodAnd (readFormula limits 1 (hex s)) (λ f. same (encodeFormula f) (hex s) && same (formulaText f) (say w))
+    (λ t. equal (encode t) (hex s) && (equal (text t) (say w) && (allEqual (map text (parts t)) (map say ws) && eqb (nodes t) (suc (length ws)))))
+right (s prints-formula w) = goodAnd (readFormula limits 1 (hex s)) (λ f. equal (encodeFormula f) (hex s) && equal (formulaText f) (say w))
 right (s gives w next n) =
-    goodAnd (readProof limits 1 (hex s)) (λ p. same (encodeProof p) (hex s) && goodAnd (extractFrom limits 0 p) (λ r. same (text (r .0)) (say w) && (r .1 == n)))
+    goodAnd (readProof limits 1 (hex s)) (λ p. equal (encodeProof p) (hex s) && goodAnd (extractFrom limits 0 p) (λ r. equal (text (r .0)) (say w) && eqb (r .1) n))
 
 abbrev pub table : List Row
 table =
@@ -117,3 +118,7 @@ first-bytes = refl
 pub later-bytes : those (λ b. readable (1 ∷ 2 ∷ 97 ∷ b ∷ [])) 0 256 ≡ say "0123456789ABCDEFGHIJKLMNOPQRSTUVWXYZ_abcdefghijklmnopqrstuvwxyz"
 unfolding readable
 later-bytes = refl
+
+-- The printed signs as UTF-8, since a table's own texts are `say` too.
+pub signs : say "a_9 λ⟨⟩⊥⊤⊗⅋⊕⊸" ≡ hex "615f3920 cebb e29fa8 e29fa9 e28aa5 e28aa4 e28a97 e2858b e28a95 e28ab8"
+signs = refl

@@ -4,10 +4,11 @@ use Prim.Native.Nat.{ℕ, zero, suc, _+_, _-_, _*_}
 use Prim.Native.Char.{code}
 use Prim.Native.String.{String}
 use Prim.Native.String as Str
-use mathlib.Core.Bool.{Bool}
+use mathlib.Core.Bool.{Bool, true, false, _&&_}
 use mathlib.Core.List.{List, [], _∷_}
 use mathlib.Core.Option.{Option, none, some}
-use Rattle.rules.specs.Basic.{Bytes, say, if_then_else_, _<?_, _==_, _‥_}
+use lib.Dec.{ltb, eqb}
+use Rattle.rules.specs.Basic.{Bytes, say, if_then_else_, _‥_}
 use Rattle.rules.specs.Formula.{Formula, atom, constant, plain, negated, One}
 use Rattle.rules.specs.Term.{Term, var, leaf, two, abs, both, branch, unit, pair, app, letPair, copy}
 use Rattle.rules.specs.Proof.{Proof, proof, row, Plain, cut}
@@ -63,15 +64,22 @@ cuts f from ps = proof (cut f) [] (row ps)
 
 -- bytes as pairs of hexadecimal digits, with spaces where they help
 abbrev pub nibble : ℕ → ℕ
-nibble c = if c <? 58 then c - 48 else c - 87
+nibble c = if ltb c 58 then c - 48 else c - 87
 
 abbrev pub hexFrom : Option ℕ → String → Bytes
 hexFrom h Str.[] = []
-hexFrom none (Str._∷_ c s) = if code c == 32 then hexFrom none s else hexFrom (some (nibble (code c))) s
+hexFrom none (Str._∷_ c s) = if eqb (code c) 32 then hexFrom none s else hexFrom (some (nibble (code c))) s
 hexFrom (some h) (Str._∷_ c s) = (16 * h + nibble (code c)) ∷ hexFrom none s
 
 abbrev pub hex : String → Bytes
 hex s = hexFrom none s
+
+-- The tables' own equality of bytes: `same` of specs/Name.antt is one of the definitions that are tried.
+abbrev pub equal : Bytes → Bytes → Bool
+equal [] [] = true
+equal [] (b ∷ y) = false
+equal (a ∷ x) [] = false
+equal (a ∷ x) (b ∷ y) = eqb a b && equal x y
 
 -- the places of the rows of a table that are not right
 abbrev pub wrongFrom : {R : Type 0} → (right : R → Bool) → ℕ → List R → List ℕ

@@ -8,7 +8,7 @@ use lib.ListN.{replicate, take}
 use Rattle.rules.specs.Basic.{Bytes, say, digits, _‥_}
 use Rattle.rules.specs.Limits.{Limits, limits, wideLimits, outputRoom, textRoom, formulaTextRoom, storedRoom, scratchRoom, entryRoom}
 use Rattle.rules.specs.Refusal.{Outcome}
-use Rattle.rules.specs.Name.{same, leads, follows}
+use Rattle.rules.specs.Name.{leads, follows}
 use Rattle.rules.specs.Formula.{atom, plain, negated, encodeFormula, formulaNodes}
 use Rattle.rules.specs.Term.{Term, one, promote, nodes, encode, fits}
 use Rattle.rules.specs.Proof.{Proof, Axiom, OneIntro, encodeRule, encodeFormulas, encodeProof, rules}
@@ -17,7 +17,7 @@ use Rattle.rules.specs.Substitution.{subst}
 use Rattle.rules.specs.Step.{step, contract}
 use Rattle.rules.specs.Extraction.{extractFrom, extract, oldest, axiomName}
 use Rattle.rules.specs.Calls.{checkTermCall, checkFormulaCall, checkProofCall, stepCall, extractCall, startCall}
-use Rattle.rules.proofs.Notation.{v, ⟨⟩, _·_, copies_⇉_﹐_⨟_, by_on_from_, cuts_from_, hex, repeat, wrong}
+use Rattle.rules.proofs.Notation.{equal, v, ⟨⟩, _·_, copies_⇉_﹐_⨟_, by_on_from_, cuts_from_, hex, repeat, wrong}
 use Rattle.rules.proofs.Called.{numbers, single, stepNumbers, answers, counts, refuses_at_of_}
 use Rattle.rules.proofs.Lent.{promotes}
 
@@ -37,11 +37,11 @@ cutOn a = cuts atom plain (say a) from (by OneIntro on [] from [] ∷ by Axiom o
 
 unfoldable pub right : Row → Bool
 unfolding times many byte byteFor room letters name tag tooMany node proofAt whole readTerm readFormula readProof leads follows encode nodes formulaNodes rules fits subst step contract extractFrom extract oldest axiomName digits checkTermCall checkFormulaCall checkProofCall stepCall extractCall encodeFormula encodeRule encodeFormulas encodeProof
-right (term s ⟹ a) = same (numbers single (checkTermCall limits s)) a
-right (formula s ⟹ a) = same (numbers single (checkFormulaCall limits s)) a
-right (proof s ⟹ a) = same (numbers single (checkProofCall limits s)) a
-right (step-of t ⟹ a) = same (numbers stepNumbers (stepCall limits (encode t) (replicate 4096 0) (replicate 8192 0) .answer)) a
-right (cut-on x at n ⟹ s) = same (take 8 (extractCall limits (startCall n) (encodeProof (cutOn x)) (replicate 4096 0) (replicate 8192 0) (replicate 512 (0, 0)) .output)) s
+right (term s ⟹ a) = equal (numbers single (checkTermCall limits s)) a
+right (formula s ⟹ a) = equal (numbers single (checkFormulaCall limits s)) a
+right (proof s ⟹ a) = equal (numbers single (checkProofCall limits s)) a
+right (step-of t ⟹ a) = equal (numbers stepNumbers (stepCall limits (encode t) (replicate 4096 0) (replicate 8192 0) .answer)) a
+right (cut-on x at n ⟹ s) = equal (take 8 (extractCall limits (startCall n) (encodeProof (cutOn x)) (replicate 4096 0) (replicate 8192 0) (replicate 512 (0, 0)) .output)) s
 
 -- `copy !v as (x, y) in (x y)` for v of n Promotes and a Unit
 abbrev pub copied : ℕ → Term

@@ -4,13 +4,14 @@ use Prim.Native.String.{String}
 use mathlib.Core.Path.{_≡_, refl}
 use mathlib.Core.Bool.{Bool, true, false, _&&_}
 use mathlib.Core.List.{List, [], _∷_, map}
-use Rattle.rules.specs.Basic.{Bytes, say, if_then_else_, _==_}
-use Rattle.rules.specs.Name.{same, before, encodeNames}
+use lib.Dec.{eqb}
+use Rattle.rules.specs.Basic.{Bytes, say, if_then_else_}
+use Rattle.rules.specs.Name.{before, encodeNames}
 use Rattle.rules.specs.Term.{Term, one, two, encode, leaf, trivial, inl, inr, fst, snd, abort, promote, derelict, discard}
 use Rattle.rules.specs.Free.{insert, union, without, free, occurrences}
 use Rattle.rules.specs.Substitution.{subst}
 use Rattle.rules.specs.Step.{Rule, App, Let, Case, Fst, Snd, Derelict, Copy, Discard, Stepped, normal, found, step, contract, isNormal}
-use Rattle.rules.proofs.Notation.{v, ⟨⟩, ⟨_﹐_⟩, _·_, ƛ_⇒_, lets_﹐_≔_⨟_, copies_⇉_﹐_⨟_, cases_of_⇒_or_⇒_, ruleNumber, wrong}
+use Rattle.rules.proofs.Notation.{equal, v, ⟨⟩, ⟨_﹐_⟩, _·_, ƛ_⇒_, lets_﹐_≔_⨟_, copies_⇉_﹐_⨟_, cases_of_⇒_or_⇒_, ruleNumber, wrong}
 
 infix 70 _leaves-free_
 infix 70 unit-for-x-in_is_changing_
@@ -34,7 +35,7 @@ R = (ƛ "z" ⇒ v "z") · v "c"
 
 abbrev pub found-is : Rule → ℕ → Term → Stepped → Bool
 found-is r p t normal = false
-found-is r p t (found r′ p′ h t′) = (ruleNumber r == ruleNumber r′) && ((p == p′) && same (encode t) (encode t′))
+found-is r p t (found r′ p′ h t′) = eqb (ruleNumber r) (ruleNumber r′) && (eqb p p′ && equal (encode t) (encode t′))
 
 abbrev pub a : Term
 a = v "a"
@@ -51,12 +52,12 @@ redexes normal? n (t ∷ ts) = if normal? t then redexes normal? (suc n) ts else
 
 unfoldable pub right : Row → Bool
 unfolding before insert union without free occurrences subst step contract encode
-right (t leaves-free xs) = same (encodeNames (free t)) (encodeNames (map say xs))
-right (unit-for-x-in t is u changing n) = same (encode (subst (say "x") ⟨⟩ t)) (encode u) && (occurrences (say "x") t == n)
+right (t leaves-free xs) = equal (encodeNames (free t)) (encodeNames (map say xs))
+right (unit-for-x-in t is u changing n) = equal (encode (subst (say "x") ⟨⟩ t)) (encode u) && eqb (occurrences (say "x") t) n
 right (t by r to u) = found-is r 0 u (step t)
 right (enters f at p) = found-is App p (f (v "c")) (step (f R))
 right (shuts f) = isNormal (step (f R))
-right (contracts f ks) = same (redexes (λ t. isNormal (step (f t))) 1 samples) ks
+right (contracts f ks) = equal (redexes (λ t. isNormal (step (f t))) 1 samples) ks
 
 abbrev pub table : List Row
 table =
