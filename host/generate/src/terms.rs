@@ -232,6 +232,32 @@ pub fn near_limit(rng: &mut Rng, nodes: usize, bytes: usize) -> Term {
     }
 }
 
+/// A LetPair or Copy whose body is largest half-way: the second name is long, and what goes in for it is short. Sizes lie on both sides of 4,096 bytes.
+pub fn half_way(rng: &mut Rng) -> Term {
+    let (x, long) = (names::of_length(rng, 1), names::of_length(rng, NAME_MOST));
+    let row = |rng: &mut Rng, firsts: usize, seconds: usize| {
+        let mut left = [firsts, seconds];
+        let mut row = Term::Unit;
+        while left != [0, 0] {
+            let pick = if left[0] == 0 || (left[1] > 0 && rng.one_in(2)) { 1 } else { 0 };
+            left[pick] -= 1;
+            let var = Term::Var(if pick == 0 { x.clone() } else { long.clone() });
+            row = Term::Pair(Box::new(var), Box::new(row));
+        }
+        row
+    };
+    if rng.one_in(2) {
+        let (places, within) = (rng.within(9, 15), rng.within(9, 15));
+        let (value, body) = (row(rng, 0, within), row(rng, places, 0));
+        Term::LetPair(x.clone(), long.clone(), Box::new(Term::Pair(Box::new(value), Box::new(Term::Unit))), Box::new(body))
+    } else {
+        let (firsts, seconds) = (rng.within(45, 65), rng.within(100, 112));
+        let length = rng.within(16, 19);
+        let value = Term::Promote(Box::new(Term::Var(names::of_length(rng, length))));
+        Term::Copy(Box::new(value), x.clone(), long.clone(), Box::new(row(rng, firsts, seconds)))
+    }
+}
+
 /// A straight term of about so many nodes: every bound name is new, and used once inside what it covers.
 pub fn straight(rng: &mut Rng, nodes: usize) -> Term {
     let mut made = 0;
@@ -255,7 +281,8 @@ fn linear(rng: &mut Rng, uses: Vec<String>, nodes: usize, made: &mut usize) -> T
                 _ => Term::Var(rng.pick(&["f", "g", "h"]).to_string()),
             };
         };
-        return left.fold(first, |a, b| if rng.one_in(2) { Term::Pair(Box::new(a), Box::new(b)) } else { Term::App(Box::new(b), Box::new(a)) });
+        return left
+            .fold(first, |a, b| if rng.one_in(2) { Term::Pair(Box::new(a), Box::new(b)) } else { Term::App(Box::new(b), Box::new(a)) });
     }
     let (mut ours, mut theirs) = (Vec::new(), Vec::new());
     let (a, b) = rng.split(nodes);
