@@ -1,5 +1,5 @@
 -- Document 01's examples and more, computed: a wrong definition in specs/ breaks a row of some table here (must-fail/ has such definitions).
-mod Notation
+pub mod Notation
 mod Patches
 mod Forms
 mod Steps
