@@ -2,3 +2,5 @@
 pub mod Writes
 pub mod Shapes
 pub mod Splices
+pub mod Finds
+mod Splicing
