@@ -12,3 +12,4 @@ pub mod TextSize
 pub mod Same
 pub mod FreeSize
 pub mod SubstSize
+pub mod Numbers
