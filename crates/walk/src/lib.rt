@@ -90,33 +90,46 @@ pub fn same_name(s: &[u8], at: usize, name: &[u8]) -> bool
     runs::same(name, &s[from..end])
 }
 
-// Which parts two binders cover, where the first is the name sought, or the second: of two parts the second, of three one each.
+// What a binder covers, as a mask of the node's parts: 1 for the first, 2 for the second, 4 for the third.
+const ABS_BODY: usize = 1;
+
+// LetPair and Copy.
+const PAIR_BODY: usize = 2;
+
+// Case.
+const LEFT: usize = 2;
+
+const RIGHT: usize = 4;
+
+const BRANCHES: usize = 6;
+
+// What the two binders of a node cover, where x and y tell whether each is the name sought.
 fn covered(x: bool, y: bool, parts: usize) -> usize
     ensures { λ r. ⌜ r ≡ (if parts == 2 then (if x || y then 2 else 0) else ((if x then 2 else 0) + (if y then 4 else 0))) ⌝ }
 {
     if parts == 2 {
         if x {
-            return 2;
+            return PAIR_BODY;
         }
         if y {
-            return 2;
+            return PAIR_BODY;
         }
         return 0;
     }
     if x {
         if y {
-            return 6;
+            return BRANCHES;
         }
-        return 2;
+        return LEFT;
     }
     if y {
-        return 4;
+        return RIGHT;
     }
     0
 }
 
-// A node, with a name in mind: where its parts start, how many there are, which of them a binder of that name covers
-// (1 the first, 2 the second, 4 the third, added up), and whether it is that variable.
+// A node, with a name in mind: where its parts start, how many there are, which of them a binder of that name covers,
+// and whether it is that variable.
 pub struct Node {
     pub start: usize,
     pub parts: usize,
@@ -152,7 +165,7 @@ pub fn look(s: &[u8], at: usize, name: &[u8]) -> Node
         };
     }
     if names == 1 {
-        let hides = if x { 1 } else { 0 };
+        let hides = if x { ABS_BODY } else { 0 };
         return Node {
             start: second,
             parts,
