@@ -1,0 +1,9 @@
+-- What the proofs of several functions use, here and in the crates above.
+pub mod Writes
+pub mod Shapes
+pub mod Splices
+pub mod Finds
+mod Splicing
+pub mod Growths
+mod Works
+mod Answers
