@@ -1,0 +1,2 @@
+// The text of formulas and of terms, as `pretty` of the Rust prints them.
+mod write;
