@@ -67,7 +67,7 @@ module _ (x : Name) where
   var-subst v (both k y z e b) h = absurd (never h)
   var-subst v (branch y z e l r) h = absurd (never h)
 
--- ---- any other term
+  -- ---- any other term
 
   node-head : (v t : Term) → isVar x t ≡ false → head (subst x v t) ≡ head t
   unfolding subst

@@ -45,17 +45,20 @@ module _ (s : Bytes) (x : Name) (v : Term) where
 
   -- a run without places
   plain : (i : ℕ) (a b : Bytes) → drop i s ≡ a ++ b → Put i [] a a
-  plain i a b e qs end w =
-      (flush s (encode v) (2 + length x) i (i + length a) qs end (omega arith) w ∙ ap (λ (z : Bytes). z ++ spliced s (encode v) (2 + length x) (i + length a) qs end) (slice-is i s a b e),
-      sooner s (encode v) (2 + length x) i (i + length a) qs end (omega arith) w)
+  plain i a b e qs end w = (
+    flush s (encode v) (2 + length x) i (i + length a) qs end (omega arith) w ∙ ap (λ (z : Bytes). z ++ spliced s (encode v) (2 + length x) (i + length a) qs end) (slice-is i s a b e),
+    sooner s (encode v) (2 + length x) i (i + length a) qs end (omega arith) w,
+  )
 
   -- the variable
   hit : (i : ℕ) (old : Bytes) → length old ≡ 2 + length x → Put i (i ∷ []) old (encode v)
   unfolding spliced
   hit i old e qs end w =
-      let f : i + length old ≡ i + (2 + length x) = ap (λ (n : ℕ). i + n) e in
-      (ap (λ (z : Bytes). z ++ (encode v ++ spliced s (encode v) (2 + length x) (i + (2 + length x)) qs end)) (slice-empty i s)
-      ∙ ap (λ (k : ℕ). encode v ++ spliced s (encode v) (2 + length x) k qs end) (sym f), (omega arith, rw f at w))
+      let f : i + length old ≡ i + (2 + length x) = ap (λ (n : ℕ). i + n) e in (
+        ap (λ (z : Bytes). z ++ (encode v ++ spliced s (encode v) (2 + length x) (i + (2 + length x)) qs end)) (slice-empty i s)
+            ∙ ap (λ (k : ℕ). encode v ++ spliced s (encode v) (2 + length x) k qs end) (sym f),
+        (omega arith, rw f at w),
+      )
 
   -- one after the other
   joined : (i j : ℕ) (ps ps′ : List ℕ) (a a′ b b′ : Bytes) → j ≡ i + length a → Put i ps a a′ → Put j ps′ b b′ → Put i (ps ++ ps′) (a ++ b) (a′ ++ b′)
@@ -63,14 +66,15 @@ module _ (s : Bytes) (x : Name) (v : Term) where
       let l : i + length (a ++ b) ≡ j + length b = omega (arith, length-append a b) in
       let w′ : Spaced (2 + length x) (j + length b) qs end = rw l at w in
       let y = g qs end w′ in
-      let z = f (ps′ ++ qs) end (rw ej at (y .1)) in
-      (ap (λ (r : List ℕ). spliced s (encode v) (2 + length x) i r end) (append-assoc ps ps′ qs)
-      ∙ z .0
-      ∙ ap (λ (k : ℕ). a′ ++ spliced s (encode v) (2 + length x) k (ps′ ++ qs) end) (sym ej)
-      ∙ ap (λ (r : Bytes). a′ ++ r) (y .0)
-      ∙ ap (λ (k : ℕ). a′ ++ (b′ ++ spliced s (encode v) (2 + length x) k qs end)) (sym l)
-      ∙ sym (append-assoc a′ b′ (spliced s (encode v) (2 + length x) (i + length (a ++ b)) qs end)),
-      rw append-assoc (z .1))
+      let z = f (ps′ ++ qs) end (rw ej at (y .1)) in (
+        ap (λ (r : List ℕ). spliced s (encode v) (2 + length x) i r end) (append-assoc ps ps′ qs)
+            ∙ z .0
+            ∙ ap (λ (k : ℕ). a′ ++ spliced s (encode v) (2 + length x) k (ps′ ++ qs) end) (sym ej)
+            ∙ ap (λ (r : Bytes). a′ ++ r) (y .0)
+            ∙ ap (λ (k : ℕ). a′ ++ (b′ ++ spliced s (encode v) (2 + length x) k qs end)) (sym l)
+            ∙ sym (append-assoc a′ b′ (spliced s (encode v) (2 + length x) (i + length (a ++ b)) qs end)),
+        rw append-assoc (z .1),
+      )
 
   -- a term, wherever it stands
   abbrev Law : Term → Type 0

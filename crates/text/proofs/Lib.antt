@@ -1,2 +1,5 @@
 -- What the proofs of several functions use.
 mod Written
+mod Steps
+mod FormulaShapes
+mod FormulaSteps

@@ -5,6 +5,7 @@ ghost use Prim.Native.Nat.{_+_, _-_, _≤_, _<_};
 ghost use lib.ListN.{length, getD, take, drop};
 ghost use lib.Seq.{sets};
 ghost use Rattle.text.specs.Prints.{Prints, eight};
+ghost use Rattle.text.specs.Task.{places as placesOf};
 
 // Eight bytes; they become one store.
 fn store(out: &mut [u8], to: usize, a: u8, b: u8, c: u8, d: u8, e: u8, f: u8, g: u8, h: u8)
@@ -80,4 +81,20 @@ pub fn name(s: &[u8], at: usize, out: &mut [u8], to: usize) -> usize
         return to + n;
     }
     runs::copy(s, from, from + n, out, to)
+}
+
+pub fn byte(out: &mut [u8], to: usize, b: u8) -> usize
+    requires { ⌜ to < length (now out) ⌝ }
+    ensures { λ r. ⌜ Prints (now (out .entry)) to (b ∷ []) (now (out .exit)) r ⌝ }
+{
+    out[to] = b;
+    to + 1
+}
+
+// A place in the bytes and a place in the text, in one number, which comes back in a register.
+pub fn places(at: usize, to: usize) -> usize
+    requires { ⌜ (at < 65536) × (to < 65536) ⌝ }
+    ensures { λ r. ⌜ r ≡ placesOf at to ⌝ }
+{
+    to * 65536 + at
 }
