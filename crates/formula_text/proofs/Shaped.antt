@@ -1,12 +1,12 @@
 -- The walk over a formula, shape by shape: what each call is asked, and that what they print is the formula's text.
 -- Assumes nothing.
 use Prim.Native.Nat.{ℕ, _+_, _<_, _≤_, _/_, _%_}
-use mathlib.Core.Path.{_≡_, refl, sym, ap, _∙_}
+use mathlib.Core.Path.{_≡_, ap, _∙_}
 use mathlib.Core.List.{List, [], _∷_, _++_}
 use native.Mathlib.Omega.{arith}
 use lib.ListN.{length, getD, take, drop, length-append}
 use Rattle.rules.specs.Basic.{say}
-use Rattle.rules.specs.Name.{Name, encodeName, atomMost}
+use Rattle.rules.specs.Name.{Name, atomMost}
 use Rattle.rules.specs.Formula.{Formula, atom, constant, exponential, connective, Sign, Constant, Exponential, Connective, signTag, constantTag, exponentialTag, connectiveTag, encodeFormula}
 use Rattle.rules.specs.Text.{signText, constantText, exponentialText, connectiveText, formulaText}
 use Rattle.laws.specs.Names.{name-long}

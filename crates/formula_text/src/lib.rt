@@ -4,9 +4,15 @@ ghost use Prim.Native.Nat.{_+_, _≤_, _<_};
 ghost use lib.ListN.{length};
 ghost use Rattle.rules.specs.Name.{Name};
 ghost use Rattle.rules.specs.Formula.{Formula, Sign, Constant, Exponential, Connective, atom as atomOf, constant as constantOf, exponential as exponentialOf, connective as connectiveOf};
+ghost use Rattle.rules.specs.Limits.{limits};
+ghost use Rattle.rules.specs.Refusal.{answered};
+ghost use Rattle.rules.specs.Calls.{formulaTextCall};
 ghost use Rattle.words.specs.Prints.{Prints};
 ghost use Rattle.formula_text.specs.Task.{FormulaTask, FormulaDone};
 ghost use Rattle.formula_text.specs.Words.{wordOf, signOf, shapeOf};
+use rules::Answer;
+use rules::FORMULA_TEXT_ROOM;
+use rules::Refusal;
 use words::byte;
 use words::name;
 use words::number;
@@ -113,4 +119,26 @@ fn node(s: &[u8], at: usize, out: &mut [u8], to: usize) -> usize
         return constant(&*s, at, out, to);
     }
     atom(&*s, at, out, to)
+}
+
+// The formula's text, then zeros.
+pub fn pretty(formula: &[u8], out: &mut [u8]) -> Answer
+    ensures { λ r. ⌜ r ≡ answered (formulaTextCall limits (now (formula .entry)) (now (out .entry)) .answer) ⌝ }
+    ensures { λ _. ⌜ now (out .exit) ≡ formulaTextCall limits (now (formula .entry)) (now (out .entry)) .output ⌝ }
+{
+    if out.len() < FORMULA_TEXT_ROOM {
+        return Answer::Refused(Refusal {
+            number: 1,
+            place: 0,
+            input: 0,
+        });
+    }
+    match reader::check_formula(formula) {
+        Answer::Good(_) => {
+            let past = node(formula, 0, out, 0) / 65536;
+            runs::clear(out, past);
+            Answer::Good(past)
+        }
+        Answer::Refused(r) => Answer::Refused(r),
+    }
 }

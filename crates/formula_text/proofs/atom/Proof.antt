@@ -7,59 +7,43 @@ use Rattle.formula_text.proofs.Shaped.{begun, atom-named, atom-few, ato
 use borrow.Author.Needs.{needs}
 use Rattle.formula_text.proofs.atom.Statement.{statement}
 use Rattle.formula_text.proofs.atom.Tie as tie
-use Rattle.formula_text.proofs.atom.Reads as reads
-use Rattle.formula_text.proofs.atom.Lts as lts
-use Rattle.formula_text.proofs.sign.Reads as sign-reads
-use Rattle.words.proofs.name.Reads as name-reads
-use Rattle.words.proofs.places.Reads as places-reads
 
--- src/formula.rt:57:17
 add-first : tie.Need-add-first
 add-first c = search needs
 
--- src/formula.rt:58:13
 shared-slice-read-n : tie.Need-shared-slice-read-n
 shared-slice-read-n c = let w = c .before .before .before .pre in omega (arith, atom-named (w .0) (w .1) (w .2) .fits)
 
--- src/formula.rt:58:13
 cast-n : tie.Need-cast-n
 cast-n c = omega (arith, c .shared-slice-known2 .given (c .before .before .before .args .at + 1))
 
--- src/formula.rt:59:9
 name-requires : tie.Need-name-requires
 name-requires c κs =
     let w = c .before .before .before .before .pre in
     let q = name-asked (atom-named (w .0) (w .1) (w .2)) (atom-few (w .0) (w .1) (w .2)) in
     (q .0, q .1, omega (arith, w .2 .task .room))
 
--- src/formula.rt:60:12
 add-places : tie.Need-add-places
 add-places c = search needs
 
--- src/formula.rt:60:12
 add-places-2 : tie.Need-add-places-2
 add-places-2 c =
     let w = c .before .before .before .before .before .before .before .pre in
     let n = atom-named (w .0) (w .1) (w .2) in
     omega (arith, n .long, n .fits, w .2 .task .short)
 
--- src/formula.rt:60:32
 shared-slice-read-sign : tie.Need-shared-slice-read-sign
 shared-slice-read-sign c = let w = c .before .before .before .before .before .before .before .before .pre in begun (atom (w .0) (w .1)) (w .2)
 
--- src/formula.rt:60:27
 sign-requires : tie.Need-sign-requires
 sign-requires c κs = let w = c .before .before .before .before .before .before .before .before .before .pre in atom-room (w .0) (w .1) (w .2) (c .before .before .before .before .name .ensures)
 
--- src/formula.rt:60:5
 places-requires : tie.Need-places-requires
 places-requires c κs = let w = c .before .before .before .before .before .before .before .before .before .before .before .before .pre in atom-places (w .0) (w .1) (w .2) (c .before .before .before .before .before .before .before .name .ensures) (c .before .before .sign .ensures)
 
--- src/formula.rt:53:1
 same-length : tie.Need-same-length
 same-length c = search needs
 
--- src/formula.rt:53:1
 returns : tie.Need-returns
 returns c k x t = atom-done k x t (c .before .before .before .before .before .before .before .before .name .ensures) (c .before .before .before .sign .ensures) (c .places .ensures)
 

@@ -7,22 +7,16 @@ use Rattle.words.proofs.Written.{prints}
 use borrow.Author.Needs.{needs}
 use Rattle.words.proofs.byte.Statement.{statement}
 use Rattle.words.proofs.byte.Tie as tie
-use Rattle.words.proofs.byte.Reads as reads
-use Rattle.words.proofs.byte.Lts as lts
 
--- src/write.rt:89:5
 slice-write-out : tie.Need-slice-write-out
 slice-write-out c = search needs
 
--- src/write.rt:90:5
 add-result : tie.Need-add-result
 add-result c = search needs
 
--- src/write.rt:85:1
 same-length : tie.Need-same-length
 same-length c = search needs
 
--- src/write.rt:85:1
 returns : tie.Need-returns
 returns c = prints (now (c .args .out)) (c .args .b ∷ []) (c .args .to) 1 (omega arith) (omega arith) _ refl
 

@@ -5,79 +5,58 @@ use Rattle.words.proofs.Written.{run}
 use borrow.Author.Needs.{needs}
 use Rattle.words.proofs.copy_eight.Statement.{statement}
 use Rattle.words.proofs.copy_eight.Tie as tie
-use Rattle.words.proofs.copy_eight.Reads as reads
-use Rattle.words.proofs.copy_eight.Lts as lts
-use Rattle.words.proofs.store.Reads as store-reads
 
--- src/write.rt:58:13
 shared-slice-read-a : tie.Need-shared-slice-read-a
 shared-slice-read-a c = search needs
 
--- src/write.rt:59:17
 add-b : tie.Need-add-b
 add-b c = search needs
 
--- src/write.rt:59:13
 shared-slice-read-b : tie.Need-shared-slice-read-b
 shared-slice-read-b c = search needs
 
--- src/write.rt:60:17
 add-c : tie.Need-add-c
 add-c c = search needs
 
--- src/write.rt:60:13
 shared-slice-read-c : tie.Need-shared-slice-read-c
 shared-slice-read-c c = search needs
 
--- src/write.rt:61:17
 add-d : tie.Need-add-d
 add-d c = search needs
 
--- src/write.rt:61:13
 shared-slice-read-d : tie.Need-shared-slice-read-d
 shared-slice-read-d c = search needs
 
--- src/write.rt:62:17
 add-e : tie.Need-add-e
 add-e c = search needs
 
--- src/write.rt:62:13
 shared-slice-read-e : tie.Need-shared-slice-read-e
 shared-slice-read-e c = search needs
 
--- src/write.rt:63:17
 add-f : tie.Need-add-f
 add-f c = search needs
 
--- src/write.rt:63:13
 shared-slice-read-f : tie.Need-shared-slice-read-f
 shared-slice-read-f c = search needs
 
--- src/write.rt:64:17
 add-g : tie.Need-add-g
 add-g c = search needs
 
--- src/write.rt:64:13
 shared-slice-read-g : tie.Need-shared-slice-read-g
 shared-slice-read-g c = search needs
 
--- src/write.rt:65:17
 add-h : tie.Need-add-h
 add-h c = search needs
 
--- src/write.rt:65:13
 shared-slice-read-h : tie.Need-shared-slice-read-h
 shared-slice-read-h c = search needs
 
--- src/write.rt:66:5
 store-requires : tie.Need-store-requires
 store-requires c κs = search needs
 
--- src/write.rt:54:1
 same-length : tie.Need-same-length
 same-length c = search needs
 
--- src/write.rt:54:1
 returns : tie.Need-returns
 returns c = c .before .before .store .ensures ∙ ap (sets (c .before .before .before .before .before .before .before .before .before .before .before .before .before .before .args .out .now) (c .before .before .before .before .before .before .before .before .before .before .before .before .before .before .args .to)) (run (c .before .before .before .before .before .before .before .before .before .before .before .before .before .before .args .src .now) (c .before .before .before .before .before .before .before .before .before .before .before .before .before .before .args .from) (c .before .before .before .before .before .before .before .before .before .before .before .before .before .before .pre .0))
 

@@ -7,82 +7,60 @@ use Rattle.words.proofs.Written.{whole, exact}
 use borrow.Author.Needs.{needs}
 use Rattle.words.proofs.name.Statement.{statement}
 use Rattle.words.proofs.name.Tie as tie
-use Rattle.words.proofs.name.Reads as reads
-use Rattle.words.proofs.name.Lts as lts
-use Rattle.runs.proofs.copy.Reads as copy-reads
-use Rattle.words.proofs.copy_eight.Reads as copy-eight-reads
 
--- src/write.rt:74:13
 shared-slice-read-n : tie.Need-shared-slice-read-n
 shared-slice-read-n c = search needs
 
--- src/write.rt:74:13
 cast-n : tie.Need-cast-n
 cast-n c = search needs
 
--- src/write.rt:75:16
 add-from : tie.Need-add-from
 add-from c = search needs
 
--- src/write.rt:76:8
 add-if1 : tie.Need-add-if1
 add-if1 c = search needs
 
--- src/write.rt:77:9
 copy-eight-requires : tie.Need-copy-eight-requires
 copy-eight-requires c κs = search needs
 
--- src/write.rt:78:23
 add-copy-eight : tie.Need-add-copy-eight
 add-copy-eight c = search needs
 
--- src/write.rt:78:38
 add-copy-eight-2 : tie.Need-add-copy-eight-2
 add-copy-eight-2 c = search needs
 
--- src/write.rt:78:9
 copy-eight-requires-2 : tie.Need-copy-eight-requires-2
 copy-eight-requires-2 c κs = search needs
 
--- src/write.rt:79:23
 add-copy-eight-3 : tie.Need-add-copy-eight-3
 add-copy-eight-3 c = search needs
 
--- src/write.rt:79:39
 add-copy-eight-4 : tie.Need-add-copy-eight-4
 add-copy-eight-4 c = search needs
 
--- src/write.rt:79:9
 copy-eight-requires-3 : tie.Need-copy-eight-requires-3
 copy-eight-requires-3 c κs = search needs
 
--- src/write.rt:80:16
 add-result : tie.Need-add-result
 add-result c = search needs
 
--- src/write.rt:80:9
 same-length : tie.Need-same-length
 same-length c = search needs
 
--- src/write.rt:80:9
 returns : tie.Need-returns
 returns c =
     let a = c .before .before .before .before .before .before .before .before .before .before .before .before .before .before .before .before .args in
     whole (now (a .s)) (now (a .out)) _ _ _ (a .at + 1) (a .to) (getD (now (a .s)) (a .at) 0) (c .before .before .before .before .before .before .before .before .before .before .before .before .before .before .before .before .pre .0) (omega arith) (c .before .before .before .before .before .before .before .before .before .before .before .before .before .before .before .before .pre .2) (c .before .before .before .before .before .before .before .before .before .before .copy-eight .ensures) (c .before .before .before .before .before .before .copy-eight2 .ensures) (c .before .before .copy-eight3 .ensures)
 
--- src/write.rt:82:25
 add-copy : tie.Need-add-copy
 add-copy c = search needs
 
--- src/write.rt:82:5
 copy-requires : tie.Need-copy-requires
 copy-requires c κs = search needs
 
--- src/write.rt:70:1
 same-length-2 : tie.Need-same-length-2
 same-length-2 c = search needs
 
--- src/write.rt:70:1
 returns-2 : tie.Need-returns-2
 returns-2 c =
     let a = c .before .before .before .before .before .before .before .before .args in

@@ -4,55 +4,40 @@ use Rattle.words.proofs.Written.{prints}
 use borrow.Author.Needs.{needs}
 use Rattle.words.proofs.number.Statement.{statement}
 use Rattle.words.proofs.number.Tie as tie
-use Rattle.words.proofs.number.Reads as reads
-use Rattle.words.proofs.number.Lts as lts
-use Rattle.words.proofs.store.Reads as store-reads
 
--- src/write.rt:41:9
 cast-store : tie.Need-cast-store
 cast-store c = search needs
 
--- src/write.rt:42:9
 cast-store-2 : tie.Need-cast-store-2
 cast-store-2 c = search needs
 
--- src/write.rt:43:9
 cast-store-3 : tie.Need-cast-store-3
 cast-store-3 c = search needs
 
--- src/write.rt:44:9
 cast-store-4 : tie.Need-cast-store-4
 cast-store-4 c = search needs
 
--- src/write.rt:45:9
 cast-store-5 : tie.Need-cast-store-5
 cast-store-5 c = search needs
 
--- src/write.rt:46:9
 cast-store-6 : tie.Need-cast-store-6
 cast-store-6 c = search needs
 
--- src/write.rt:47:9
 cast-store-7 : tie.Need-cast-store-7
 cast-store-7 c = search needs
 
--- src/write.rt:48:9
 cast-store-8 : tie.Need-cast-store-8
 cast-store-8 c = search needs
 
--- src/write.rt:38:5
 store-requires : tie.Need-store-requires
 store-requires c κs = search needs
 
--- src/write.rt:50:5
 add-result : tie.Need-add-result
 add-result c = search needs
 
--- src/write.rt:34:1
 same-length : tie.Need-same-length
 same-length c = search needs
 
--- src/write.rt:34:1
 returns : tie.Need-returns
 returns c = prints (c .before .before .before .before .before .args .out .now) (eight (c .before .before .before .before .before .args .w)) (c .before .before .before .before .before .args .to) (c .before .before .before .before .before .args .n) (c .before .before .before .before .before .pre .0) (c .before .before .before .before .before .pre .1) _ (c .before .before .store .ensures)
 

@@ -5,74 +5,55 @@ use Rattle.words.proofs.Written.{stores}
 use borrow.Author.Needs.{needs}
 use Rattle.words.proofs.store.Statement.{statement}
 use Rattle.words.proofs.store.Tie as tie
-use Rattle.words.proofs.store.Reads as reads
-use Rattle.words.proofs.store.Lts as lts
 
--- src/write.rt:14:5
 slice-write-out : tie.Need-slice-write-out
 slice-write-out c = search needs
 
--- src/write.rt:15:9
 add-out : tie.Need-add-out
 add-out c = search needs
 
--- src/write.rt:15:5
 slice-write-out-2 : tie.Need-slice-write-out-2
 slice-write-out-2 c = simp length-set (omega arith)
 
--- src/write.rt:16:9
 add-out-2 : tie.Need-add-out-2
 add-out-2 c = search needs
 
--- src/write.rt:16:5
 slice-write-out-3 : tie.Need-slice-write-out-3
 slice-write-out-3 c = simp length-set (omega arith)
 
--- src/write.rt:17:9
 add-out-3 : tie.Need-add-out-3
 add-out-3 c = search needs
 
--- src/write.rt:17:5
 slice-write-out-4 : tie.Need-slice-write-out-4
 slice-write-out-4 c = simp length-set (omega arith)
 
--- src/write.rt:18:9
 add-out-4 : tie.Need-add-out-4
 add-out-4 c = search needs
 
--- src/write.rt:18:5
 slice-write-out-5 : tie.Need-slice-write-out-5
 slice-write-out-5 c = simp length-set (omega arith)
 
--- src/write.rt:19:9
 add-out-5 : tie.Need-add-out-5
 add-out-5 c = search needs
 
--- src/write.rt:19:5
 slice-write-out-6 : tie.Need-slice-write-out-6
 slice-write-out-6 c = simp length-set (omega arith)
 
--- src/write.rt:20:9
 add-out-6 : tie.Need-add-out-6
 add-out-6 c = search needs
 
--- src/write.rt:20:5
 slice-write-out-7 : tie.Need-slice-write-out-7
 slice-write-out-7 c = simp length-set (omega arith)
 
--- src/write.rt:21:9
 add-out-7 : tie.Need-add-out-7
 add-out-7 c = search needs
 
--- src/write.rt:21:5
 slice-write-out-8 : tie.Need-slice-write-out-8
 slice-write-out-8 c = simp length-set (omega arith)
 
--- src/write.rt:10:1
 same-length : tie.Need-same-length
 same-length c = search needs
 
--- src/write.rt:10:1
 returns : tie.Need-returns
 returns c = stores (c .args .out .now) (c .args .to) (c .args .a) (c .args .b) (c .args .c) (c .args .d) (c .args .e) (c .args .f) (c .args .g) (c .args .h)
 

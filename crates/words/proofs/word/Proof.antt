@@ -8,55 +8,40 @@ use Rattle.words.proofs.Written.{prints, run}
 use borrow.Author.Needs.{needs}
 use Rattle.words.proofs.word.Statement.{statement}
 use Rattle.words.proofs.word.Tie as tie
-use Rattle.words.proofs.word.Reads as reads
-use Rattle.words.proofs.word.Lts as lts
-use Rattle.words.proofs.store.Reads as store-reads
 
--- src/write.rt:29:20
 element-copy-out-store : tie.Need-element-copy-out-store
 element-copy-out-store c = search needs
 
--- src/write.rt:29:26
 element-copy-out-store-2 : tie.Need-element-copy-out-store-2
 element-copy-out-store-2 c = search needs
 
--- src/write.rt:29:32
 element-copy-out-store-3 : tie.Need-element-copy-out-store-3
 element-copy-out-store-3 c = search needs
 
--- src/write.rt:29:38
 element-copy-out-store-4 : tie.Need-element-copy-out-store-4
 element-copy-out-store-4 c = search needs
 
--- src/write.rt:29:44
 element-copy-out-store-5 : tie.Need-element-copy-out-store-5
 element-copy-out-store-5 c = search needs
 
--- src/write.rt:29:50
 element-copy-out-store-6 : tie.Need-element-copy-out-store-6
 element-copy-out-store-6 c = search needs
 
--- src/write.rt:29:56
 element-copy-out-store-7 : tie.Need-element-copy-out-store-7
 element-copy-out-store-7 c = search needs
 
--- src/write.rt:29:62
 element-copy-out-store-8 : tie.Need-element-copy-out-store-8
 element-copy-out-store-8 c = search needs
 
--- src/write.rt:29:5
 store-requires : tie.Need-store-requires
 store-requires c κs = search needs
 
--- src/write.rt:30:5
 add-result : tie.Need-add-result
 add-result c = search needs
 
--- src/write.rt:25:1
 same-length : tie.Need-same-length
 same-length c = search needs
 
--- src/write.rt:25:1
 returns : tie.Need-returns
 returns c =
     let a = c .before .before .before .before .before .before .before .before .before .before .before .before .before .args in
