@@ -18,14 +18,13 @@ test:
 
 # What is run and not proved: header and library fit, the model answers as document 01 says, the port answers as the model does.
 hosted: library
-	@gcc -std=c99 $(WARN) host/c/smoke.c target/staticlib/libentry.a -o host/target/smoke && host/target/smoke
+	@gcc -std=c99 $(WARN) host/c/smoke.c host/target/library/libentry.a -o host/target/smoke && host/target/smoke
 	@gcc -x c++ $(WARN) -c host/c/smoke.c -o host/target/smoke.o
 	@cargo test $(CARGO) -p patch-model -p lolli-extract
 	@cargo run $(CARGO) -p differential
 
 library:
-	@mkdir -p host/target
-	@rt staticlib entry > host/target/library.log 2>&1 || { cat host/target/library.log; exit 1; }
+	@host/library.sh
 
 # The text of a formula, by way of the proved library.
 run: library
