@@ -6,7 +6,7 @@ CARGO := --release --offline --locked --quiet --manifest-path host/Cargo.toml
 VERDICT := host/target/verdict
 WARN := -Iinclude -Wall -Wextra -Wpedantic -Werror
 
-.PHONY: test hosted library run bench
+.PHONY: test hosted library run bench cases
 
 # rt ci proves every crate from nothing; the static library is then built from what it has just proved. Its last line, the verdict, is kept
 # back until the runs over that library have passed too, so that it is the last line of all and nothing is proved twice.
@@ -32,3 +32,8 @@ run: library
 
 bench: library
 	@cargo run $(CARGO) -p bench -- $(MODE)
+
+# The list of the Rust's answers that crates/cases proves the rules by.
+cases:
+	@cargo run $(CARGO) -p cases > host/target/cases.antt
+	@mv host/target/cases.antt crates/cases/specs/RustCases.antt

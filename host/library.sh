@@ -40,3 +40,4 @@ RATTLE_HOME=$mirror staticlib
 "$kit/$tools/bin/clang" --target="$(gcc -dumpmachine)" -O3 -fPIC -ffunction-sections -Wno-override-module -c -x ir "$out/module.bc" -o "$out/entry.o" 2>>"$log"
 rm -f "$out/libentry.a"
 ar rcs "$out/libentry.a" "$out/entry.o"
+rm -rf "$mirror"
