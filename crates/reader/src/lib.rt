@@ -3,7 +3,7 @@ ghost use mathlib.Core.Path.{_≡_};
 ghost use Prim.Native.Nat.{ℕ, _≤_};
 ghost use lib.ListN.{length};
 ghost use Rattle.rules.specs.Limits.{Limits, limits};
-ghost use Rattle.rules.specs.Refusal.{mapped, answered};
+ghost use Rattle.rules.specs.Refusal.{refuse, mapped, answered};
 ghost use Rattle.rules.specs.Term.{nodes as nodeCount};
 ghost use Rattle.rules.specs.Formula.{formulaNodes};
 ghost use Rattle.rules.specs.Reading.{node, readTerm, readFormula, readName};
@@ -33,6 +33,16 @@ pub enum Form {
     Formula,
 }
 
+fn refused(number: u8, place: usize, input: u8) -> Answer
+    ensures { λ r. ⌜ r ≡ answered (refuse number place input) ⌝ }
+{
+    Answer::Refused(Refusal {
+        number,
+        place,
+        input,
+    })
+}
+
 // Reads one node from the start, by the form's table.
 fn read_first(s: &[u8], form: Form, most: usize) -> Read
     requires { ⌜ most ≤ 65536 ⌝ }
@@ -50,29 +60,17 @@ fn check_within(s: &[u8], form: Form, bytes: usize, most: usize, input: u8) -> A
     ensures { λ r. ⌜ ((L : Limits) → L .bytes ≡ bytes → mostOf form L ≡ most → r ≡ answered (mapped (countOf form) (readOf form L input (now (s .entry))))) ⌝ }
 {
     if bytes < s.len() {
-        return Answer::Refused(Refusal {
-            number: 2,
-            place: bytes,
-            input,
-        });
+        return refused(2, bytes, input);
     }
     match read_first(s, form, most) {
         Read::Whole { next, met } => {
             if next < s.len() {
-                Answer::Refused(Refusal {
-                    number: 7,
-                    place: next,
-                    input,
-                })
+                refused(7, next, input)
             } else {
                 Answer::Good(met)
             }
         }
-        Read::Bad { number, place } => Answer::Refused(Refusal {
-            number,
-            place,
-            input,
-        }),
+        Read::Bad { number, place } => refused(number, place, input),
     }
 }
 
@@ -106,25 +104,13 @@ pub fn name_input(s: &[u8], input: u8) -> Answer
     ensures { λ r. ⌜ r ≡ answered (mapped length (readName input (now (s .entry)))) ⌝ }
 {
     if s.len() < 1 {
-        return Answer::Refused(Refusal {
-            number: 5,
-            place: 0,
-            input,
-        });
+        return refused(5, 0, input);
     }
     if longest_name(Form::Term) < s.len() {
-        return Answer::Refused(Refusal {
-            number: 5,
-            place: 0,
-            input,
-        });
+        return refused(5, 0, input);
     }
     match skip_letters(s, &TERM_CLASSES, 0, s.len()) {
         Skip::To(next) => Answer::Good(next),
-        Skip::Fault { number, place } => Answer::Refused(Refusal {
-            number,
-            place,
-            input,
-        }),
+        Skip::Fault { number, place } => refused(number, place, input),
     }
 }
