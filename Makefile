@@ -20,7 +20,7 @@ test:
 hosted: library
 	@gcc -std=c99 $(WARN) host/c/smoke.c host/target/library/libentry.a -o host/target/smoke && host/target/smoke
 	@gcc -x c++ $(WARN) -c host/c/smoke.c -o host/target/smoke.o
-	@cargo test $(CARGO) -p patch-model -p lolli-extract
+	@cargo test $(CARGO) -p patch-model -p lolli-extract -p cases
 	@cargo run $(CARGO) -p differential
 
 library:
