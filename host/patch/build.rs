@@ -1,9 +1,9 @@
-//! Links the proved library, which `rt staticlib entry` writes; PATCH_LIBRARY names another folder.
+//! Links the proved library, which host/library.sh writes; PATCH_LIBRARY names another folder.
 
 use std::{env, path::PathBuf};
 
 fn main() {
-    let own = PathBuf::from(env::var("CARGO_MANIFEST_DIR").unwrap()).join("../../target/staticlib");
+    let own = PathBuf::from(env::var("CARGO_MANIFEST_DIR").unwrap()).join("../target/library");
     let folder = env::var_os("PATCH_LIBRARY").map_or(own, PathBuf::from);
     let library = folder.join("libentry.a");
     println!("cargo:rerun-if-env-changed=PATCH_LIBRARY");

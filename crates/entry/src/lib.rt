@@ -2,6 +2,9 @@
 // An entry tells its answer in an array of 16 numbers, whose length is part of its type, so no caller can lend too few and the entry needs no
 // refusal of its own. What the numbers are is defined in specs/Told.antt.
 ghost use mathlib.Core.Path.{_≡_};
+ghost use Rattle.rules.specs.Limits.{limits};
+ghost use Rattle.rules.specs.Refusal.{answered};
+ghost use Rattle.rules.specs.Calls.{checkTermCall, checkFormulaCall};
 ghost use Rattle.entry.specs.Told.{toldAnswer};
 use rules::Answer;
 
@@ -20,4 +23,18 @@ fn tell(answer: Answer, told: &mut [u64; 16])
             *told = [number, place, input, 0, 0, 0, 0, 0, 0, 0, 0, 0, 0, 0, 0, 0];
         }
     }
+}
+
+#[no_mangle]
+pub extern "C" fn patch_check_formula(formula: &[u8], answer: &mut [u64; 16])
+    ensures { λ _. ⌜ now (answer .exit) ≡ toldAnswer (answered (checkFormulaCall limits (now (formula .entry)))) ⌝ }
+{
+    tell(reader::check_formula(formula), answer);
+}
+
+#[no_mangle]
+pub extern "C" fn patch_check_term(term: &[u8], answer: &mut [u64; 16])
+    ensures { λ _. ⌜ now (answer .exit) ≡ toldAnswer (answered (checkTermCall limits (now (term .entry)))) ⌝ }
+{
+    tell(reader::check_term(term), answer);
 }

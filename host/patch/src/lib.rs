@@ -1,80 +1,37 @@
 //! The engine for Rust programs: safe functions over the C entry points (include/patch.h).
-//! Every function takes whatever bytes it is handed and ends. Those that are lent an output leave in it the answer and then zeros, or, refused,
-//! what was there; those that return bytes lend it themselves.
+//! Every function takes whatever bytes it is handed and ends. Those that are lent an output (`.._to`) leave in it the answer and then zeros, or,
+//! refused, what was there; the others lend it themselves.
 
 mod raw;
+mod refusal;
 
-pub use raw::ANSWER;
+pub use refusal::{Reason, Refusal};
 
 /// The least length of a lent output for the text of a formula.
 pub const FORMULA_TEXT_ROOM: usize = 11264;
-
-/// Why a call is refused, with the number that the rules give it.
-#[derive(Clone, Copy, Debug, PartialEq, Eq)]
-pub enum Reason {
-    ShortBuffer = 1,
-    InputTooLong = 2,
-    EndsInside = 3,
-    NotListed = 4,
-    BadName = 5,
-    OneTooMany = 6,
-    LeftOver = 7,
-    Outgrows = 8,
-    CounterOver = 9,
-    StoredLength = 10,
-    BlockCheck = 11,
-    BlockHead = 12,
-    UnusedNotZero = 13,
-    NoSuchChild = 14,
-}
-
-const REASONS: [Reason; 14] = [
-    Reason::ShortBuffer,
-    Reason::InputTooLong,
-    Reason::EndsInside,
-    Reason::NotListed,
-    Reason::BadName,
-    Reason::OneTooMany,
-    Reason::LeftOver,
-    Reason::Outgrows,
-    Reason::CounterOver,
-    Reason::StoredLength,
-    Reason::BlockCheck,
-    Reason::BlockHead,
-    Reason::UnusedNotZero,
-    Reason::NoSuchChild,
-];
-
-/// A refusal: why, where, and which input it is about: 1 for the first, 0 for none.
-#[derive(Clone, Copy, Debug, PartialEq, Eq)]
-pub struct Refusal {
-    pub reason: Reason,
-    pub place: usize,
-    pub input: u8,
-}
-
-impl std::fmt::Display for Refusal {
-    fn fmt(&self, f: &mut std::fmt::Formatter) -> std::fmt::Result {
-        write!(f, "refused {} at {}", self.reason as u8, self.place)
-    }
-}
-
-impl std::error::Error for Refusal {}
 
 /// A count (the bytes written, or the nodes of what was read), or a refusal.
 pub type Answer = Result<usize, Refusal>;
 
 /// What an entry point told: its values, or the refusal.
-fn told(answer: [u64; ANSWER]) -> Result<[u64; 13], Refusal> {
-    if answer[0] == 0 {
-        return Ok(answer[3..].try_into().unwrap());
+fn told(answer: raw::Told) -> Result<[u64; 13], Refusal> {
+    let [number, place, input, values @ ..] = answer;
+    match Refusal::told(number, place, input) {
+        Some(refusal) => Err(refusal),
+        None => Ok(values),
     }
-    let reason = REASONS[answer[0] as usize - 1];
-    Err(Refusal { reason, place: answer[1] as usize, input: answer[2] as u8 })
 }
 
-fn count(answer: [u64; ANSWER]) -> Answer {
+fn count(answer: raw::Told) -> Answer {
     Ok(told(answer)?[0] as usize)
+}
+
+/// The answer of a call that writes to an output of this room.
+fn written(room: usize, call: impl FnOnce(&mut [u8]) -> Answer) -> Result<Vec<u8>, Refusal> {
+    let mut out = vec![0; room];
+    let length = call(&mut out)?;
+    out.truncate(length);
+    Ok(out)
 }
 
 /// Whether a formula is legal: its nodes, or a refusal.
@@ -94,8 +51,6 @@ pub fn formula_text_to(formula: &[u8], out: &mut [u8]) -> Answer {
 
 /// The printed text of a formula.
 pub fn formula_text(formula: &[u8]) -> Result<String, Refusal> {
-    let mut out = vec![0; FORMULA_TEXT_ROOM];
-    let length = formula_text_to(formula, &mut out)?;
-    out.truncate(length);
-    Ok(String::from_utf8(out).expect("printed text is UTF-8"))
+    let text = written(FORMULA_TEXT_ROOM, |out| formula_text_to(formula, out))?;
+    Ok(String::from_utf8(text).expect("printed text is UTF-8"))
 }

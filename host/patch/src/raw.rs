@@ -4,28 +4,22 @@
 /// How many numbers an entry point tells.
 pub const ANSWER: usize = 16;
 
-type Told = [u64; ANSWER];
+pub type Told = [u64; ANSWER];
 
-extern "C" {
-    fn patch_check_formula(formula: *const u8, formula_length: usize, answer: *mut Told);
-    fn patch_check_term(term: *const u8, term_length: usize, answer: *mut Told);
-    fn patch_formula_text(formula: *const u8, formula_length: usize, out: *mut u8, out_length: usize, answer: *mut Told);
+/// A function on slices over an entry point: its inputs, a number if it takes one, and what it is lent.
+macro_rules! entry {
+    ($name:ident = $symbol:ident($($input:ident),*) $(with($number:ident: $type:ty))? $(lent($($lent:ident),*))?) => {
+        pub fn $name($($input: &[u8],)* $($number: $type,)? $($($lent: &mut [u8],)*)?) -> Told {
+            extern "C" {
+                fn $symbol($($input: *const u8, _: usize,)* $($number: $type,)? $($($lent: *mut u8, _: usize,)*)? answer: *mut Told);
+            }
+            let mut answer = [0; ANSWER];
+            unsafe { $symbol($($input.as_ptr(), $input.len(),)* $($number,)? $($($lent.as_mut_ptr(), $lent.len(),)*)? &mut answer) };
+            answer
+        }
+    };
 }
 
-pub fn check_formula(formula: &[u8]) -> Told {
-    let mut answer = [0; ANSWER];
-    unsafe { patch_check_formula(formula.as_ptr(), formula.len(), &mut answer) };
-    answer
-}
-
-pub fn check_term(term: &[u8]) -> Told {
-    let mut answer = [0; ANSWER];
-    unsafe { patch_check_term(term.as_ptr(), term.len(), &mut answer) };
-    answer
-}
-
-pub fn formula_text(formula: &[u8], out: &mut [u8]) -> Told {
-    let mut answer = [0; ANSWER];
-    unsafe { patch_formula_text(formula.as_ptr(), formula.len(), out.as_mut_ptr(), out.len(), &mut answer) };
-    answer
-}
+entry!(check_formula = patch_check_formula(formula));
+entry!(check_term = patch_check_term(term));
+entry!(formula_text = patch_formula_text(formula) lent(out));
