@@ -8,9 +8,9 @@ use native.Mathlib.Numerals.{add-one}
 use native.Mathlib.Omega.{arith}
 use lib.Bits.{bitOr, bitAnd, or-add-and, and-le-l, and-le-r, or-zero-l}
 use lib.Dec.{eqb}
-use lib.ListN.{length, drop, getD, replicate, drop-of-length-le}
+use lib.ListN.{length, take, drop, getD, replicate, drop-of-length-le, take-append-drop}
 use lib.Seq.{drop-cons}
-use borrow.Author.Tests.{eq-eqb, ne-eqb}
+use borrow.Author.Tests.{eqb-true, ne-eqb}
 use Rattle.rules.specs.Basic.{Bytes}
 use Rattle.rules.specs.Stored.{weighed, allZero}
 
@@ -69,3 +69,26 @@ pub drop-down : (s : Bytes) (i : ℕ) → 0 < i → i ≤ length s → drop (i -
 drop-down s i p h =
     let q : suc (i - 1) ≡ i = omega arith in
     drop-cons s (i - 1) 0 (omega arith) ∙ ap (λ (k : ℕ). getD s (i - 1) 0 ∷ drop k s) q
+
+pub and-left : (a b : Bool) → (a && b) ≡ true → a ≡ true
+and-left true b e = refl
+and-left false b e = e
+
+pub and-right : (a b : Bool) → (a && b) ≡ true → b ≡ true
+and-right true b e = e
+and-right false b e = absurd (let z : _≡_ {A = ℕ} 0 1 = cc in omega arith)
+
+pub zeros-are : (s : Bytes) → allZero s ≡ true → s ≡ replicate (length s) 0
+zeros-are [] e = refl
+zeros-are (b ∷ s) e = rw (eqb-true b 0 (and-left (eqb b 0) (allZero s) e), ← (zeros-are s (and-right (eqb b 0) (allZero s) e)))
+
+pub are-zeros : (n : ℕ) → allZero (replicate n 0) ≡ true
+are-zeros zero = refl
+are-zeros (suc n) = are-zeros n
+
+-- bytes that are zero from a place on weigh what those before it weigh
+pub weighed-clean : (s : Bytes) (end : ℕ) → allZero (drop end s) ≡ true → weighed 0 (take end s) ≡ weighed 0 s
+weighed-clean s end e =
+    sym (weighed-zeros 0 (take end s) (length (drop end s)))
+    ∙ ap (λ (r : Bytes). weighed 0 (take end s ++ r)) (sym (zeros-are (drop end s) e))
+    ∙ ap (weighed 0) (take-append-drop end s)

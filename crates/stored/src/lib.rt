@@ -1,2 +1,4 @@
 // The stored form: a term or a proof as blocks of 512 bytes, each with its check.
 mod sums;
+
+mod block;

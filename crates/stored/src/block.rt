@@ -1,0 +1,64 @@
+// One block: kind, number, content length, 506 content bytes, check. Written, and opened.
+use rules::Answer;
+use rules::Kind;
+use rules::Refusal;
+use crate::sums::weigh;
+ghost use mathlib.Core.Path.{_≡_};
+ghost use Prim.Native.Nat.{_+_, _*_, _/_, _≤_, _<_};
+ghost use lib.ListN.{length, take, drop};
+ghost use Rattle.rules.specs.Limits.{limits, blocksFor};
+ghost use Rattle.rules.specs.Refusal.{mapped, answered};
+ghost use Rattle.rules.specs.Stored.{kindByte, check, blockBody, block as blockOf, blockAt, two-bytes, allZero, usedIn, headWrong, openBlock};
+
+pub const BLOCK_BYTES: usize = 512;
+
+pub const BLOCK_CONTENT: usize = 506;
+
+pub fn kind_byte(kind: Kind) -> u8
+    ensures { λ r. ⌜ r ≡ kindByte kind ⌝ }
+{
+    match kind {
+        Kind::Term => 1,
+        Kind::Proof => 2,
+    }
+}
+
+// How many blocks hold so much content.
+pub fn blocks_for(length: usize) -> usize
+    requires { ⌜ length ≤ 65535 ⌝ }
+    ensures { λ r. ⌜ r ≡ blocksFor length ⌝ }
+{
+    (length + 505) / BLOCK_CONTENT
+}
+
+// How much of a block is content, of so many bytes in all.
+pub fn used_in(length: usize, number: usize) -> usize
+    requires { ⌜ number < 256 ⌝ }
+    ensures { λ r. ⌜ r ≡ usedIn length number ⌝ }
+{
+    let before = number * BLOCK_CONTENT;
+    if length <= before {
+        return 0;
+    }
+    let left = length - before;
+    if left < BLOCK_CONTENT { left } else { BLOCK_CONTENT }
+}
+
+// The number that two bytes make, low byte first.
+pub fn two_bytes(s: &[u8], at: usize) -> usize
+    requires { ⌜ at + 1 < length (now s) ⌝ }
+    ensures { λ r. ⌜ r ≡ two-bytes (now (s .entry)) at ⌝ }
+{
+    s[at] as usize + 256 * s[at + 1] as usize
+}
+
+// The check of a block's first 510 bytes, of which `clean` says whether they are zero from `end` on.
+pub fn check_of(block: &[u8], end: usize, clean: bool) -> usize
+    requires { ⌜ (end ≤ 510) × (length (now block) ≡ 512) × (clean ≡ allZero (drop end (take 510 (now block)))) ⌝ }
+    ensures { λ r. ⌜ r ≡ check (take 510 (now (block .entry))) ⌝ }
+{
+    if clean {
+        return weigh(&block[..end]) as usize % 65521;
+    }
+    weigh(&block[..510]) as usize % 65521
+}
