@@ -1,8 +1,10 @@
 // One block: kind, number, content length, 506 content bytes, check. Written, and opened.
+use crate::sums::weigh;
+use crate::sums::zero_from;
 use rules::Answer;
 use rules::Kind;
+use rules::MOST_BYTES;
 use rules::Refusal;
-use crate::sums::weigh;
 ghost use mathlib.Core.Path.{_≡_};
 ghost use Prim.Native.Nat.{_+_, _*_, _/_, _≤_, _<_};
 ghost use lib.ListN.{length, take, drop};
@@ -41,7 +43,11 @@ pub fn used_in(length: usize, number: usize) -> usize
         return 0;
     }
     let left = length - before;
-    if left < BLOCK_CONTENT { left } else { BLOCK_CONTENT }
+    if left < BLOCK_CONTENT {
+        left
+    } else {
+        BLOCK_CONTENT
+    }
 }
 
 // The number that two bytes make, low byte first.
@@ -61,4 +67,59 @@ pub fn check_of(block: &[u8], end: usize, clean: bool) -> usize
         return weigh(&block[..end]) as usize % 65521;
     }
     weigh(&block[..510]) as usize % 65521
+}
+
+// Refusal 12: kind, number, length, or the length and block 0 or the file's size do not go together.
+pub fn head_wrong(kind: Kind, file: &[u8], number: usize, block: &[u8]) -> bool
+    requires { ⌜ (4 ≤ length (now file)) × (4 ≤ length (now block)) ⌝ }
+    ensures { λ r. ⌜ r ≡ headWrong limits kind (now (file .entry)) number (now (block .entry)) ⌝ }
+{
+    if block[0] != kind_byte(kind) {
+        return true;
+    }
+    if block[1] as usize != number {
+        return true;
+    }
+    let length = two_bytes(block, 2);
+    if length < 1 {
+        return true;
+    }
+    if MOST_BYTES < length {
+        return true;
+    }
+    if length != two_bytes(file, 2) {
+        return true;
+    }
+    blocks_for(length) != file.len() / BLOCK_BYTES
+}
+
+// Opens a block of a file: 11, 12, 13 in that order, or how much of it is content.
+pub fn open_block(kind: Kind, file: &[u8], number: usize, block: &[u8]) -> Answer
+    requires { ⌜ (number < 256) × (4 ≤ length (now file)) × (length (now block) ≡ 512) ⌝ }
+    ensures { λ r. ⌜ r ≡ answered (mapped length (openBlock limits kind (now (file .entry)) number (now (block .entry)))) ⌝ }
+{
+    let used = used_in(two_bytes(block, 2), number);
+    let end = 4 + used;
+    let clean = zero_from(&block[..510], end);
+    if two_bytes(block, 510) != check_of(block, end, clean) {
+        return refused(11, number);
+    }
+    if head_wrong(kind, file, number, block) {
+        return refused(12, number);
+    }
+    if !clean {
+        return refused(13, number);
+    }
+    Answer::Good(used)
+}
+
+// A refusal that is about the one input.
+pub fn refused(number: u8, place: usize) -> Answer
+    ensures { λ r. ⌜ r ≡ Answer.Refused (record { number = number; place = place; input = 1 }) ⌝ }
+{
+    Answer::Refused(Refusal {
+        number,
+        place,
+        input: 1,
+    })
 }

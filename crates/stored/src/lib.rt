@@ -1,4 +1,3 @@
 // The stored form: a term or a proof as blocks of 512 bytes, each with its check.
-mod sums;
-
 mod block;
+mod sums;
