@@ -1,3 +1,5 @@
 pub mod Weights
 pub mod Heads
 pub mod Opening
+pub mod Writing
+pub mod Blocks

@@ -5,12 +5,19 @@ use rules::Answer;
 use rules::Kind;
 use rules::MOST_BYTES;
 use rules::Refusal;
+use runs::clear;
+use runs::copy;
 ghost use mathlib.Core.Path.{_≡_};
 ghost use Prim.Native.Nat.{_+_, _*_, _/_, _≤_, _<_};
+ghost use mathlib.Core.Bool.{true};
+ghost use mathlib.Core.List.{_∷_, _++_};
 ghost use lib.ListN.{length, take, drop};
+ghost use lib.Seq.{sets};
+ghost use Rattle.rules.specs.Basic.{low-high};
 ghost use Rattle.rules.specs.Limits.{limits, blocksFor};
 ghost use Rattle.rules.specs.Refusal.{mapped, answered};
 ghost use Rattle.rules.specs.Stored.{kindByte, check, blockBody, block as blockOf, blockAt, two-bytes, allZero, usedIn, headWrong, openBlock};
+ghost use Rattle.stored.specs.Writing.{Storable, PutBody};
 
 pub const BLOCK_BYTES: usize = 512;
 
@@ -26,23 +33,23 @@ pub fn kind_byte(kind: Kind) -> u8
 }
 
 // How many blocks hold so much content.
-pub fn blocks_for(length: usize) -> usize
-    requires { ⌜ length ≤ 65535 ⌝ }
-    ensures { λ r. ⌜ r ≡ blocksFor length ⌝ }
+pub fn blocks_for(size: usize) -> usize
+    requires { ⌜ size ≤ 65535 ⌝ }
+    ensures { λ r. ⌜ r ≡ blocksFor size ⌝ }
 {
-    (length + 505) / BLOCK_CONTENT
+    (size + 505) / BLOCK_CONTENT
 }
 
 // How much of a block is content, of so many bytes in all.
-pub fn used_in(length: usize, number: usize) -> usize
+pub fn used_in(size: usize, number: usize) -> usize
     requires { ⌜ number < 256 ⌝ }
-    ensures { λ r. ⌜ r ≡ usedIn length number ⌝ }
+    ensures { λ r. ⌜ r ≡ usedIn size number ⌝ }
 {
-    let before = number * BLOCK_CONTENT;
-    if length <= before {
+    let before = BLOCK_CONTENT * number;
+    if size <= before {
         return 0;
     }
-    let left = length - before;
+    let left = size - before;
     if left < BLOCK_CONTENT {
         left
     } else {
@@ -80,17 +87,17 @@ pub fn head_wrong(kind: Kind, file: &[u8], number: usize, block: &[u8]) -> bool
     if block[1] as usize != number {
         return true;
     }
-    let length = two_bytes(block, 2);
-    if length < 1 {
+    let size = two_bytes(block, 2);
+    if size < 1 {
         return true;
     }
-    if MOST_BYTES < length {
+    if MOST_BYTES < size {
         return true;
     }
-    if length != two_bytes(file, 2) {
+    if size != two_bytes(file, 2) {
         return true;
     }
-    blocks_for(length) != file.len() / BLOCK_BYTES
+    blocks_for(size) != file.len() / BLOCK_BYTES
 }
 
 // Opens a block of a file: 11, 12, 13 in that order, or how much of it is content.
@@ -122,4 +129,48 @@ pub fn refused(number: u8, place: usize) -> Answer
         place,
         input: 1,
     })
+}
+
+// Kind, number and content length, at the start of a block.
+fn put_head(kind: Kind, number: usize, size: usize, block: &mut [u8])
+    requires { ⌜ (number < 256) × (size ≤ 65535) × (4 ≤ length (now block)) ⌝ }
+    ensures { λ _. ⌜ now (block .exit) ≡ sets (now (block .entry)) 0 (kindByte kind ∷ number ∷ low-high size) ⌝ }
+{
+    block[0] = kind_byte(kind);
+    block[1] = number as u8;
+    block[2] = (size % 256) as u8;
+    block[3] = (size / 256) as u8;
+}
+
+// The first 510 bytes of a block: its head, its content, zeros. The answer is where the content ends.
+fn put_body(kind: Kind, number: usize, content: &[u8], block: &mut [u8]) -> usize
+    requires { ⌜ Storable number (now content) (now block) ⌝ }
+    ensures { λ r. ⌜ PutBody kind number (now (content .entry)) (now (block .exit)) r ⌝ }
+{
+    let size = content.len();
+    put_head(kind, number, size, block);
+    let from = BLOCK_CONTENT * number;
+    let end = from + used_in(size, number);
+    let past = copy(content, from, end, block, 4);
+    clear(block, past);
+    past
+}
+
+// The check, behind a body that is zero from `end` on.
+fn put_check(block: &mut [u8], end: usize)
+    requires { ⌜ (end ≤ 510) × (length (now block) ≡ 512) × (allZero (drop end (take 510 (now block))) ≡ true) ⌝ }
+    ensures { λ _. ⌜ now (block .exit) ≡ take 510 (now (block .entry)) ++ low-high (check (take 510 (now (block .entry)))) ⌝ }
+{
+    let check = check_of(block, end, true);
+    block[510] = (check % 256) as u8;
+    block[511] = (check / 256) as u8;
+}
+
+// Writes a block.
+pub fn put_block(kind: Kind, number: usize, content: &[u8], block: &mut [u8])
+    requires { ⌜ Storable number (now content) (now block) ⌝ }
+    ensures { λ _. ⌜ now (block .exit) ≡ blockOf kind number (now (content .entry)) ⌝ }
+{
+    let end = put_body(kind, number, content, block);
+    put_check(block, end);
 }
