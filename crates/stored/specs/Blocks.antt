@@ -4,14 +4,16 @@ use mathlib.Core.Path.{_≡_, refl, sym, ap, _∙_}
 use mathlib.Core.Bool.{Bool, true, false}
 use mathlib.Core.List.{List, [], _∷_, _++_, append-assoc, append-nil}
 use native.Mathlib.Nat.{add-zero}
+use native.Mathlib.Numerals.{add-one}
 use native.Mathlib.Omega.{arith}
 use lib.Dec.{ltb}
-use lib.ListN.{length, set, take, drop, replicate, length-append, length-drop, length-replicate, drop-of-length-le, replicate-append-replicate}
-use lib.Seq.{sets, sets-eq, length-sets, slice, take-all, take-at, drop-at, take-add, length-take-le}
+use lib.ListN.{length, set, take, drop, replicate, length-append, length-take, length-drop, length-replicate, drop-of-length-le, replicate-append-replicate}
+use lib.Seq.{drop-drop, sets, sets-eq, length-sets, slice, take-all, take-at, drop-at, take-add, length-take-le}
 use borrow.Author.Tests.{ltb-true, ltb-false}
 use Rattle.rules.specs.Basic.{Bytes, if_then_else_, low-high}
+use Rattle.rules.specs.Limits.{blocksFor}
 use Rattle.rules.specs.declared.Kind.{Kind}
-use Rattle.rules.specs.Stored.{kindByte, usedIn, padded, allZero}
+use Rattle.rules.specs.Stored.{kindByte, usedIn, padded, allZero, check, blockBody, block, blocks, stored}
 use Rattle.stored.specs.Weights.{are-zeros}
 use Rattle.stored.specs.Opening.{used-le}
 use Rattle.stored.specs.Writing.{PutBody}
@@ -144,3 +146,58 @@ put-last b x y room e =
     ∙ ap (λ (r : Bytes). take 510 b ++ low-high x ++ r) (drop-of-length-le b {i = 510 + 2} (omega arith))
     ∙ append-nil (take 510 b ++ low-high x)
     ∙ ap (λ (n : ℕ). take 510 b ++ low-high n) e
+
+-- lengths
+pub length-padded : (n : ℕ) (t : Bytes) → length (padded n t) ≡ n
+length-padded n t = simp (length-append, length-take, length-replicate) (omega arith)
+
+pub length-blockBody : (k : Kind) (i n : ℕ) (s : Bytes) → length (blockBody k i n s) ≡ 510
+length-blockBody k i n s = let p = length-padded 506 (drop (506 * i) s) in omega arith
+
+pub length-block : (k : Kind) (i : ℕ) (s : Bytes) → length (block k i s) ≡ 512
+length-block k i s =
+    length-append (blockBody k i (length s) s) (low-high (check (blockBody k i (length s) s)))
+    ∙ ap (λ (n : ℕ). n + 2) (length-blockBody k i (length s) s)
+
+pub length-blocks : (k : Kind) (i n : ℕ) (s : Bytes) → length (blocks k i n s) ≡ 512 * n
+unfolding blocks
+length-blocks k i zero s = refl
+length-blocks k i (suc n) s =
+    let e = length-block k i s in
+    let f = length-blocks k (suc i) n s in
+    length-append (block k i s) (blocks k (suc i) n s) ∙ omega arith
+
+pub length-stored : (k : Kind) (s : Bytes) → length (stored k s) ≡ 512 * blocksFor (length s)
+unfolding stored
+length-stored k s = length-blocks k 0 (blocksFor (length s)) s
+
+-- a block put in the middle of a buffer, with more of them to come
+module _ (k : Kind) (s out ys all : Bytes) (i many at : ℕ) (more : i < many) (room : at + 512 ≤ length out) (new : ys ≡ block k i s) where
+  abbrev middle : Bytes
+  middle = take at out ++ (ys ++ drop (at + 512 - at) (drop at out))
+
+  length-new : length ys ≡ 512
+  length-new = ap length new ∙ length-block k i s
+
+  middle-is : middle ≡ sets out at ys
+  middle-is =
+      let e : at + (at + 512 - at) ≡ at + length ys = omega (arith, length-new) in
+      sym
+      (sets-eq ys out at (omega (arith, length-new))
+      ∙ append-assoc (take at out) ys (drop (at + length ys) out)
+      ∙ ap (λ (n : ℕ). take at out ++ (ys ++ drop n out)) (sym e)
+      ∙ ap (λ (r : Bytes). take at out ++ (ys ++ r)) (sym (drop-drop (at + 512 - at) at out)))
+
+  pub length-middle : length middle ≡ length out
+  length-middle = ap length middle-is ∙ length-sets out at ys
+
+  pub more-blocks : sets out at (blocks k i (many - i) s) ≡ all → sets middle (at + 512) (blocks k (i + 1) (many - (i + 1)) s) ≡ all
+  unfolding blocks
+  more-blocks e =
+      let q : many - i ≡ suc (many - (i + 1)) = omega arith in
+      ap (λ (r : Bytes). sets r (at + 512) (blocks k (i + 1) (many - (i + 1)) s)) (middle-is ∙ ap (sets out at) new)
+      ∙ ap (λ (n : ℕ). sets (sets out at (block k i s)) (at + 512) (blocks k n (many - (i + 1)) s)) (add-one i)
+      ∙ ap (λ (n : ℕ). sets (sets out at (block k i s)) (at + n) (blocks k (suc i) (many - (i + 1)) s)) (sym (length-block k i s))
+      ∙ sym (sets-append out at (block k i s) (blocks k (suc i) (many - (i + 1)) s))
+      ∙ sym (ap (λ (n : ℕ). sets out at (blocks k i n s)) q)
+      ∙ e

@@ -3,3 +3,4 @@ pub mod Heads
 pub mod Opening
 pub mod Writing
 pub mod Blocks
+pub mod Gathering

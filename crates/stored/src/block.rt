@@ -15,8 +15,8 @@ ghost use lib.ListN.{length, take, drop};
 ghost use lib.Seq.{sets};
 ghost use Rattle.rules.specs.Basic.{low-high};
 ghost use Rattle.rules.specs.Limits.{limits, blocksFor};
-ghost use Rattle.rules.specs.Refusal.{mapped, answered};
 ghost use Rattle.rules.specs.Stored.{kindByte, check, blockBody, block as blockOf, blockAt, two-bytes, allZero, usedIn, headWrong, openBlock};
+ghost use Rattle.stored.specs.Opening.{OpenedBlock};
 ghost use Rattle.stored.specs.Writing.{Storable, PutBody};
 
 pub const BLOCK_BYTES: usize = 512;
@@ -103,7 +103,7 @@ pub fn head_wrong(kind: Kind, file: &[u8], number: usize, block: &[u8]) -> bool
 // Opens a block of a file: 11, 12, 13 in that order, or how much of it is content.
 pub fn open_block(kind: Kind, file: &[u8], number: usize, block: &[u8]) -> Answer
     requires { ⌜ (number < 256) × (4 ≤ length (now file)) × (length (now block) ≡ 512) ⌝ }
-    ensures { λ r. ⌜ r ≡ answered (mapped length (openBlock limits kind (now (file .entry)) number (now (block .entry)))) ⌝ }
+    ensures { λ r. ⌜ OpenedBlock limits kind (now (file .entry)) number (now (block .entry)) r ⌝ }
 {
     let used = used_in(two_bytes(block, 2), number);
     let end = 4 + used;

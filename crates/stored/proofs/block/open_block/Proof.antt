@@ -2,15 +2,13 @@
 use Prim.Native.Nat.{ℕ, _+_}
 use mathlib.Core.Path.{_≡_, sym, ap, _∙_}
 use native.Mathlib.Omega.{arith}
-use lib.ListN.{length, take, drop}
+use lib.ListN.{take, drop}
 use lib.Seq.{length-take-le}
 use denote.Ref.{now}
-use Rattle.rules.specs.Basic.{Bytes}
 use Rattle.rules.specs.Limits.{limits}
-use Rattle.rules.specs.Refusal.{Outcome, mapped, answered}
-use Rattle.rules.specs.declared.Answer.the-variants.{Good}
-use Rattle.rules.specs.Stored.{usedIn, allZero}
-use Rattle.stored.specs.Opening.{used-le, length-content, opens-11, opens-12, opens-13, opens-good}
+use Rattle.rules.specs.Refusal.{good}
+use Rattle.rules.specs.Stored.{lengthIn, usedIn, allZero}
+use Rattle.stored.specs.Opening.{used-le, opens-11, opens-12, opens-13, opens-good, opened-not}
 use borrow.Author.Needs.{needs}
 use borrow.Author.Tests.{not-true, not-false}
 use Rattle.stored.proofs.block.open_block.Statement.{statement}
@@ -45,10 +43,9 @@ refused-requires c κs = search needs
 returns : tie.Need-returns
 returns c =
     let a = c .before .before .before .before .before .before .before .before .before .before .args in
-    c .refused .ensures
-    ∙ sym
-    (ap (λ (o : Outcome Bytes). answered (mapped length o))
-    (opens-11 limits (a .kind) (now (a .file)) (a .number) (now (a .block)) (λ e. c .before .if1 .taken (c .before .before .before .two-bytes2 .ensures ∙ e ∙ sym (c .before .before .check-of .ensures)))))
+    opened-not limits (a .kind) (now (a .file)) (a .number) (now (a .block)) 11 (c .refused .result)
+    (opens-11 limits (a .kind) (now (a .file)) (a .number) (now (a .block)) (λ e. c .before .if1 .taken (c .before .before .before .two-bytes2 .ensures ∙ e ∙ sym (c .before .before .check-of .ensures))))
+    (c .refused .ensures)
 
 head-wrong-requires : tie.Need-head-wrong-requires
 head-wrong-requires c κs = search needs
@@ -59,12 +56,11 @@ refused-requires-2 c κs = search needs
 returns-2 : tie.Need-returns-2
 returns-2 c =
     let a = c .before .before .before .before .before .before .before .before .before .before .before .before .args in
-    c .refused2 .ensures
-    ∙ sym
-    (ap (λ (o : Outcome Bytes). answered (mapped length o))
+    opened-not limits (a .kind) (now (a .file)) (a .number) (now (a .block)) 12 (c .refused2 .result)
     (opens-12 limits (a .kind) (now (a .file)) (a .number) (now (a .block))
     (sym (c .before .before .before .before .before .two-bytes2 .ensures) ∙ c .before .before .before .if1 .left ∙ c .before .before .before .before .check-of .ensures)
-    (sym (c .before .before .head-wrong .ensures) ∙ c .before .if2 .taken)))
+    (sym (c .before .before .head-wrong .ensures) ∙ c .before .if2 .taken))
+    (c .refused2 .ensures)
 
 refused-requires-3 : tie.Need-refused-requires-3
 refused-requires-3 c κs = search needs
@@ -73,26 +69,27 @@ returns-3 : tie.Need-returns-3
 returns-3 c =
     let a = c .before .before .before .before .before .before .before .before .before .before .before .before .before .args in
     let u = c .before .before .before .before .before .before .before .before .before .used-in .ensures ∙ ap (λ (n : ℕ). usedIn n (a .number)) (c .before .before .before .before .before .before .before .before .before .before .two-bytes .ensures) in
-    c .refused3 .ensures
-    ∙ sym
-    (ap (λ (o : Outcome Bytes). answered (mapped length o))
+    opened-not limits (a .kind) (now (a .file)) (a .number) (now (a .block)) 13 (c .refused3 .result)
     (opens-13 limits (a .kind) (now (a .file)) (a .number) (now (a .block))
     (sym (c .before .before .before .before .before .before .two-bytes2 .ensures) ∙ c .before .before .before .before .if1 .left ∙ c .before .before .before .before .before .check-of .ensures)
     (sym (c .before .before .before .head-wrong .ensures) ∙ c .before .before .if2 .left)
-    (ap (λ (n : ℕ). allZero (drop (4 + n) (take 510 (now (a .block))))) (sym u) ∙ sym (c .before .before .before .before .before .before .before .zero-from .ensures) ∙ not-true _ (c .before .if3 .taken))))
+    (ap (λ (n : ℕ). allZero (drop (4 + n) (take 510 (now (a .block))))) (sym u) ∙ sym (c .before .before .before .before .before .before .before .zero-from .ensures) ∙ not-true _ (c .before .if3 .taken)))
+    (c .refused3 .ensures)
 
 returns-4 : tie.Need-returns-4
 returns-4 c =
     let s = c .before .before .before .before .before .before .before .before .before .before .before .before in
     let a = s .args in
     let u = c .before .before .before .before .before .before .before .before .used-in .ensures ∙ ap (λ (n : ℕ). usedIn n (a .number)) (c .before .before .before .before .before .before .before .before .before .two-bytes .ensures) in
-    ap Good (u ∙ sym (length-content (a .number) (now (a .block)) (s .pre .2)))
-    ∙ sym
-    (ap (λ (o : Outcome Bytes). answered (mapped length o))
-    (opens-good limits (a .kind) (now (a .file)) (a .number) (now (a .block))
-    (sym (c .before .before .before .before .before .two-bytes2 .ensures) ∙ c .before .before .before .if1 .left ∙ c .before .before .before .before .check-of .ensures)
-    (sym (c .before .before .head-wrong .ensures) ∙ c .before .if2 .left)
-    (ap (λ (n : ℕ). allZero (drop (4 + n) (take 510 (now (a .block))))) (sym u) ∙ sym (c .before .before .before .before .before .before .zero-from .ensures) ∙ not-false _ (c .if3 .left))))
+    record {
+      outcome =
+          opens-good limits (a .kind) (now (a .file)) (a .number) (now (a .block))
+          (sym (c .before .before .before .before .before .two-bytes2 .ensures) ∙ c .before .before .before .if1 .left ∙ c .before .before .before .before .check-of .ensures)
+          (sym (c .before .before .head-wrong .ensures) ∙ c .before .if2 .left)
+          (ap (λ (n : ℕ). allZero (drop (4 + n) (take 510 (now (a .block))))) (sym u) ∙ sym (c .before .before .before .before .before .before .zero-from .ensures) ∙ not-false _ (c .if3 .left))
+          ∙ ap (λ (n : ℕ). good (take n (drop 4 (now (a .block))))) (sym u);
+      few = omega (arith, u, used-le (lengthIn (now (a .block))) (a .number));
+    }
 
 pub open-block-spec : {M : Type 1} → statement M
 open-block-spec =
