@@ -1,0 +1,4 @@
+pub mod Form
+pub mod View
+pub mod Classes
+pub mod Tables
