@@ -14,6 +14,7 @@ use Rattle.rules.specs.Basic.{Bytes, if_then_else_, low-high}
 use Rattle.rules.specs.Limits.{blocksFor}
 use Rattle.rules.specs.declared.Kind.{Kind}
 use Rattle.rules.specs.Stored.{kindByte, usedIn, padded, allZero, check, blockBody, block, blocks, stored}
+use Rattle.runs.specs.Wrote.{Wrote}
 use Rattle.stored.specs.Weights.{are-zeros}
 use Rattle.stored.specs.Opening.{used-le}
 use Rattle.stored.specs.Writing.{PutBody}
@@ -201,3 +202,17 @@ module _ (k : Kind) (s out ys all : Bytes) (i many at : ℕ) (more : i < many) (
       ∙ sym (sets-append out at (block k i s) (blocks k (suc i) (many - (i + 1)) s))
       ∙ sym (ap (λ (n : ℕ). sets out at (blocks k i n s)) q)
       ∙ e
+
+-- bytes at the start of a buffer, then zeros
+pub filled-by : {out s out₁ out₂ : Bytes} {past : ℕ} → Wrote out 0 s out₁ past → length s ≤ length out → out₂ ≡ sets out₁ past (replicate (length out₁ - past) 0)
+    → out₂ ≡ s ++ replicate (length out - length s) 0
+filled-by {out} {s} {out₁} {out₂} {past} w h e =
+    let l : length out₁ ≡ length out = ap length (w .holds) ∙ length-sets out 0 s in
+    let p : length out₁ - past ≡ length out - length s = omega (arith, w .ends) in
+    let zs : Bytes = replicate (length out - length s) 0 in
+    e
+    ∙ ap (λ (n : ℕ). sets out₁ past (replicate n 0)) p
+    ∙ ap (λ (n : ℕ). sets out₁ n zs) (w .ends)
+    ∙ ap (λ (b : Bytes). sets b (0 + length s) zs) (w .holds)
+    ∙ sym (sets-append out 0 s zs)
+    ∙ sets-whole out (s ++ zs) (simp (length-append, length-replicate) (omega arith))

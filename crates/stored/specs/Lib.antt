@@ -4,3 +4,5 @@ pub mod Opening
 pub mod Writing
 pub mod Blocks
 pub mod Gathering
+pub mod Answers
+pub mod Storing
