@@ -6,3 +6,4 @@ pub mod Blocks
 pub mod Gathering
 pub mod Answers
 pub mod Storing
+pub mod Undone

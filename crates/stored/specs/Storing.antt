@@ -18,6 +18,7 @@ use Rattle.rules.specs.declared.Kind.the-variants.{Term, Proof}
 use Rattle.rules.specs.Reading.{whole, readTerm, readProof}
 use Rattle.rules.specs.Stored.{stored, readKind, openBlocks, opened}
 use Rattle.rules.specs.Buffers.{Wrote, filled, bytesOr, lent, wrote}
+use Rattle.stored.specs.Heads.{or-left, or-right}
 use Rattle.rules.specs.Calls.{roomFor, storeCall, loadCall}
 
 -- what is refused leaves the output; what is written is followed by zeros
@@ -84,14 +85,6 @@ module _ (L : Limits) (k : Kind) (f o : Bytes) where
         load-good e = load-open ∙ rw (size, got, e)
 
 -- a size that is not wrong
-or-left : (a b : Bool) → (a || b) ≡ false → a ≡ false
-or-left true b e = e
-or-left false b e = refl
-
-or-right : (a b : Bool) → (a || b) ≡ false → b ≡ false
-or-right true b e = absurd (let z : _≡_ {A = ℕ} 0 1 = cc in omega arith)
-or-right false b e = e
-
 pos : (n : ℕ) → (n ≡ 0 → ⊥) → 0 < n
 pos zero h = absurd (h refl)
 pos (suc n) h = omega arith
