@@ -7,3 +7,5 @@ pub mod Gathering
 pub mod Answers
 pub mod Storing
 pub mod Undone
+pub mod Inverse
+pub mod Loaded
