@@ -9,3 +9,5 @@ pub mod Storing
 pub mod Undone
 pub mod Inverse
 pub mod Loaded
+pub mod Tells
+pub mod Changed

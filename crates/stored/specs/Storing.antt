@@ -7,7 +7,7 @@ use mathlib.Core.Option.{none, some}
 use native.Mathlib.Omega.{arith}
 use lib.Dec.{ltb, eqb}
 use lib.ListN.{length}
-use borrow.Author.Tests.{le-leb, lt-leb, ltb-false, eqb-true, eqb-false, not-false}
+use borrow.Author.Tests.{le-leb, lt-leb, le-ltb, eq-eqb, ne-eqb, ltb-false, eqb-true, eqb-false, not-false}
 use Rattle.rules.specs.Basic.{Bytes, if_then_else_, _==_, _<?_}
 use Rattle.rules.specs.Limits.{Limits, outputRoom, storedRoom, blockBytes}
 use Rattle.rules.specs.Refusal.{Outcome, good, refused, refuse, mapped, answered}
@@ -104,6 +104,9 @@ size-right L n e =
       blocks = eqb-true (n % 512) 0 (not-false (n % 512 == 0) (or-left t u r));
       most = ltb-false (storedRoom L) n (or-right t u r);
     }
+
+pub right-size : (L : Limits) (n : ℕ) → SizeRight L n → sizeWrong L n ≡ false
+right-size L n r = rw (ne-eqb n 0 (λ e. omega (arith, r .some)), eq-eqb (n % 512) 0 (r .blocks), le-ltb (storedRoom L) n (r .most))
 
 -- the two equations of a call from one
 pub ends : {call w : Wrote ℕ} {r : Answer} {o : Bytes} → call ≡ w → r ≡ answered (w .answer) → o ≡ w .output → (r ≡ answered (call .answer)) × (o ≡ call .output)

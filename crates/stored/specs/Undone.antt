@@ -8,7 +8,6 @@ use native.Mathlib.Omega.{arith}
 use lib.ListN.{length, getD, take, drop, replicate, length-append, length-take, length-drop, length-replicate, drop-of-length-le, take-append-drop}
 use lib.Seq.{take-at, drop-at, getD-append-add, drop-append-add, drop-drop, length-take-le}
 use lib.Dec.{ltb}
-use borrow.Author.Tests.{eq-eqb, ne-eqb, le-ltb}
 use Rattle.rules.specs.Basic.{Bytes, if_then_else_, low-high}
 use Rattle.rules.specs.Limits.{Limits, blocksFor, storedRoom, outputRoom}
 use Rattle.rules.specs.Refusal.{Outcome, good, refused, mapped}
@@ -23,7 +22,7 @@ use Rattle.stored.specs.Weights.{are-zeros}
 use Rattle.stored.specs.Heads.{HeadRight, right-head}
 use Rattle.stored.specs.Opening.{contentIn, used-le, opens-good}
 use Rattle.stored.specs.Blocks.{used-in, take-used, padded-used, length-block, length-blocks, length-blockBody, length-stored}
-use Rattle.stored.specs.Storing.{put, SizeRight, sizeWrong, read-short, load-good}
+use Rattle.stored.specs.Storing.{put, sizeWrong, right-size, read-short, load-good}
 use Rattle.stored.specs.Gathering.{joined, openBlocks-suc}
 
 -- block j of a run of blocks
@@ -163,17 +162,13 @@ read-some L Term i [] h = absurd (not-read (ltb (L .bytes) 0) _ i _ (node-none (
 read-some L Proof i [] h = absurd (not-read (ltb (L .bytes) 0) _ i _ (proof-none L (L .rules) _) h)
 read-some L k i (b ∷ s) h = omega arith
 
--- a size that is right
-size-is-right : (L : Limits) (n : ℕ) → SizeRight L n → sizeWrong L n ≡ false
-size-is-right L n r = rw (ne-eqb n 0 (λ e. omega (arith, r .some)), eq-eqb (n % 512) 0 (r .blocks), le-ltb (storedRoom L) n (r .most))
-
 module _ (L : Limits) (k : Kind) (s : Bytes) (read : readKind L k 1 s ≡ good tt) where
   stored-size : sizeWrong L (length (stored k s)) ≡ false
   stored-size =
       let l = length-stored k s in
       let least = read-some L k 1 s read in
       let most = read-short L k 1 s read in
-      size-is-right L (length (stored k s)) (record { some = omega arith; blocks = omega arith; most = omega arith })
+      right-size L (length (stored k s)) (record { some = omega arith; blocks = omega arith; most = omega arith })
 
   -- loading undoes storing
   pub opened-stored : opened L k (stored k s) ≡ good s
