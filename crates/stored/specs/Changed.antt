@@ -14,12 +14,13 @@ use Rattle.rules.specs.Basic.{Bytes}
 use Rattle.rules.specs.Limits.{Limits}
 use Rattle.rules.specs.Refusal.{Outcome, good, refuse}
 use Rattle.rules.specs.declared.Kind.{Kind}
-use Rattle.rules.specs.Stored.{check, blockAt, two-bytes, lengthIn, openBlock, openBlocks, opened}
+use Rattle.rules.specs.Stored.{check, blockAt, two-bytes, lengthIn, openBlock, openBlocks, opened, stored, readKind}
 use Rattle.stored.specs.Opening.{opens-11}
-use Rattle.stored.specs.Storing.{sizeWrong, right-size}
+use Rattle.stored.specs.Storing.{read-short, right-size}
 use Rattle.stored.specs.Gathering.{joined, openBlocks-suc}
 use Rattle.stored.specs.Inverse.{block-right, Joined, blocks-right, Opens, opens}
-use Rattle.stored.specs.Loaded.{Octets}
+use Rattle.stored.specs.Octets.{Octets, stored-octets}
+use Rattle.stored.specs.Undone.{opened-stored}
 use Rattle.stored.specs.Tells.{check-tells}
 
 -- a block with its check right, and one byte of it changed
@@ -133,3 +134,10 @@ changed-refused L k f s j v octets o h new other =
     ∙ from L k f (length f / 512) (j / 512) (j % 512) v octets whole (omega arith) (omega arith) new (λ e. other (e ∙ ap (λ (m : ℕ). getD f m 0) at)) 0 (length f / 512) s
     (zero-add (length f / 512)) (omega arith) (g .parts) in
     rw (n, size, r)
+
+-- so of every stored file
+pub stored-changed : (L : Limits) (k : Kind) (s : Bytes) (j v : ℕ) → L .bytes ≤ 65535 → Octets s → readKind L k 1 s ≡ good tt → j < length (stored k s) → v < 256
+    → (v ≡ getD (stored k s) j 0 → ⊥) → opened L k (set (stored k s) j v) ≡ refuse 11 (j / 512) 1
+stored-changed L k s j v few octets read =
+    let short = read-short L k 1 s read in
+    changed-refused L k (stored k s) s j v (stored-octets k s octets (omega arith)) (opened-stored L k s read)

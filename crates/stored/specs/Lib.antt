@@ -8,6 +8,7 @@ pub mod Answers
 pub mod Storing
 pub mod Undone
 pub mod Inverse
+pub mod Octets
 pub mod Loaded
 pub mod Tells
 pub mod Changed

@@ -14,15 +14,12 @@ use Rattle.rules.specs.Limits.{Limits, blocksFor}
 use Rattle.rules.specs.Refusal.{Outcome, good}
 use Rattle.rules.specs.declared.Kind.{Kind}
 use Rattle.rules.specs.Stored.{kindByte, check, blockBody, block, blocks, stored, blockAt, two-bytes, lengthIn, usedIn, padded, allZero, openBlock, openBlocks, opened}
+use Rattle.stored.specs.Octets.{Octets}
 use Rattle.stored.specs.Weights.{zeros-are}
 use Rattle.stored.specs.Opening.{contentIn, used-le}
 use Rattle.stored.specs.Blocks.{padded-used}
 use Rattle.stored.specs.Heads.{HeadRight}
 use Rattle.stored.specs.Inverse.{BlockRight, block-right, length-content, Joined, blocks-right, blocks-none, opens}
-
--- all of a list is bytes
-abbrev pub Octets : Bytes → Type 0
-Octets s = (i : ℕ) → getD s i 0 < 256
 
 -- two bytes that make a number are its low and its high byte
 two-are : (a b n : ℕ) → a < 256 → a + 256 * b ≡ n → (a ∷ b ∷ []) ≡ low-high n
