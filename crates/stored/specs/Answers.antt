@@ -1,14 +1,11 @@
 -- What a call leaves after success, and what the reading of content answers. Assumes nothing: these are definitions.
-use Prim.Native.Nat.{ℕ, _-_}
+use Prim.Native.Nat.{ℕ}
 use mathlib.Core.Path.{_≡_, refl}
 use mathlib.Core.Option.{some}
 use lib.ListN.{length}
 use Rattle.rules.specs.Basic.{Bytes}
-use Rattle.rules.specs.Limits.{Limits}
 use Rattle.rules.specs.Refusal.{Outcome, good, refused, mapped, answered}
-use Rattle.rules.specs.Stored.{readKind}
 use Rattle.rules.specs.Buffers.{filled}
-use Rattle.rules.specs.declared.Kind.{Kind}
 use Rattle.rules.specs.declared.Answer.{Answer}
 use Rattle.rules.specs.declared.Answer.the-variants.{Good, Refused}
 

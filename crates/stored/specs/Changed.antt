@@ -3,7 +3,6 @@
 use Prim.Native.Nat.{ℕ, zero, suc, _+_, _-_, _*_, _/_, _%_, _≤_, _<_}
 use mathlib.Core.Path.{_≡_, refl, sym, ap, _∙_}
 use mathlib.Core.Bool.{Bool, true, false}
-use mathlib.Core.List.{List, [], _∷_, _++_}
 use native.Mathlib.Nat.{zero-add}
 use native.Mathlib.Omega.{arith}
 use lib.Dec.{eqb, ltb}
@@ -18,7 +17,7 @@ use Rattle.rules.specs.Stored.{check, blockAt, two-bytes, lengthIn, openBlock, 
 use Rattle.stored.specs.Opening.{opens-11}
 use Rattle.stored.specs.Storing.{read-short, right-size}
 use Rattle.stored.specs.Gathering.{joined, openBlocks-suc}
-use Rattle.stored.specs.Inverse.{block-right, Joined, blocks-right, Opens, opens}
+use Rattle.stored.specs.Inverse.{block-right, blocks-right, opens}
 use Rattle.stored.specs.Octets.{Octets, stored-octets}
 use Rattle.stored.specs.Undone.{opened-stored}
 use Rattle.stored.specs.Tells.{check-tells}

@@ -12,3 +12,4 @@ pub mod Octets
 pub mod Loaded
 pub mod Tells
 pub mod Changed
+pub mod Facts

@@ -1,24 +1,23 @@
 -- A file that loads is the stored form of its content: each opened block is the block that storing writes. Over any limits. Assumes nothing.
-use Prim.Native.Nat.{ℕ, zero, suc, _+_, _-_, _*_, _/_, _%_, _≤_, _<_}
+use Prim.Native.Nat.{ℕ, zero, suc, _+_, _-_, _*_, _/_, _%_, _<_}
 use mathlib.Core.Path.{_≡_, refl, sym, ap, _∙_}
 use mathlib.Core.Bool.{Bool, true, false}
-use mathlib.Core.List.{List, [], _∷_, _++_}
+use mathlib.Core.List.{[], _∷_, _++_}
 use native.Mathlib.Nat.{zero-add, sub-zero}
 use native.Mathlib.Omega.{arith}
 use lib.Dec.{ltb}
-use lib.ListN.{length, getD, take, drop, replicate, length-append, length-take, length-drop, drop-of-length-le, take-append-drop}
-use lib.Seq.{drop-cons, drop-drop, take-take, take-at, drop-at, take-add, getD-take, getD-drop, length-take-le}
+use lib.ListN.{length, getD, take, drop, replicate, length-append, length-drop, drop-of-length-le, take-append-drop}
+use lib.Seq.{drop-cons, drop-drop, take-take, take-at, drop-at, getD-take, getD-drop, length-take-le}
 use borrow.Author.Tests.{ltb-true, ltb-false}
 use Rattle.rules.specs.Basic.{Bytes, if_then_else_, low-high}
 use Rattle.rules.specs.Limits.{Limits, blocksFor}
-use Rattle.rules.specs.Refusal.{Outcome, good}
+use Rattle.rules.specs.Refusal.{good}
 use Rattle.rules.specs.declared.Kind.{Kind}
-use Rattle.rules.specs.Stored.{kindByte, check, blockBody, block, blocks, stored, blockAt, two-bytes, lengthIn, usedIn, padded, allZero, openBlock, openBlocks, opened}
+use Rattle.rules.specs.Stored.{kindByte, check, blockBody, block, blocks, stored, blockAt, lengthIn, usedIn, padded, allZero, openBlock, openBlocks, opened}
 use Rattle.stored.specs.Octets.{Octets}
 use Rattle.stored.specs.Weights.{zeros-are}
-use Rattle.stored.specs.Opening.{contentIn, used-le}
+use Rattle.stored.specs.Opening.{used-le}
 use Rattle.stored.specs.Blocks.{padded-used}
-use Rattle.stored.specs.Heads.{HeadRight}
 use Rattle.stored.specs.Inverse.{BlockRight, block-right, length-content, Joined, blocks-right, blocks-none, opens}
 
 -- two bytes that make a number are its low and its high byte

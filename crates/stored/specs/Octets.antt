@@ -2,7 +2,7 @@
 use Prim.Native.Nat.{ℕ, zero, suc, _+_, _-_, _*_, _/_, _%_, _≤_, _<_}
 use mathlib.Core.Path.{_≡_, refl, sym, ap, _∙_}
 use mathlib.Core.Bool.{Bool, true, false}
-use mathlib.Core.List.{List, [], _∷_, _++_}
+use mathlib.Core.List.{[], _∷_, _++_}
 use native.Mathlib.Omega.{arith}
 use lib.Dec.{ltb}
 use lib.ListN.{length, getD, take, drop, replicate, List·getD-append}
@@ -12,7 +12,7 @@ use Rattle.rules.specs.Basic.{Bytes, low-high}
 use Rattle.rules.specs.Limits.{blocksFor}
 use Rattle.rules.specs.declared.Kind.{Kind}
 use Rattle.rules.specs.declared.Kind.the-variants.{Term, Proof}
-use Rattle.rules.specs.Stored.{kindByte, weighed, check, padded, blockBody, block, blocks, stored}
+use Rattle.rules.specs.Stored.{kindByte, check, padded, blockBody, block, blocks, stored}
 
 abbrev pub Octets : Bytes → Type 0
 Octets s = (i : ℕ) → getD s i 0 < 256

@@ -1,25 +1,24 @@
 -- What store and load come to: each way of ending, from the tests that lead there. Over any limits. Assumes nothing.
-use Prim.Native.Nat.{ℕ, zero, suc, _+_, _-_, _*_, _/_, _%_, _≤_, _<_}
+use Prim.Native.Nat.{ℕ, zero, suc, _/_, _%_, _≤_, _<_}
 use mathlib.Core.Path.{_≡_, refl, sym, ap, _∙_}
 use mathlib.Core.Bool.{Bool, true, false, not, _||_}
-use mathlib.Core.List.{List, _++_}
-use mathlib.Core.Option.{none, some}
+use mathlib.Core.Option.{some}
 use native.Mathlib.Omega.{arith}
 use lib.Dec.{ltb, eqb}
 use lib.ListN.{length}
 use borrow.Author.Tests.{le-leb, lt-leb, le-ltb, eq-eqb, ne-eqb, ltb-false, eqb-true, eqb-false, not-false}
 use Rattle.rules.specs.Basic.{Bytes, if_then_else_, _==_, _<?_}
 use Rattle.rules.specs.Limits.{Limits, outputRoom, storedRoom, blockBytes}
-use Rattle.rules.specs.Refusal.{Outcome, good, refused, refuse, mapped, answered}
+use Rattle.rules.specs.Refusal.{Outcome, good, refused, mapped, answered}
 use Rattle.rules.specs.declared.Refusal.{Refusal}
 use Rattle.rules.specs.declared.Answer.{Answer}
 use Rattle.rules.specs.declared.Kind.{Kind}
 use Rattle.rules.specs.declared.Kind.the-variants.{Term, Proof}
 use Rattle.rules.specs.Reading.{whole, readTerm, readProof}
 use Rattle.rules.specs.Stored.{stored, readKind, openBlocks, opened}
-use Rattle.rules.specs.Buffers.{Wrote, filled, bytesOr, lent, wrote}
+use Rattle.rules.specs.Buffers.{Wrote, filled, bytesOr, wrote}
 use Rattle.stored.specs.Heads.{or-left, or-right}
-use Rattle.rules.specs.Calls.{roomFor, storeCall, loadCall}
+use Rattle.rules.specs.Calls.{storeCall, loadCall}
 
 -- what is refused leaves the output; what is written is followed by zeros
 abbrev pub left : Bytes → Refusal → Wrote ℕ

@@ -1,18 +1,16 @@
 -- The check tells any one changed byte: the change of the weighed sum is a weight up to 510 times a difference up to 255, and no such product is a
 -- multiple of the prime 65,521. Assumes nothing.
-use Prim.Native.Nat.{ℕ, zero, suc, _+_, _-_, _*_, _/_, _%_, _≤_, _<_}
+use Prim.Native.Nat.{ℕ, zero, suc, _+_, _-_, _*_, _%_, _≤_, _<_}
 use mathlib.Core.Path.{_≡_, refl, sym, ap, _∙_}
 use mathlib.Core.Bool.{Bool, true, false, not, _&&_, _||_}
-use mathlib.Core.List.{List, [], _∷_, _++_}
+use mathlib.Core.List.{[], _∷_}
 use native.Mathlib.Nat.{le-of-lt, mul-sub, mul-le-mul, mul-le-mul-left, mul-pos, mul-mod-left}
-use native.Mathlib.Numerals.{add-one}
 use native.Mathlib.Omega.{arith}
-use lib.Dec.{T, eqb, ltb, leb}
-use lib.ListN.{length, getD, set, take, drop, length-set}
-use lib.Seq.{take-set-lt, take-set-le, drop-set-add, getD-set-same, getD-set-other, getD-take, length-take-le}
-use borrow.Author.Tests.{ltb-true, ltb-false, leb-true, leb-false, le-ltb, eq-eqb, eqb-true, eqb-false, ne-eqb}
+use lib.Dec.{eqb, ltb, leb}
+use lib.ListN.{length, getD, set}
+use borrow.Author.Tests.{ltb-true, ltb-false, leb-true, leb-false, le-ltb, eq-eqb, eqb-true, eqb-false}
 use Rattle.rules.specs.Basic.{Bytes}
-use Rattle.rules.specs.Stored.{weighed, check, two-bytes}
+use Rattle.rules.specs.Stored.{weighed, check}
 use Rattle.stored.specs.Weights.{and-left, and-right}
 
 -- a changed byte changes the sum by its weight times the change

@@ -2,14 +2,14 @@
 use Prim.Native.Nat.{ℕ, zero, suc, _+_, _-_, _*_, _/_, _%_, _≤_, _<_}
 use mathlib.Core.Path.{_≡_, refl, sym, ap, _∙_}
 use mathlib.Core.Bool.{Bool, true, false}
-use mathlib.Core.List.{List, [], _∷_, _++_, append-assoc}
+use mathlib.Core.List.{[], _∷_, _++_, append-assoc}
 use native.Mathlib.Nat.{add-zero, zero-add}
 use native.Mathlib.Omega.{arith}
-use lib.ListN.{length, getD, take, drop, replicate, length-append, length-take, length-drop, length-replicate, drop-of-length-le, take-append-drop}
+use lib.ListN.{length, getD, take, drop, replicate, length-append, length-drop, drop-of-length-le, take-append-drop}
 use lib.Seq.{take-at, drop-at, getD-append-add, drop-append-add, drop-drop, length-take-le}
 use lib.Dec.{ltb}
 use Rattle.rules.specs.Basic.{Bytes, if_then_else_, low-high}
-use Rattle.rules.specs.Limits.{Limits, blocksFor, storedRoom, outputRoom}
+use Rattle.rules.specs.Limits.{Limits, blocksFor, outputRoom}
 use Rattle.rules.specs.Refusal.{Outcome, good, refused, mapped}
 use Rattle.rules.specs.Term.{terms}
 use Rattle.rules.specs.Reading.{Got, bad, Met, byte, tag, tooMany, node, proofAt, ended, whole, readTerm, readProof}
@@ -17,11 +17,11 @@ use Rattle.rules.specs.declared.Refusal.{Refusal}
 use Rattle.rules.specs.declared.Kind.{Kind}
 use Rattle.rules.specs.declared.Kind.the-variants.{Term, Proof}
 use Rattle.rules.specs.Calls.{loadCall}
-use Rattle.rules.specs.Stored.{kindByte, check, blockBody, block, blocks, stored, blockAt, two-bytes, lengthIn, usedIn, padded, allZero, headWrong, openBlock, openBlocks, opened, readKind}
+use Rattle.rules.specs.Stored.{kindByte, check, blockBody, block, blocks, stored, blockAt, two-bytes, lengthIn, usedIn, allZero, headWrong, openBlock, openBlocks, opened, readKind}
 use Rattle.stored.specs.Weights.{are-zeros}
-use Rattle.stored.specs.Heads.{HeadRight, right-head}
-use Rattle.stored.specs.Opening.{contentIn, used-le, opens-good}
-use Rattle.stored.specs.Blocks.{used-in, take-used, padded-used, length-block, length-blocks, length-blockBody, length-stored}
+use Rattle.stored.specs.Heads.{right-head}
+use Rattle.stored.specs.Opening.{contentIn, opens-good}
+use Rattle.stored.specs.Blocks.{used-in, take-used, padded-used, length-block, length-blockBody, length-stored}
 use Rattle.stored.specs.Storing.{put, sizeWrong, right-size, read-short, load-good}
 use Rattle.stored.specs.Gathering.{joined, openBlocks-suc}
 

@@ -15,13 +15,15 @@ ghost use lib.ListN.{length, take, drop};
 ghost use lib.Seq.{sets};
 ghost use Rattle.rules.specs.Basic.{low-high};
 ghost use Rattle.rules.specs.Limits.{limits, blocksFor};
-ghost use Rattle.rules.specs.Stored.{kindByte, check, blockBody, block as blockOf, blockAt, two-bytes, allZero, usedIn, headWrong, openBlock};
-ghost use Rattle.stored.specs.Opening.{OpenedBlock};
+ghost use Rattle.rules.specs.Stored.{kindByte, check, block as blockOf, two-bytes, allZero, usedIn, headWrong};
+ghost use Rattle.stored.specs.Opening.{OpenedBlock, firstFault};
 ghost use Rattle.stored.specs.Writing.{Storable, PutBody};
 
 pub const BLOCK_BYTES: usize = 512;
 
 pub const BLOCK_CONTENT: usize = 506;
+
+const CHECK_MODULUS: usize = 65521;
 
 pub fn kind_byte(kind: Kind) -> u8
     ensures { λ r. ⌜ r ≡ kindByte kind ⌝ }
@@ -71,9 +73,9 @@ pub fn check_of(block: &[u8], end: usize, clean: bool) -> usize
     ensures { λ r. ⌜ r ≡ check (take 510 (now (block .entry))) ⌝ }
 {
     if clean {
-        return weigh(&block[..end]) as usize % 65521;
+        return weigh(&block[..end]) as usize % CHECK_MODULUS;
     }
-    weigh(&block[..510]) as usize % 65521
+    weigh(&block[..510]) as usize % CHECK_MODULUS
 }
 
 // Refusal 12: kind, number, length, or the length and block 0 or the file's size do not go together.
@@ -100,6 +102,22 @@ pub fn head_wrong(kind: Kind, file: &[u8], number: usize, block: &[u8]) -> bool
     blocks_for(size) != file.len() / BLOCK_BYTES
 }
 
+// The first fault of a block, in the order of the rules, or 0: whether its check, its head, its rest is wrong.
+fn first_fault(sum: bool, head: bool, rest: bool) -> u8
+    ensures { λ r. ⌜ r ≡ firstFault sum head rest ⌝ }
+{
+    if sum {
+        return 11;
+    }
+    if head {
+        return 12;
+    }
+    if rest {
+        return 13;
+    }
+    0
+}
+
 // Opens a block of a file: 11, 12, 13 in that order, or how much of it is content.
 pub fn open_block(kind: Kind, file: &[u8], number: usize, block: &[u8]) -> Answer
     requires { ⌜ (number < 256) × (4 ≤ length (now file)) × (length (now block) ≡ 512) ⌝ }
@@ -108,14 +126,11 @@ pub fn open_block(kind: Kind, file: &[u8], number: usize, block: &[u8]) -> Answe
     let used = used_in(two_bytes(block, 2), number);
     let end = 4 + used;
     let clean = zero_from(&block[..510], end);
-    if two_bytes(block, 510) != check_of(block, end, clean) {
-        return refused(11, number);
-    }
-    if head_wrong(kind, file, number, block) {
-        return refused(12, number);
-    }
-    if !clean {
-        return refused(13, number);
+    let sum = two_bytes(block, 510) != check_of(block, end, clean);
+    let head = head_wrong(kind, file, number, block);
+    let fault = first_fault(sum, head, !clean);
+    if fault != 0 {
+        return refused(fault, number);
     }
     Answer::Good(used)
 }

@@ -6,11 +6,10 @@ use crate::block::put_block;
 use rules::Answer;
 use rules::Kind;
 use runs::copy;
-ghost use mathlib.Core.Path.{_≡_};
 ghost use Prim.Native.Nat.{_+_, _*_, _/_, _≤_, _<_};
 ghost use lib.ListN.{length};
 ghost use Rattle.rules.specs.Limits.{limits};
-ghost use Rattle.rules.specs.Stored.{stored, openBlocks};
+ghost use Rattle.rules.specs.Stored.{stored};
 ghost use Rattle.runs.specs.Wrote.{Wrote};
 ghost use Rattle.stored.specs.Opening.{OpenedBlocks};
 

@@ -2,7 +2,7 @@
 use Prim.Native.Nat.{ℕ, _%_}
 use mathlib.Core.Path.{_≡_, sym, ap, _∙_}
 use native.Mathlib.Omega.{arith}
-use lib.ListN.{length, take}
+use lib.ListN.{take}
 use lib.Seq.{length-take-le, take-take}
 use denote.Ref.{now}
 use Rattle.rules.specs.Stored.{weighed}
@@ -10,9 +10,6 @@ use Rattle.stored.specs.Weights.{weighed-clean}
 use borrow.Author.Needs.{needs}
 use Rattle.stored.proofs.block.check_of.Statement.{statement}
 use Rattle.stored.proofs.block.check_of.Tie as tie
-use Rattle.stored.proofs.block.check_of.Reads as reads
-use Rattle.stored.proofs.block.check_of.Lts as lts
-use Rattle.stored.proofs.sums.weigh.Reads as weigh-reads
 
 slice-aggregate-weigh : tie.Need-slice-aggregate-weigh
 slice-aggregate-weigh c = let a = c .before .before .before .args in sym (length-take-le (a .end) (now (a .block)) (omega arith))

@@ -1,9 +1,8 @@
 -- `stored::block::put_body` meets its contract: three writes, one after the other. Assumes nothing.
-use Prim.Native.Nat.{_+_, _-_, _*_}
-use mathlib.Core.Path.{_∙_, sym}
+use Prim.Native.Nat.{_+_, _*_}
 use native.Mathlib.Omega.{arith}
 use lib.ListN.{length}
-use lib.Seq.{slice, length-slice}
+use lib.Seq.{length-slice}
 use denote.Ref.{now}
 use Rattle.stored.specs.Opening.{used-le}
 use Rattle.stored.specs.Blocks.{used-in, put-body}

@@ -1,6 +1,5 @@
 -- `stored::block::put_check` meets its contract: two bytes behind the first 510. Assumes nothing.
-use mathlib.Core.Path.{_∙_, sym}
-use native.Mathlib.Omega.{arith}
+use mathlib.Core.Path.{sym}
 use denote.Ref.{now}
 use Rattle.stored.specs.Blocks.{put-last}
 use borrow.Author.Needs.{needs}

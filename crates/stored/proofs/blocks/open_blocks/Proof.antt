@@ -1,5 +1,5 @@
 -- `stored::blocks::open_blocks` meets its contract: what is gathered and what is left make up the whole. Assumes nothing.
-use Prim.Native.Nat.{ℕ, _+_, _-_, _*_, _/_, _≤_, _<_}
+use Prim.Native.Nat.{ℕ, _+_, _-_, _*_, _/_, _≤_}
 use mathlib.Core.Path.{_≡_, refl, sym, ap, _∙_}
 use mathlib.Core.List.{[], _++_, append-nil}
 use native.Mathlib.Nat.{sub-zero}
