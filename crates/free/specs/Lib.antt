@@ -1,0 +1,3 @@
+pub mod Ordered
+pub mod Members
+pub mod Gather
