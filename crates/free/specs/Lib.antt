@@ -1,3 +1,4 @@
 pub mod Ordered
 pub mod Members
 pub mod Gather
+pub mod Search
