@@ -9,7 +9,7 @@ use Rattle.rules.specs.Name.{Name, encodeName, encodeNames}
 use Rattle.rules.specs.Term.{Term, var, leaf, one, two, abs, both, branch, Leaf, unit, trivial, One, inl, inr, fst, snd, abort, promote, derelict, Two, pair, app, discard, Both, letPair, copy, leafTag, oneTag, twoTag, bothTag, encode, size, parts}
 use Rattle.walk.specs.Node.{tag, names, head, encodeAll, namesAfter, partsAfter}
 use Rattle.walk.specs.Place.{TermAt, TermsAt, NamesAt}
-use Rattle.walk.proofs.Names.{drop-app, head-byte, long}
+use Rattle.walk.proofs.Names.{drop-app, head-byte, long, AfterIs}
 
 -- ---- a term is its head, then its parts
 
@@ -172,3 +172,41 @@ some-alone s i (t, w) = (t ∷ [], alone s i t w)
 
 pub skip-one : (s : List ℕ) (i m : ℕ) → SkipIs s i 1 m → (t : Term) → TermAt s i t → m ≡ i + size t
 skip-one s i m f t w = omega (arith, f (t ∷ []) (alone s i t w), ap (λ (z : List ℕ). length z) (append-nil (encode t)))
+
+-- ---- at a term: its names, and where its parts start, by what `names_of`, `parts_of` and `after_names` ensure
+
+pub some-names : (s : List ℕ) (i : ℕ) → ((t : Term) × TermAt s i t) → (q : ℕ) → q ≡ namesAfter (getD s i 0) → (xs : List Name) × NamesAt s (i + 1) q xs
+some-names s i (t, w) q e = (names t, rw (e ∙ at-count-names s i t w) (at-names s i t w))
+
+pub starts : (s : List ℕ) (i q h : ℕ) → q ≡ namesAfter (getD s i 0) → AfterIs s (i + 1) q h → (t : Term) → TermAt s i t → h ≡ i + length (head t)
+starts s i q h e f t w = omega (arith, f (names t) (rw (e ∙ at-count-names s i t w) (at-names s i t w)))
+
+-- ---- a turn of a loop over terms in a row: the first one's parts are put in its place
+
+module _ (s : List ℕ) (i n q p h : ℕ) (l : 0 < n) (eq : q ≡ namesAfter (getD s i 0)) (ep : p ≡ partsAfter (getD s i 0)) (eh : AfterIs s (i + 1) q h) where
+  turned : (t : Term) (ts : List Term) → TermsAt s i n (t ∷ ts) → TermsAt s h (n - 1 + p) (parts t ++ ts)
+  turned t ts w =
+      let a = first s i n t ts w in
+      unrolled s i n t ts w h (n - 1 + p) (starts s i q h eq eh t a) (ap (λ (k : ℕ). n - 1 + k) (ep ∙ at-count-parts s i t a))
+
+  pub turn-some : Some s i n → Some s h (n - 1 + p)
+  turn-some ([], w) = absurd (omega (arith, w .many))
+  turn-some (t ∷ ts, w) = (parts t ++ ts, turned t ts w)
+
+  pub turn-ahead : Some s i n → (i < length s) × (i < h)
+  turn-ahead ([], w) = absurd (omega (arith, w .many))
+  turn-ahead (t ∷ ts, w) = let a = first s i n t ts w in (at-inside s i t a, omega (arith, starts s i q h eq eh t a))
+
+  turn-long : (t : Term) (ts : List Term) → length (encode t ++ encodeAll ts) ≡ length (head t) + length (encodeAll (parts t ++ ts))
+  turn-long t ts =
+      omega (
+        arith,
+        length-append (encode t) (encodeAll ts),
+        apart-size t,
+        ap (λ (z : List ℕ). length z) (encodeAll-append (parts t) ts),
+        length-append (encodeAll (parts t)) (encodeAll ts),
+      )
+
+  pub turn-skip : (r : ℕ) → SkipIs s h (n - 1 + p) r → SkipIs s i n r
+  turn-skip r f [] w = absurd (omega (arith, w .many))
+  turn-skip r f (t ∷ ts) w = omega (arith, f (parts t ++ ts) (turned t ts w), starts s i q h eq eh t (first s i n t ts w), turn-long t ts)
