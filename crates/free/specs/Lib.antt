@@ -2,3 +2,5 @@ pub mod Ordered
 pub mod Members
 pub mod Gather
 pub mod Search
+pub mod Order
+pub mod Rows

@@ -1,1 +1,40 @@
-// Free names.
+// Free names, gathered in one walk: the places of the binders passed and of the names found stand in two rows,
+// the names found in order.
+ghost use mathlib.Core.Path.{_≡_};
+ghost use mathlib.Core.List.{List};
+ghost use Prim.Native.Nat.{_+_, _*_, _≤_, _<_};
+ghost use lib.ListN.{length};
+ghost use Rattle.rules.specs.Name.{Name};
+ghost use Rattle.rules.specs.Term.{Term};
+ghost use Rattle.walk.specs.Place.{NameAt, TermAt};
+ghost use Rattle.free.specs.Order.{orderOf};
+
+// How one name stands to another: before it, the same, or after it.
+pub enum Stands {
+    Before,
+    Same,
+    After,
+}
+
+// How a stands to b.
+fn order(a: &[u8], b: &[u8]) -> Stands
+    ensures { λ r. ⌜ r ≡ orderOf (now (a .entry)) (now (b .entry)) ⌝ }
+{
+    let mut i = 0;
+    while i < a.len() {
+        if b.len() <= i {
+            return Stands::After;
+        }
+        if a[i] < b[i] {
+            return Stands::Before;
+        }
+        if b[i] < a[i] {
+            return Stands::After;
+        }
+        i += 1;
+    }
+    if i < b.len() {
+        return Stands::Before;
+    }
+    Stands::Same
+}
