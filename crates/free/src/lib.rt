@@ -7,7 +7,9 @@ ghost use lib.ListN.{length};
 ghost use Rattle.rules.specs.Name.{Name};
 ghost use Rattle.rules.specs.Term.{Term};
 ghost use Rattle.walk.specs.Place.{NameAt, TermAt};
+ghost use Rattle.free.specs.Ordered.{elem};
 ghost use Rattle.free.specs.Order.{orderOf};
+ghost use Rattle.free.specs.Rows.{Held};
 
 // How one name stands to another: before it, the same, or after it.
 pub enum Stands {
@@ -37,4 +39,23 @@ fn order(a: &[u8], b: &[u8]) -> Stands
         return Stands::Before;
     }
     Stands::Same
+}
+
+// Whether the name at `at` is one of those whose places are the first n of the row; from the last one, which is the nearest binder.
+fn passed(s: &[u8], at: usize, row: &[u16], n: usize) -> bool
+    requires { ⌜ ((x : Name) × (xs : List Name) × NameAt (now s) at x × Held (now s) (now row) n xs) ⌝ }
+    ensures { λ r. ⌜ ((x : Name) → (xs : List Name) → NameAt (now (s .entry)) at x → Held (now (s .entry)) (now (row .entry)) n xs → r ≡ elem x xs) ⌝ }
+{
+    let len = s[at] as usize;
+    let from = at + 1;
+    let end = from + len;
+    let mut i = n;
+    while 0 < i {
+        i -= 1;
+        let p = row[i] as usize;
+        if walk::same_name(s, p, &s[from..end]) {
+            return true;
+        }
+    }
+    false
 }

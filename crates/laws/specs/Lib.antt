@@ -1,0 +1,14 @@
+pub mod Holds
+pub mod Keeps
+pub mod Steady
+pub mod Written
+pub mod WrittenTerm
+pub mod WrittenFormula
+pub mod Names
+pub mod Sound
+pub mod Complete
+pub mod Decoding
+pub mod TextSize
+pub mod Same
+pub mod FreeSize
+pub mod SubstSize
