@@ -80,7 +80,7 @@ bits-branch false false false true false false b = refl
 bits-branch false false false false false false b = refl
 
 -- one binder more, and two
-elem-one : (z : Name) (ns : List Name) (x : Name) → elem z (ns ‥ x ∷ []) ≡ (same z x || elem z ns)
+pub elem-one : (z : Name) (ns : List Name) (x : Name) → elem z (ns ‥ x ∷ []) ≡ (same z x || elem z ns)
 unfolding elem
 elem-one z [] x = refl
 elem-one z (y ∷ ns) x = ap (λ m. same z y || m) (elem-one z ns x) ∙ or-swap (same z y) (same z x) (elem z ns)

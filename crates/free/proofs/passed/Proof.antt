@@ -1,3 +1,9 @@
+-- `free::passed` meets its contract: what is left to search decides. Assumes nothing.
+use Prim.Native.Nat.{ℕ, _≤_, _-_}
+use mathlib.Core.Path.{_≡_, refl}
+use native.Mathlib.Omega.{arith}
+use Rattle.walk.proofs.Names.{name-room}
+use Rattle.free.proofs.Heldness.{Left, left-all, left-none, entry, left-found, left-less}
 use Rattle.free.proofs.passed.Statement.{statement}
 use Rattle.free.proofs.passed.Tie as tie
 use Rattle.free.proofs.passed.Reads as reads
@@ -5,78 +11,61 @@ use Rattle.free.proofs.passed.Lts as lts
 use Rattle.walk.proofs.same_name.Reads as same-name-reads
 
 abbrev Inv-loop : tie.InvT-loop
-Inv-loop s at row n len from end i₀ i = ?
+Inv-loop s at row n len from end i₀ i = (i ≤ n) × Left s at row n i
 
 abbrev μ-loop : tie.MeasureT-loop
-μ-loop s at row n len from end i₀ i = ?
+μ-loop s at row n len from end i₀ i = i
 
--- src/lib.rt:49:15
 shared-slice-read-len : tie.Need-shared-slice-read-len Inv-loop μ-loop
-shared-slice-read-len c = ?
+shared-slice-read-len c = omega (arith, name-room _ (c .before .before .before .args .at) (c .before .before .before .pre .0, c .before .before .before .pre .2))
 
--- src/lib.rt:49:15
 cast-len : tie.Need-cast-len Inv-loop μ-loop
-cast-len c = ?
+cast-len c = omega (arith, c .shared-slice-known3 .given (c .before .before .before .args .at))
 
--- src/lib.rt:50:16
 add-from : tie.Need-add-from Inv-loop μ-loop
-add-from c = ?
+add-from c = omega (arith, name-room _ (c .before .before .before .args .at) (c .before .before .before .pre .0, c .before .before .before .pre .2))
 
--- src/lib.rt:51:15
 add-end : tie.Need-add-end Inv-loop μ-loop
-add-end c = ?
+add-end c = omega (arith, name-room _ (c .before .before .before .args .at) (c .before .before .before .pre .0, c .before .before .before .pre .2))
 
--- src/lib.rt:53:5
 loop-holds : tie.Need-loop-holds Inv-loop μ-loop
-loop-holds c = ?
+loop-holds c = (omega arith, left-all _ _ _ _)
 
--- src/lib.rt:54:9
 sub-i : tie.Need-sub-i Inv-loop μ-loop
-sub-i c = ?
+sub-i c = omega arith
 
--- src/lib.rt:55:17
 mul-p : tie.Need-mul-p Inv-loop μ-loop
-mul-p c = ?
+mul-p c = omega arith
 
--- src/lib.rt:55:17
 shared-slice-read-p : tie.Need-shared-slice-read-p Inv-loop μ-loop
-shared-slice-read-p c = ?
+shared-slice-read-p c = omega (arith, c .before .before .before .before .before .before .pre .3 .room)
 
--- src/lib.rt:55:17
 cast-p : tie.Need-cast-p Inv-loop μ-loop
-cast-p c = ?
+cast-p c = omega (arith, c .shared-slice-known4 .given (c .before .before .loop .i - 1))
 
--- src/lib.rt:56:34
 sub-same-name : tie.Need-sub-same-name Inv-loop μ-loop
-sub-same-name c = ?
+sub-same-name c = omega arith
 
--- src/lib.rt:56:34
 part-same-name-start : tie.Need-part-same-name-start Inv-loop μ-loop
-part-same-name-start c = ?
+part-same-name-start c = omega arith
 
--- src/lib.rt:56:34
 part-same-name-end : tie.Need-part-same-name-end Inv-loop μ-loop
-part-same-name-end c = ?
+part-same-name-end c = omega (arith, name-room _ (c .before .before .before .before .before .before .args .at) (c .before .before .before .before .before .before .pre .0, c .before .before .before .before .before .before .pre .2))
 
--- src/lib.rt:56:12
 same-name-requires : tie.Need-same-name-requires Inv-loop μ-loop
-same-name-requires c κs = ?
+same-name-requires c κs = entry _ _ _ _ (c .before .before .before .loop .i) (c .before .before .loop-test .taken) (c .before .before .before .loop .inv .0) (c .before .before .before .before .before .before .before .pre)
 
--- src/lib.rt:57:13
 returns : tie.Need-returns Inv-loop μ-loop
-returns c = ?
+returns c = left-found _ _ _ _ (c .before .before .before .before .before .loop .i) (c .before .before .before .before .loop-test .taken) (c .before .before .before .before .before .loop .inv .0) (c .before .before .before .before .before .loop .inv .1) _ _ refl (c .before .same-name .ensures) (c .if1 .taken)
 
--- src/lib.rt:53:5
 loop-less : tie.Need-loop-less Inv-loop μ-loop
-loop-less c = ?
+loop-less c = omega arith
 
--- src/lib.rt:53:5
 loop-again : tie.Need-loop-again Inv-loop μ-loop
-loop-again c = ?
+loop-again c = (omega arith, left-less _ _ _ _ (c .before .before .before .before .before .loop .i) (c .before .before .before .before .loop-test .taken) (c .before .before .before .before .before .loop .inv .0) (c .before .before .before .before .before .loop .inv .1) _ _ refl (c .before .same-name .ensures) (c .if1 .left))
 
--- src/lib.rt:45:1
 returns-2 : tie.Need-returns-2 Inv-loop μ-loop
-returns-2 c = ?
+returns-2 c = left-none _ _ _ _ (c .before .loop .i) (omega arith) (c .before .loop .inv .1)
 
 pub passed-spec : {M : Type 1} → statement M
 passed-spec =
