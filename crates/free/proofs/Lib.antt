@@ -1,3 +1,4 @@
 -- What the proofs of several functions use.
 mod Orders
 mod Heldness
+mod Slots

@@ -9,7 +9,7 @@ ghost use Rattle.rules.specs.Term.{Term};
 ghost use Rattle.walk.specs.Place.{NameAt, TermAt};
 ghost use Rattle.free.specs.Ordered.{elem};
 ghost use Rattle.free.specs.Order.{orderOf};
-ghost use Rattle.free.specs.Rows.{Held};
+ghost use Rattle.free.specs.Rows.{Held, Sought, Goes};
 
 // How one name stands to another: before it, the same, or after it.
 pub enum Stands {
@@ -58,4 +58,48 @@ fn passed(s: &[u8], at: usize, row: &[u16], n: usize) -> bool
         }
     }
     false
+}
+
+// Where a name goes in a row of names in order, and whether it is there already.
+pub struct Slot {
+    pub at: usize,
+    pub there: bool,
+}
+
+// Where the name at `at` goes among the first n of the row, by halves.
+fn slot_for(s: &[u8], at: usize, row: &[u16], n: usize) -> Slot
+    requires { ⌜ ((x : Name) × (xs : List Name) × Sought (now s) at (now row) n x xs) ⌝ }
+    ensures { λ r. ⌜ ((x : Name) → (xs : List Name) → Sought (now (s .entry)) at (now (row .entry)) n x xs → Goes x xs r) ⌝ }
+{
+    let len = s[at] as usize;
+    let from = at + 1;
+    let end = from + len;
+    let mut lo = 0;
+    let mut hi = n;
+    while lo < hi {
+        let mid = lo + (hi - lo) / 2;
+        let p = row[mid] as usize;
+        let other = p + 1;
+        let past = other + s[p] as usize;
+        match order(&s[other..past], &s[from..end]) {
+            Stands::Before => {
+                lo = mid + 1;
+                continue;
+            }
+            Stands::Same => {
+                return Slot {
+                    at: mid,
+                    there: true,
+                };
+            }
+            Stands::After => {
+                hi = mid;
+                continue;
+            }
+        }
+    }
+    Slot {
+        at: lo,
+        there: false,
+    }
 }
