@@ -2,3 +2,4 @@
 mod Orders
 mod Heldness
 mod Slots
+mod Opening

@@ -31,3 +31,9 @@ pub record Goes (x : Name) (xs : List Name) (r : Slot) : Type 0 where
   pub within : r .at ≤ length xs
   pub there : r .there ≡ true → insert x xs ≡ xs
   pub new : r .there ≡ false → insert x xs ≡ take (r .at) xs ++ x ∷ drop (r .at) xs
+
+-- the row with p put in at i, and the entries from i to n moved up by one
+pub record Opened (row row′ : List ℕ) (n i p : ℕ) : Type 0 where
+  pub below : (j : ℕ) → j < i → getD row′ j 0 ≡ getD row j 0
+  pub here : getD row′ i 0 ≡ p
+  pub above : (j : ℕ) → i ≤ j → j < n → getD row′ (j + 1) 0 ≡ getD row j 0

@@ -6,10 +6,11 @@ ghost use Prim.Native.Nat.{_+_, _*_, _≤_, _<_};
 ghost use lib.ListN.{length};
 ghost use Rattle.rules.specs.Name.{Name};
 ghost use Rattle.rules.specs.Term.{Term};
+ghost use Rattle.rules.specs.Free.{insert};
 ghost use Rattle.walk.specs.Place.{NameAt, TermAt};
 ghost use Rattle.free.specs.Ordered.{elem};
 ghost use Rattle.free.specs.Order.{orderOf};
-ghost use Rattle.free.specs.Rows.{Held, Sought, Goes};
+ghost use Rattle.free.specs.Rows.{Held, Sought, Goes, Opened};
 
 // How one name stands to another: before it, the same, or after it.
 pub enum Stands {
@@ -102,4 +103,33 @@ fn slot_for(s: &[u8], at: usize, row: &[u16], n: usize) -> Slot
         at: lo,
         there: false,
     }
+}
+
+// Puts p into the row at i; the entries from i to n move up by one.
+fn put_in(row: &mut [u16], n: usize, i: usize, p: u16)
+    requires { ⌜ (i ≤ n) × (n < length (now row)) ⌝ }
+    ensures { λ _. ⌜ Opened (now (row .entry)) (now (row .exit)) n i p ⌝ }
+{
+    let mut j = n;
+    while i < j {
+        let v = row[j - 1];
+        row[j] = v;
+        j -= 1;
+    }
+    row[i] = p;
+}
+
+// Puts the name at `at` among the first n of the row, unless it is there, and says how many there are then.
+fn add(s: &[u8], at: usize, row: &mut [u16], n: usize) -> usize
+    requires { ⌜ ((x : Name) × (xs : List Name) × Sought (now s) at (now row) n x xs) ⌝ }
+    requires { ⌜ (n < length (now row)) × (length (now s) ≤ 65536) ⌝ }
+    ensures { λ r. ⌜ ((x : Name) → (xs : List Name) → Sought (now (s .entry)) at (now (row .entry)) n x xs → Held (now (s .entry)) (now (row .exit)) r (insert x xs)) ⌝ }
+{
+    let slot = slot_for(s, at, row, n);
+    if slot.there {
+        return n;
+    }
+    let i = slot.at;
+    put_in(row, n, i, at as u16);
+    n + 1
 }
