@@ -3,3 +3,4 @@ mod Orders
 mod Heldness
 mod Slots
 mod Opening
+mod Meeting

@@ -4,3 +4,4 @@ pub mod Gather
 pub mod Search
 pub mod Order
 pub mod Rows
+pub mod Walk

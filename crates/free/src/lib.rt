@@ -11,6 +11,7 @@ ghost use Rattle.walk.specs.Place.{NameAt, TermAt};
 ghost use Rattle.free.specs.Ordered.{elem};
 ghost use Rattle.free.specs.Order.{orderOf};
 ghost use Rattle.free.specs.Rows.{Held, Sought, Goes, Opened};
+ghost use Rattle.free.specs.Walk.{Meets, Met, Task, Done};
 
 // How one name stands to another: before it, the same, or after it.
 pub enum Stands {
@@ -132,4 +133,80 @@ fn add(s: &[u8], at: usize, row: &mut [u16], n: usize) -> usize
     let i = slot.at;
     put_in(row, n, i, at as u16);
     n + 1
+}
+
+// The name at `at`, of a variable: put into the row unless a binder passed is of that name.
+fn meet(s: &[u8], at: usize, binders: &[u16], depth: usize, row: &mut [u16], n: usize) -> usize
+    requires { ⌜ ((x : Name) × (xs : List Name) × (l : List Name) × Meets (now s) at (now binders) depth (now row) n x xs l) ⌝ }
+    ensures { λ r. ⌜ ((x : Name) → (xs : List Name) → (l : List Name) → Meets (now (s .entry)) at (now (binders .entry)) depth (now (row .entry)) n x xs l → Met (now (s .entry)) (now (row .exit)) n x xs l r) ⌝ }
+{
+    if passed(s, at, binders, depth) {
+        return n;
+    }
+    add(s, at, row, n)
+}
+
+// Where a walk has come to, and how many names the row then holds.
+pub struct Gathered {
+    pub next: usize,
+    pub count: usize,
+}
+
+// Puts the free names of the term at `at` into the row, but for those of the binders passed.
+fn gather(
+    s: &[u8],
+    at: usize,
+    binders: &mut [u16],
+    depth: usize,
+    row: &mut [u16],
+    n: usize,
+) -> Gathered
+    requires { ⌜ ((t : Term) × (xs : List Name) × (l : List Name) × Task (now s) at (now binders) depth (now row) n t xs l) ⌝ }
+    ensures { λ r. ⌜ ((t : Term) → (xs : List Name) → (l : List Name) → Task (now (s .entry)) at (now (binders .entry)) depth (now (row .entry)) n t xs l → Done (now (s .entry)) at (now (binders .exit)) depth (now (row .exit)) n t xs l r) ⌝ }
+{
+    let tag = s[at] as usize;
+    let names = walk::names_of(tag);
+    let parts = walk::parts_of(tag);
+    let first = at + 1;
+    if names == 0 {
+        if parts == 0 {
+            return Gathered {
+                next: first,
+                count: n,
+            };
+        }
+        let a = gather(s, first, binders, depth, row, n);
+        if parts == 1 {
+            return a;
+        }
+        let m = a.next;
+        let k = a.count;
+        return gather(s, m, binders, depth, row, k);
+    }
+    let second = first + 1 + s[first] as usize;
+    if parts == 0 {
+        let k = meet(s, first, binders, depth, row, n);
+        return Gathered {
+            next: second,
+            count: k,
+        };
+    }
+    if names == 1 {
+        binders[depth] = first as u16;
+        return gather(s, second, binders, depth + 1, row, n);
+    }
+    let start = second + 1 + s[second] as usize;
+    let a = gather(s, start, binders, depth, row, n);
+    let m = a.next;
+    let k = a.count;
+    binders[depth] = first as u16;
+    if parts == 2 {
+        binders[depth + 1] = second as u16;
+        return gather(s, m, binders, depth + 2, row, k);
+    }
+    let b = gather(s, m, binders, depth + 1, row, k);
+    let i = b.next;
+    let j = b.count;
+    binders[depth] = second as u16;
+    gather(s, i, binders, depth + 1, row, j)
 }
