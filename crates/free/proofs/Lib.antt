@@ -4,3 +4,4 @@ mod Heldness
 mod Slots
 mod Opening
 mod Meeting
+mod Pushing

@@ -37,3 +37,10 @@ pub record Opened (row row′ : List ℕ) (n i p : ℕ) : Type 0 where
   pub below : (j : ℕ) → j < i → getD row′ j 0 ≡ getD row j 0
   pub here : getD row′ i 0 ≡ p
   pub above : (j : ℕ) → i ≤ j → j < n → getD row′ (j + 1) 0 ≡ getD row j 0
+
+-- the name x at p goes behind the n names of a row, which has room for it
+pub record Pushes (s : Bytes) (p : ℕ) (row : List ℕ) (n : ℕ) (x : Name) (xs : List Name) : Type 0 where
+  pub name : NameAt s p x
+  pub held : Held s row n xs
+  pub room : n < length row
+  pub short : length s ≤ 65536

@@ -1,7 +1,8 @@
 // Free names, gathered in one walk: the places of the binders passed and of the names found stand in two rows,
 // the names found in order.
 ghost use mathlib.Core.Path.{_≡_};
-ghost use mathlib.Core.List.{List};
+ghost use mathlib.Core.List.{List, [], _∷_};
+ghost use Rattle.rules.specs.Basic.{_‥_};
 ghost use Prim.Native.Nat.{_+_, _*_, _≤_, _<_};
 ghost use lib.ListN.{length};
 ghost use Rattle.rules.specs.Name.{Name};
@@ -10,8 +11,8 @@ ghost use Rattle.rules.specs.Free.{insert};
 ghost use Rattle.walk.specs.Place.{NameAt, TermAt};
 ghost use Rattle.free.specs.Ordered.{elem};
 ghost use Rattle.free.specs.Order.{orderOf};
-ghost use Rattle.free.specs.Rows.{Held, Sought, Goes, Opened};
-ghost use Rattle.free.specs.Walk.{Meets, Met, Task, Done};
+ghost use Rattle.free.specs.Rows.{Held, Sought, Goes, Opened, Pushes};
+ghost use Rattle.free.specs.Walk.{Meets, Met};
 
 // How one name stands to another: before it, the same, or after it.
 pub enum Stands {
@@ -152,61 +153,10 @@ pub struct Gathered {
     pub count: usize,
 }
 
-// Puts the free names of the term at `at` into the row, but for those of the binders passed.
-fn gather(
-    s: &[u8],
-    at: usize,
-    binders: &mut [u16],
-    depth: usize,
-    row: &mut [u16],
-    n: usize,
-) -> Gathered
-    requires { ⌜ ((t : Term) × (xs : List Name) × (l : List Name) × Task (now s) at (now binders) depth (now row) n t xs l) ⌝ }
-    ensures { λ r. ⌜ ((t : Term) → (xs : List Name) → (l : List Name) → Task (now (s .entry)) at (now (binders .entry)) depth (now (row .entry)) n t xs l → Done (now (s .entry)) at (now (binders .exit)) depth (now (row .exit)) n t xs l r) ⌝ }
+// Puts the place of a binder's name behind the first n of the row.
+fn push(s: &[u8], at: usize, row: &mut [u16], n: usize)
+    requires { ⌜ ((x : Name) × (xs : List Name) × Pushes (now s) at (now row) n x xs) ⌝ }
+    ensures { λ _. ⌜ ((x : Name) → (xs : List Name) → Pushes (now (s .entry)) at (now (row .entry)) n x xs → Held (now (s .entry)) (now (row .exit)) (n + 1) (xs ‥ x ∷ [])) ⌝ }
 {
-    let tag = s[at] as usize;
-    let names = walk::names_of(tag);
-    let parts = walk::parts_of(tag);
-    let first = at + 1;
-    if names == 0 {
-        if parts == 0 {
-            return Gathered {
-                next: first,
-                count: n,
-            };
-        }
-        let a = gather(s, first, binders, depth, row, n);
-        if parts == 1 {
-            return a;
-        }
-        let m = a.next;
-        let k = a.count;
-        return gather(s, m, binders, depth, row, k);
-    }
-    let second = first + 1 + s[first] as usize;
-    if parts == 0 {
-        let k = meet(s, first, binders, depth, row, n);
-        return Gathered {
-            next: second,
-            count: k,
-        };
-    }
-    if names == 1 {
-        binders[depth] = first as u16;
-        return gather(s, second, binders, depth + 1, row, n);
-    }
-    let start = second + 1 + s[second] as usize;
-    let a = gather(s, start, binders, depth, row, n);
-    let m = a.next;
-    let k = a.count;
-    binders[depth] = first as u16;
-    if parts == 2 {
-        binders[depth + 1] = second as u16;
-        return gather(s, m, binders, depth + 2, row, k);
-    }
-    let b = gather(s, m, binders, depth + 1, row, k);
-    let i = b.next;
-    let j = b.count;
-    binders[depth] = second as u16;
-    gather(s, i, binders, depth + 1, row, j)
+    row[n] = at as u16;
 }
