@@ -5,3 +5,4 @@ mod Slots
 mod Opening
 mod Meeting
 mod Pushing
+mod Shapes

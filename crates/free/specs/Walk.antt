@@ -2,16 +2,17 @@
 use Prim.Native.Nat.{ℕ, _+_, _*_, _≤_, _<_}
 use mathlib.Core.Path.{_≡_}
 use mathlib.Core.List.{List}
-use lib.ListN.{length}
+use lib.ListN.{length, take}
 use Rattle.rules.specs.Basic.{Bytes, if_then_else_}
-use Rattle.rules.specs.Name.{Name}
-use Rattle.rules.specs.Term.{Term, nodes, size}
+use Rattle.rules.specs.Name.{Name, encodeNames}
+use Rattle.rules.specs.Term.{Term, nodes, size, parts}
 use Rattle.rules.specs.Free.{insert}
 use Rattle.walk.specs.Place.{NameAt, TermAt}
+use Rattle.walk.specs.Node.{names, head}
 use Rattle.free.specs.Ordered.{Ordered, elem}
 use Rattle.free.specs.Gather.{gather}
 use Rattle.free.specs.Rows.{Held}
-use Rattle.free.specs.declared.Gathered.{Gathered}
+use Rattle.free.specs.declared.Shape.{Shape}
 
 -- the binders passed are xs, the outermost first, and the names found so far are l, in order
 pub record State (s : Bytes) (binders : List ℕ) (depth : ℕ) (row : List ℕ) (n : ℕ) (xs l : List Name) : Type 0 where
@@ -30,14 +31,9 @@ pub record Met (s : Bytes) (row : List ℕ) (n : ℕ) (x : Name) (xs l : List Na
   pub found : Held s row r (if elem x xs then l else insert x l)
   pub few : r ≤ n + 1
 
--- the term t is to be walked, and there is room for what it may bring
-pub record Task (s : Bytes) (p : ℕ) (binders : List ℕ) (depth : ℕ) (row : List ℕ) (n : ℕ) (t : Term) (xs l : List Name) : Type 0 where
-  pub term : TermAt s p t
-  pub state : State s binders depth row n xs l
-  pub deep : depth + 2 * nodes t ≤ length binders
-  pub room : n + nodes t ≤ length row
-
-pub record Done (s : Bytes) (p : ℕ) (binders : List ℕ) (depth : ℕ) (row : List ℕ) (n : ℕ) (t : Term) (xs l : List Name) (r : Gathered) : Type 0 where
-  pub next : r .next ≡ p + size t
-  pub state : State s binders depth row (r .count) xs (gather xs t l)
-  pub few : r .count ≤ n + nodes t
+-- a node as the code sees it
+pub record Shaped (p : ℕ) (t : Term) (r : Shape) : Type 0 where
+  pub named : r .names ≡ length (names t)
+  pub parted : r .parts ≡ length (parts t)
+  pub second : r .second ≡ p + 1 + length (encodeNames (take 1 (names t)))
+  pub start : r .start ≡ p + length (head t)

@@ -12,7 +12,7 @@ ghost use Rattle.walk.specs.Place.{NameAt, TermAt};
 ghost use Rattle.free.specs.Ordered.{elem};
 ghost use Rattle.free.specs.Order.{orderOf};
 ghost use Rattle.free.specs.Rows.{Held, Sought, Goes, Opened, Pushes};
-ghost use Rattle.free.specs.Walk.{Meets, Met};
+ghost use Rattle.free.specs.Walk.{Meets, Met, Shaped};
 
 // How one name stands to another: before it, the same, or after it.
 pub enum Stands {
@@ -159,4 +159,46 @@ fn push(s: &[u8], at: usize, row: &mut [u16], n: usize)
     ensures { λ _. ⌜ ((x : Name) → (xs : List Name) → Pushes (now (s .entry)) at (now (row .entry)) n x xs → Held (now (s .entry)) (now (row .exit)) (n + 1) (xs ‥ x ∷ [])) ⌝ }
 {
     row[n] = at as u16;
+}
+
+// A node: how many names and parts it has, where its second name stands, and where its parts start.
+pub struct Shape {
+    pub names: usize,
+    pub parts: usize,
+    pub second: usize,
+    pub start: usize,
+}
+
+fn shape_of(s: &[u8], at: usize) -> Shape
+    requires { ⌜ ((t : Term) × TermAt (now s) at t) ⌝ }
+    ensures { λ r. ⌜ ((t : Term) → TermAt (now (s .entry)) at t → Shaped at t r) ⌝ }
+{
+    let tag = s[at] as usize;
+    let names = walk::names_of(tag);
+    let parts = walk::parts_of(tag);
+    let first = at + 1;
+    if names == 0 {
+        return Shape {
+            names,
+            parts,
+            second: first,
+            start: first,
+        };
+    }
+    let second = walk::after_names(s, first, 1);
+    if names == 1 {
+        return Shape {
+            names,
+            parts,
+            second,
+            start: second,
+        };
+    }
+    let start = walk::after_names(s, second, 1);
+    Shape {
+        names,
+        parts,
+        second,
+        start,
+    }
 }
