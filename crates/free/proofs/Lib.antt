@@ -6,3 +6,8 @@ mod Opening
 mod Meeting
 mod Pushing
 mod Shapes
+mod Inverts
+mod Moves
+mod Covering
+mod Gathers
+mod Unders

@@ -13,6 +13,7 @@ use Rattle.free.specs.Ordered.{Ordered, elem}
 use Rattle.free.specs.Gather.{gather}
 use Rattle.free.specs.Rows.{Held}
 use Rattle.free.specs.declared.Shape.{Shape}
+use Rattle.free.specs.declared.Gathered.{Gathered}
 
 -- the binders passed are xs, the outermost first, and the names found so far are l, in order
 pub record State (s : Bytes) (binders : List ℕ) (depth : ℕ) (row : List ℕ) (n : ℕ) (xs l : List Name) : Type 0 where
@@ -37,3 +38,24 @@ pub record Shaped (p : ℕ) (t : Term) (r : Shape) : Type 0 where
   pub parted : r .parts ≡ length (parts t)
   pub second : r .second ≡ p + 1 + length (encodeNames (take 1 (names t)))
   pub start : r .start ≡ p + length (head t)
+
+-- the term t is to be walked, and there is room for what it may bring
+pub record Task (s : Bytes) (p : ℕ) (binders : List ℕ) (depth : ℕ) (row : List ℕ) (n : ℕ) (t : Term) (xs l : List Name) : Type 0 where
+  pub term : TermAt s p t
+  pub state : State s binders depth row n xs l
+  pub deep : depth + 2 * nodes t ≤ length binders
+  pub room : n + nodes t ≤ length row
+
+-- it is walked
+pub record Done (s : Bytes) (p : ℕ) (binders : List ℕ) (depth : ℕ) (row : List ℕ) (n : ℕ) (t : Term) (xs l : List Name) (r : Gathered) : Type 0 where
+  pub next : r .next ≡ p + size t
+  pub state : State s binders depth row (r .count) xs (gather xs t l)
+  pub few : r .count ≤ n + nodes t
+
+-- a term of two names at p, its second name at q and its parts from h on, is to be walked
+pub record Covers (s : Bytes) (p q h k : ℕ) (binders : List ℕ) (depth : ℕ) (row : List ℕ) (n : ℕ) (t : Term) (xs l : List Name) : Type 0 where
+  pub task : Task s p binders depth row n t xs l
+  pub two : length (names t) ≡ 2
+  pub parted : k ≡ length (parts t)
+  pub second : q ≡ p + 1 + length (encodeNames (take 1 (names t)))
+  pub start : h ≡ p + length (head t)

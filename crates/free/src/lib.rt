@@ -12,7 +12,7 @@ ghost use Rattle.walk.specs.Place.{NameAt, TermAt};
 ghost use Rattle.free.specs.Ordered.{elem};
 ghost use Rattle.free.specs.Order.{orderOf};
 ghost use Rattle.free.specs.Rows.{Held, Sought, Goes, Opened, Pushes};
-ghost use Rattle.free.specs.Walk.{Meets, Met, Shaped};
+ghost use Rattle.free.specs.Walk.{Meets, Met, Shaped, Task, Done, Covers};
 
 // How one name stands to another: before it, the same, or after it.
 pub enum Stands {
@@ -201,4 +201,80 @@ fn shape_of(s: &[u8], at: usize) -> Shape
         second,
         start,
     }
+}
+
+// Puts the free names of the term at `at` into the row, but for those of the binders passed.
+fn gather(
+    s: &[u8],
+    at: usize,
+    binders: &mut [u16],
+    depth: usize,
+    row: &mut [u16],
+    n: usize,
+) -> Gathered
+    requires { ⌜ ((t : Term) × (xs : List Name) × (l : List Name) × Task (now s) at (now binders) depth (now row) n t xs l) ⌝ }
+    ensures { λ r. ⌜ ((t : Term) → (xs : List Name) → (l : List Name) → Task (now (s .entry)) at (now (binders .entry)) depth (now (row .entry)) n t xs l → Done (now (s .entry)) at (now (binders .exit)) depth (now (row .exit)) n t xs l r) ⌝ }
+{
+    let node = shape_of(s, at);
+    let names = node.names;
+    let parts = node.parts;
+    let start = node.start;
+    if parts == 0 {
+        if names == 0 {
+            return Gathered {
+                next: start,
+                count: n,
+            };
+        }
+        let k = meet(s, at + 1, binders, depth, row, n);
+        return Gathered {
+            next: start,
+            count: k,
+        };
+    }
+    if names == 0 {
+        let a = gather(s, start, binders, depth, row, n);
+        if parts == 1 {
+            return a;
+        }
+        let m = a.next;
+        let k = a.count;
+        return gather(s, m, binders, depth, row, k);
+    }
+    if names == 1 {
+        push(s, at + 1, binders, depth);
+        return gather(s, start, binders, depth + 1, row, n);
+    }
+    let second = node.second;
+    gather_under(s, at, second, start, parts, binders, depth, row, n)
+}
+
+// The same of a node of two names: both cover its second part, or each covers one of two.
+fn gather_under(
+    s: &[u8],
+    at: usize,
+    second: usize,
+    start: usize,
+    parts: usize,
+    binders: &mut [u16],
+    depth: usize,
+    row: &mut [u16],
+    n: usize,
+) -> Gathered
+    requires { ⌜ ((t : Term) × (xs : List Name) × (l : List Name) × Covers (now s) at second start parts (now binders) depth (now row) n t xs l) ⌝ }
+    ensures { λ r. ⌜ ((t : Term) → (xs : List Name) → (l : List Name) → Covers (now (s .entry)) at second start parts (now (binders .entry)) depth (now (row .entry)) n t xs l → Done (now (s .entry)) at (now (binders .exit)) depth (now (row .exit)) n t xs l r) ⌝ }
+{
+    let a = gather(s, start, binders, depth, row, n);
+    let m = a.next;
+    let k = a.count;
+    push(s, at + 1, binders, depth);
+    if parts == 2 {
+        push(s, second, binders, depth + 1);
+        return gather(s, m, binders, depth + 2, row, k);
+    }
+    let b = gather(s, m, binders, depth + 1, row, k);
+    let i = b.next;
+    let j = b.count;
+    push(s, second, binders, depth);
+    gather(s, i, binders, depth + 1, row, j)
 }
