@@ -11,3 +11,4 @@ mod Moves
 mod Covering
 mod Gathers
 mod Unders
+mod Listing

@@ -5,7 +5,7 @@ use mathlib.Core.Bool.{true, false}
 use mathlib.Core.List.{List, [], _∷_, _++_}
 use lib.ListN.{length, getD, take, drop}
 use Rattle.rules.specs.Basic.{Bytes}
-use Rattle.rules.specs.Name.{Name}
+use Rattle.rules.specs.Name.{Name, encodeNames}
 use Rattle.rules.specs.Term.{Term, nodes, size}
 use Rattle.rules.specs.Free.{insert}
 use Rattle.walk.specs.Place.{NameAt, TermAt}
@@ -44,3 +44,8 @@ pub record Pushes (s : Bytes) (p : ℕ) (row : List ℕ) (n : ℕ) (x : Name) (x
   pub held : Held s row n xs
   pub room : n < length row
   pub short : length s ≤ 65536
+
+-- the names of a row, as names, fit the output
+pub record Writes (s : Bytes) (row : List ℕ) (n : ℕ) (out : Bytes) (xs : List Name) : Type 0 where
+  pub held : Held s row n xs
+  pub room : length (encodeNames xs) ≤ length out

@@ -5,13 +5,14 @@ ghost use mathlib.Core.List.{List, [], _∷_};
 ghost use Rattle.rules.specs.Basic.{_‥_};
 ghost use Prim.Native.Nat.{_+_, _*_, _≤_, _<_};
 ghost use lib.ListN.{length};
-ghost use Rattle.rules.specs.Name.{Name};
+ghost use Rattle.rules.specs.Name.{Name, encodeNames};
+ghost use Rattle.runs.specs.Wrote.{Wrote};
 ghost use Rattle.rules.specs.Term.{Term};
 ghost use Rattle.rules.specs.Free.{insert};
 ghost use Rattle.walk.specs.Place.{NameAt, TermAt};
 ghost use Rattle.free.specs.Ordered.{elem};
 ghost use Rattle.free.specs.Order.{orderOf};
-ghost use Rattle.free.specs.Rows.{Held, Sought, Goes, Opened, Pushes};
+ghost use Rattle.free.specs.Rows.{Held, Sought, Goes, Opened, Pushes, Writes};
 ghost use Rattle.free.specs.Walk.{Meets, Met, Shaped, Task, Done, Covers};
 
 // How one name stands to another: before it, the same, or after it.
@@ -277,4 +278,20 @@ fn gather_under(
     let j = b.count;
     push(s, second, binders, depth);
     gather(s, i, binders, depth + 1, row, j)
+}
+
+// Writes the names whose places are the first n of the row, each with its length byte.
+fn write_names(s: &[u8], row: &[u16], n: usize, out: &mut [u8]) -> usize
+    requires { ⌜ ((xs : List Name) × Writes (now s) (now row) n (now out) xs) ⌝ }
+    ensures { λ r. ⌜ ((xs : List Name) → Writes (now (s .entry)) (now (row .entry)) n (now (out .entry)) xs → Wrote (now (out .entry)) 0 (encodeNames xs) (now (out .exit)) r) ⌝ }
+{
+    let mut i = 0;
+    let mut to = 0;
+    while i < n {
+        let from = row[i] as usize;
+        let end = from + 1 + s[from] as usize;
+        to = runs::copy(s, from, end, out, to);
+        i += 1;
+    }
+    to
 }
