@@ -12,3 +12,5 @@ mod Covering
 mod Gathers
 mod Unders
 mod Listing
+mod Wholes
+mod Calling

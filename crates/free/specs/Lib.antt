@@ -5,3 +5,4 @@ pub mod Search
 pub mod Order
 pub mod Rows
 pub mod Walk
+pub mod Whole

@@ -14,6 +14,13 @@ ghost use Rattle.free.specs.Ordered.{elem};
 ghost use Rattle.free.specs.Order.{orderOf};
 ghost use Rattle.free.specs.Rows.{Held, Sought, Goes, Opened, Pushes, Writes};
 ghost use Rattle.free.specs.Walk.{Meets, Met, Shaped, Task, Done, Covers};
+ghost use Rattle.free.specs.Whole.{Lists, Listed};
+ghost use Rattle.rules.specs.Limits.{limits};
+ghost use Rattle.rules.specs.Refusal.{answered};
+ghost use Rattle.rules.specs.Calls.{freeVarsCall};
+use rules::Answer;
+use rules::OUTPUT_ROOM;
+use rules::Refusal;
 
 // How one name stands to another: before it, the same, or after it.
 pub enum Stands {
@@ -294,4 +301,35 @@ fn write_names(s: &[u8], row: &[u16], n: usize, out: &mut [u8]) -> usize
         i += 1;
     }
     to
+}
+
+// The free names of the whole term, written to out with zeros behind them; and how many bytes they take.
+fn list_names(term: &[u8], out: &mut [u8]) -> usize
+    requires { ⌜ ((t : Term) × Lists (now term) (now out) t) ⌝ }
+    ensures { λ r. ⌜ ((t : Term) → Lists (now (term .entry)) (now (out .entry)) t → Listed t (now (out .entry)) (now (out .exit)) r) ⌝ }
+{
+    let mut binders = [0u16; 1024];
+    let mut row = [0u16; 512];
+    let found = gather(term, 0, &mut binders, 0, &mut row, 0);
+    let end = write_names(term, &row, found.count, out);
+    runs::clear(out, end);
+    end
+}
+
+// The names that are free in the term, each once, with its length byte, in order.
+pub fn free_vars(term: &[u8], out: &mut [u8]) -> Answer
+    ensures { λ r. ⌜ r ≡ answered (freeVarsCall limits (now (term .entry)) (now (out .entry)) .answer) ⌝ }
+    ensures { λ _. ⌜ now (out .exit) ≡ freeVarsCall limits (now (term .entry)) (now (out .entry)) .output ⌝ }
+{
+    if out.len() < OUTPUT_ROOM {
+        return Answer::Refused(Refusal {
+            number: 1,
+            place: 0,
+            input: 0,
+        });
+    }
+    match reader::term_input(term, 1) {
+        Answer::Refused(r) => Answer::Refused(r),
+        Answer::Good(_) => Answer::Good(list_names(term, out)),
+    }
 }
