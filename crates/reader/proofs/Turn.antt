@@ -11,7 +11,7 @@ use Rattle.laws.specs.Steady.{steady-name, steady-times}
 use Rattle.reader.specs.Form.{Form, layoutOf}
 use Rattle.reader.specs.Classes.{codeAt}
 use Rattle.reader.specs.View.{Skip, To, Fault, Bad, view, skipped}
-use Rattle.reader.specs.Viewed.{view-bad, Passed, passed}
+use Rattle.reader.specs.Viewed.{view-bad, passed}
 use Rattle.reader.proofs.Coded.{code-none, Coded, coded}
 use Rattle.reader.proofs.Node.{node-out, node-full, node-unknown, node-off}
 use Rattle.reader.proofs.Rest.{Rest, rest-bad, rest-step}
