@@ -1,9 +1,9 @@
 -- A turn of the walk that keeps places: the first term of the row is hidden, is the variable, has no parts, is the last, or is gone into.
 -- Assumes nothing.
-use Prim.Native.Nat.{ℕ, zero, suc, _+_, _-_, _*_, _/_, _%_, _<_, _≤_}
+use Prim.Native.Nat.{ℕ, _+_, _-_, _*_, _/_, _%_, _<_, _≤_}
 use mathlib.Core.Path.{_≡_, refl, sym, ap, _∙_}
 use mathlib.Core.Bool.{Bool, true, false}
-use mathlib.Core.List.{List, [], _∷_, _++_, append-nil, append-assoc}
+use mathlib.Core.List.{List, [], _∷_, _++_, append-nil}
 use native.Mathlib.Nat.{mul-add}
 use native.Mathlib.Omega.{arith}
 use lib.ListN.{length, length-append}
@@ -14,7 +14,7 @@ use Rattle.rules.specs.Term.{Term, encode, size, parts}
 use Rattle.rules.specs.Free.{occurrences}
 use Rattle.laws.specs.SubstSize.{occurrences-bytes}
 use Rattle.runs.specs.Wrote.{Wrote}
-use Rattle.walk.specs.Node.{head, encodeAll, isVar, hides, hidden}
+use Rattle.walk.specs.Node.{head, encodeAll, hides, hidden}
 use Rattle.walk.specs.Place.{TermAt, TermsAt}
 use Rattle.walk.specs.Seen.{Seen}
 use Rattle.walk.specs.declared.Node.{Node}

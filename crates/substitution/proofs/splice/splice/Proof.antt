@@ -1,6 +1,6 @@
 -- `substitution::splice::splice` meets its contract: whatever the places that are left give, all give. Assumes nothing.
-use Prim.Native.Nat.{ℕ, _+_, _-_}
-use mathlib.Core.Path.{_≡_, refl, _∙_}
+use Prim.Native.Nat.{_+_, _-_}
+use mathlib.Core.Path.{refl, _∙_}
 use native.Mathlib.Omega.{arith}
 use lib.ListN.{length}
 use Rattle.substitution.proofs.Writes.{wrote-length}
