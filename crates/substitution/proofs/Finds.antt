@@ -63,7 +63,7 @@ pub record Going (s : Bytes) (at n mask : ℕ) (x : Name) (out₀ : Bytes) (to :
 pub begin : (s : Bytes) (at n mask : ℕ) (x : Name) (out : Bytes) (to : ℕ) → Some s at n → to + (length s - at) ≤ length out → Going s at n mask x out to out at n mask to
 begin s at n mask x out to a h = record { some = a; past = omega arith; room = h; same = refl; rest = λ next past out′ f. f }
 
-module _ (s : Bytes) (at n mask : ℕ) (x : Name) (out₀ : Bytes) (to : ℕ) (out : Bytes) (i left hide o : ℕ) (g : Going s at n mask x out₀ to out i left hide o) where
+module _ {s : Bytes} {at n mask : ℕ} {x : Name} {out₀ : Bytes} {to : ℕ} {out : Bytes} {i left hide o : ℕ} (g : Going s at n mask x out₀ to out i left hide o) where
   pub done : left ≡ 0 → FindIs s at n mask x out₀ to i o out
   done z = g .rest i o out (find-none s i left hide x out o z)
 

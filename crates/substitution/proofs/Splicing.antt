@@ -58,7 +58,7 @@ module _ (s kps : Bytes) (gap : ℕ) (v : Bytes) (k i : ℕ) (out : Bytes) (o : 
         room = omega (arith, w .room, length-append (slice i p s) (v ++ spliced s v gap (p + gap) ps (length s)), length-append v (spliced s v gap (p + gap) ps (length s)), length-slice i p s (omega (arith, e)));
       }
 
-module _ (s kps : Bytes) (gap : ℕ) (v out₀ : Bytes) (to : ℕ) (out : Bytes) (i k o : ℕ) (g : Going s kps gap v out₀ to out i k o) where
+module _ {s kps : Bytes} {gap : ℕ} {v out₀ : Bytes} {to : ℕ} {out : Bytes} {i k o : ℕ} (g : Going s kps gap v out₀ to out i k o) where
   module _ (l : k < length kps) (q : ℕ) (eq : q ≡ getD kps k 0 + 256 * getD kps (k + 1) 0) where
     -- bounds of the turn
     pub record Bounds : Type 0 where
