@@ -12,14 +12,11 @@ use Rattle.rules.specs.Layout.{Layout, Tuple, headAt}
 use Rattle.rules.specs.Legal.{LegalName}
 use Rattle.rules.specs.Reading.{got, Reader, times, byte, name, tag, node}
 use Rattle.laws.specs.Written.{Written, bytesOf, sumOf, Each}
-use Rattle.laws.specs.Names.{name-found}
+use Rattle.laws.specs.Names.{same-got, name-found}
 
 -- m reads x wherever x is written, if there is room for its nodes
 abbrev pub Finds : {A : Type 0} → (most : ℕ) → (A → Bytes) → (A → ℕ) → Reader ℕ A → A → Type 0
 Finds most enc count m x = (u at : ℕ) (r : Bytes) → u + count x ≤ most → m u at (enc x ‥ r) ≡ got x (u + count x) (at + length (enc x)) r
-
-same-got : {A : Type 0} (x : A) (u v p q : ℕ) (r : Bytes) → u ≡ v → p ≡ q → got x u p r ≡ got x v q r
-same-got x u v p q r e d = cc
 
 -- names count nothing
 abbrev none : Name → ℕ

@@ -1,6 +1,7 @@
 pub mod Holds
 pub mod Keeps
 pub mod Steady
+pub mod SteadyProof
 pub mod Written
 pub mod WrittenTerm
 pub mod WrittenFormula
@@ -12,4 +13,13 @@ pub mod TextSize
 pub mod Same
 pub mod FreeSize
 pub mod SubstSize
+pub mod SubstNone
+pub mod Occurrences
+pub mod SubstFree
+pub mod SubstReach
+pub mod SubstAmong
+pub mod Parts
+pub mod SubstLegal
+pub mod StepLegal
+pub mod Fits
 pub mod Numbers

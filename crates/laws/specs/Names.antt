@@ -93,26 +93,26 @@ module _ {S : Type 0} where
         legal = longer n most (leb-true _ _ (t .1)) x (i .legal .1);
       }) (letters-sound n (leb-true _ _ (t .0)) w p r″)))
 
-pub same-got : {S A : Type 0} (x : A) (u : S) (p q : ℕ) (r : Bytes) → p ≡ q → got x u p r ≡ got x u q r
-same-got x u p q r e = cc
+pub same-got : {S A : Type 0} (x : A) (u v : S) (p q : ℕ) (r : Bytes) → u ≡ v → p ≡ q → got x u p r ≡ got x v q r
+same-got x u v p q r e d = cc
 
 -- The reverse: what is written is read.
 module _ {S : Type 0} where
   run-found : (ok : ℕ → Bool) (k : ℕ) (bs : Bytes) → All ok bs → (u : S) (at : ℕ) (r : Bytes) → many (byteFor ok k) (length bs) u at (bs ‥ r) ≡ got bs u (at + length bs) r
   unfolding many byteFor byte
-  run-found ok k [] a u at r = same-got [] u at (at + 0) r (omega arith)
-  run-found ok k (b ∷ bs) a u at r = rw (a .0, run-found ok k bs (a .1) u (at + 1) r) (same-got (b ∷ bs) u (at + 1 + length bs) (at + suc (length bs)) r (omega arith))
+  run-found ok k [] a u at r = same-got [] u u at (at + 0) r refl (omega arith)
+  run-found ok k (b ∷ bs) a u at r = rw (a .0, run-found ok k bs (a .1) u (at + 1) r) (same-got (b ∷ bs) u u (at + 1 + length bs) (at + suc (length bs)) r refl (omega arith))
 
   pub letters-found : (most : ℕ) (x : Name) → LegalName most x → (u : S) (at : ℕ) (r : Bytes) → letters (length x) u at (x ‥ r) ≡ got x u (at + length x) r
   unfolding letters byteFor byte
   letters-found most [] l u at r = absurd l
   letters-found most (b ∷ bs) l u at r =
       let z : suc (length bs) - 1 ≡ length bs = omega arith in
-      rw (l .0, z, run-found follows 5 bs (l .1) u (at + 1) r) (same-got (b ∷ bs) u (at + 1 + length bs) (at + suc (length bs)) r (omega arith))
+      rw (l .0, z, run-found follows 5 bs (l .1) u (at + 1) r) (same-got (b ∷ bs) u u (at + 1 + length bs) (at + suc (length bs)) r refl (omega arith))
 
   pub name-found : (most : ℕ) (x : Name) → LegalName most x → (u : S) (at : ℕ) (r : Bytes) → name most u at (encodeName x ‥ r) ≡ got x u (at + length (encodeName x)) r
   unfolding name byteFor byte room
   name-found most x l u at r =
       let n = name-long most x l in
       rw (le-leb 1 (length x) (n .0), le-leb (length x) most (n .1), le-leb (length x) (length (x ++ r)) (omega (arith, length-append x r)), letters-found most x l u (at + 1) r)
-      (same-got x u (at + 1 + length x) (at + suc (length x)) r (omega arith))
+      (same-got x u u (at + 1 + length x) (at + suc (length x)) r refl (omega arith))

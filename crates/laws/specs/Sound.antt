@@ -15,7 +15,7 @@ use Rattle.laws.specs.Holds.{Holds, and-then, chosen, none-read}
 use Rattle.laws.specs.Written.{Written, bytesOf, sumOf, Each}
 use Rattle.laws.specs.Names.{Item, still, name-sound}
 
--- n things in a row
+-- the count after n things in a row
 abbrev pub addAll : {S A : Type 0} → (S → A → S) → (n : ℕ) → S → Tuple A n → S
 addAll add zero u xs = u
 addAll add (suc n) u xs = addAll add n (add u (xs .0)) (xs .1)

@@ -31,25 +31,25 @@ Steady {S = S} {A} m = (s : Bytes) (u : S) (at : ℕ) → at ≤ length s → En
 pub stands : (s : Bytes) (at : ℕ) → at ≤ length s → Stands s at (drop at s)
 stands s at h = record { rest = refl; within = h }
 
-stands-next : (s : Bytes) (at b : ℕ) (r : Bytes) → Stands s at (b ∷ r) → Stands s (at + 1) r
+pub stands-next : (s : Bytes) (at b : ℕ) (r : Bytes) → Stands s at (b ∷ r) → Stands s (at + 1) r
 stands-next s at b r h = record { rest = ap (drop 1) (h .rest) ∙ drop-drop 1 at s; within = omega (arith, ap length (h .rest) ∙ length-drop at s) }
 
 -- who stood at a place of s stands at one
 abbrev pub Along : {S : Type 0} → Bytes → S → ℕ → Bytes → S → ℕ → Bytes → Type 0
 Along s u at r v p r′ = Stands s at r → Stands s p r′
 
-along : {S : Type 0} (s : Bytes) → Kept {S = S} (Along s)
+pub along : {S : Type 0} (s : Bytes) → Kept {S = S} (Along s)
 along s = record { still = λ u at r h. h; on = λ f g h. g (f h); passed = λ u at b r h. stands-next s at b r h }
 
 module _ {S A : Type 0} (m : Reader S A) where
-  to-steady : ((s : Bytes) → Keeps (Along s) m) → Steady m
+  pub to-steady : ((s : Bytes) → Keeps (Along s) m) → Steady m
   to-steady k s u at h = go (m u at (drop at s)) (k s u at (drop at s))
     where
       go : (g : Got S A) → Holds (λ x v p r. Stands s at (drop at s) → Stands s p r) g → Ends s g
       go (got x v p r) f = f (stands s at h)
       go (bad n p) f = tt
 
-  of-steady : Steady m → (s : Bytes) → Keeps (Along s) m
+  pub of-steady : Steady m → (s : Bytes) → Keeps (Along s) m
   of-steady k s u at r = go (m u at r) (λ h. rw (h .rest) (k s u at (h .within)))
     where
       go : (g : Got S A) → (Stands s at r → Ends s g) → Holds (λ x v p r′. Stands s at r → Stands s p r′) g

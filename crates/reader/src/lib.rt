@@ -3,15 +3,15 @@ ghost use mathlib.Core.Path.{_≡_};
 ghost use Prim.Native.Nat.{ℕ, _≤_};
 ghost use lib.ListN.{length};
 ghost use Rattle.rules.specs.Limits.{Limits, limits};
-ghost use Rattle.rules.specs.Refusal.{mapped, answered};
+ghost use Rattle.rules.specs.Refusal.{refuse, mapped, answered};
 ghost use Rattle.rules.specs.Term.{nodes as nodeCount};
 ghost use Rattle.rules.specs.Formula.{formulaNodes};
 ghost use Rattle.rules.specs.Reading.{node, readTerm, readFormula, readName};
 ghost use Rattle.rules.specs.Calls.{checkTermCall, checkFormulaCall};
 ghost use Rattle.reader.specs.Form.{layoutOf, countOf, mostOf, readOf};
 ghost use Rattle.reader.specs.View.{view};
-use classes::FORMULA_CLASSES;
-use classes::TERM_CLASSES;
+use classes::letter_table;
+use classes::table_of;
 use names::Skip;
 use names::skip_letters;
 use nodes::Read;
@@ -33,15 +33,14 @@ pub enum Form {
     Formula,
 }
 
-// Reads one node from the start, by the form's table.
-fn read_first(s: &[u8], form: Form, most: usize) -> Read
-    requires { ⌜ most ≤ 65536 ⌝ }
-    ensures { λ r. ⌜ r ≡ view (node (layoutOf form) most most 0 0 (now (s .entry))) ⌝ }
+fn refused(number: u8, place: usize, input: u8) -> Answer
+    ensures { λ r. ⌜ r ≡ answered (refuse number place input) ⌝ }
 {
-    match form {
-        Form::Term => read_from(s, Form::Term, &TERM_CLASSES, 0, 0, most),
-        Form::Formula => read_from(s, Form::Formula, &FORMULA_CLASSES, 0, 0, most),
-    }
+    Answer::Refused(Refusal {
+        number,
+        place,
+        input,
+    })
 }
 
 // Whether s is one of that form, of at most so many bytes and nodes; with its count of nodes.
@@ -50,29 +49,18 @@ fn check_within(s: &[u8], form: Form, bytes: usize, most: usize, input: u8) -> A
     ensures { λ r. ⌜ ((L : Limits) → L .bytes ≡ bytes → mostOf form L ≡ most → r ≡ answered (mapped (countOf form) (readOf form L input (now (s .entry))))) ⌝ }
 {
     if bytes < s.len() {
-        return Answer::Refused(Refusal {
-            number: 2,
-            place: bytes,
-            input,
-        });
+        return refused(2, bytes, input);
     }
-    match read_first(s, form, most) {
+    let t = table_of(form);
+    match read_from(s, form, &t, 0, 0, most) {
         Read::Whole { next, met } => {
             if next < s.len() {
-                Answer::Refused(Refusal {
-                    number: 7,
-                    place: next,
-                    input,
-                })
+                refused(7, next, input)
             } else {
                 Answer::Good(met)
             }
         }
-        Read::Bad { number, place } => Answer::Refused(Refusal {
-            number,
-            place,
-            input,
-        }),
+        Read::Bad { number, place } => refused(number, place, input),
     }
 }
 
@@ -106,25 +94,14 @@ pub fn name_input(s: &[u8], input: u8) -> Answer
     ensures { λ r. ⌜ r ≡ answered (mapped length (readName input (now (s .entry)))) ⌝ }
 {
     if s.len() < 1 {
-        return Answer::Refused(Refusal {
-            number: 5,
-            place: 0,
-            input,
-        });
+        return refused(5, 0, input);
     }
     if longest_name(Form::Term) < s.len() {
-        return Answer::Refused(Refusal {
-            number: 5,
-            place: 0,
-            input,
-        });
+        return refused(5, 0, input);
     }
-    match skip_letters(s, &TERM_CLASSES, 0, s.len()) {
+    let t = letter_table();
+    match skip_letters(s, &t, 0, s.len()) {
         Skip::To(next) => Answer::Good(next),
-        Skip::Fault { number, place } => Answer::Refused(Refusal {
-            number,
-            place,
-            input,
-        }),
+        Skip::Fault { number, place } => refused(number, place, input),
     }
 }

@@ -15,6 +15,12 @@ pub enum Skip {
     Fault { number: u8, place: usize },
 }
 
+fn fault(number: u8, place: usize) -> Skip
+    ensures { λ r. ⌜ r ≡ Skip.Fault number place ⌝ }
+{
+    Skip::Fault { number, place }
+}
+
 // The letters of a name after its first, up to `end`.
 fn skip_following(s: &[u8], t: &[u8; 256], at: usize, end: usize) -> Skip
     requires { ⌜ Letters (now t) ⌝ }
@@ -26,10 +32,7 @@ fn skip_following(s: &[u8], t: &[u8; 256], at: usize, end: usize) -> Skip
         if follows(t, s[p]) {
             p += 1;
         } else {
-            return Skip::Fault {
-                number: 5,
-                place: p,
-            };
+            return fault(5, p);
         }
     }
     Skip::To(p)
@@ -41,13 +44,11 @@ pub fn skip_letters(s: &[u8], t: &[u8; 256], at: usize, end: usize) -> Skip
     requires { ⌜ (at < end) × (end ≤ length (now s)) ⌝ }
     ensures { λ r. ⌜ ((u : ℕ) → skipped u r ≡ view (letters (end - at) u at (drop at (now (s .entry))))) ⌝ }
 {
+    let second = at + 1;
     if leads(t, s[at]) {
-        skip_following(s, t, at + 1, end)
+        skip_following(s, t, second, end)
     } else {
-        Skip::Fault {
-            number: 5,
-            place: at,
-        }
+        fault(5, at)
     }
 }
 
@@ -56,30 +57,19 @@ pub fn skip_name(s: &[u8], t: &[u8; 256], longest: usize, at: usize) -> Skip
     ensures { λ r. ⌜ ((u : ℕ) → skipped u r ≡ view (name longest u at (drop at (now (s .entry))))) ⌝ }
 {
     if s.len() <= at {
-        return Skip::Fault {
-            number: 3,
-            place: at,
-        };
+        return fault(3, at);
     }
     let n = s[at] as usize;
+    let first = at + 1;
+    let left = s.len() - first;
     if n < 1 {
-        return Skip::Fault {
-            number: 5,
-            place: at,
-        };
+        return fault(5, at);
     }
     if longest < n {
-        return Skip::Fault {
-            number: 5,
-            place: at,
-        };
+        return fault(5, at);
     }
-    let first = at + 1;
-    if s.len() - first < n {
-        return Skip::Fault {
-            number: 3,
-            place: s.len(),
-        };
+    if left < n {
+        return fault(3, s.len());
     }
     skip_letters(s, t, first, first + n)
 }
@@ -97,7 +87,7 @@ pub fn skip_names(s: &[u8], t: &[u8; 256], longest: usize, at: usize, n: usize) 
                 p = next;
             }
             Skip::Fault { number, place } => {
-                return Skip::Fault { number, place };
+                return fault(number, place);
             }
         }
         left -= 1;

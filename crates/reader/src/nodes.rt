@@ -17,6 +17,12 @@ pub enum Read {
     Bad { number: u8, place: usize },
 }
 
+fn bad(number: u8, place: usize) -> Read
+    ensures { λ r. ⌜ r ≡ Read.Bad number place ⌝ }
+{
+    Read::Bad { number, place }
+}
+
 // How many bytes a name may have.
 pub fn longest_name(form: Form) -> usize
     ensures { λ r. ⌜ r ≡ layoutOf form .longest ⌝ }
@@ -39,30 +45,22 @@ pub fn read_from(s: &[u8], form: Form, t: &[u8; 256], at: usize, used: usize, mo
     let mut pending = 1;
     while 0 < pending {
         if s.len() <= next {
-            return Read::Bad {
-                number: 3,
-                place: next,
-            };
+            return bad(3, next);
         }
-        if most <= met {
-            return Read::Bad {
-                number: 6,
-                place: next,
-            };
-        }
+        let after = next + 1;
         let code = code_of(form, t, s[next]);
-        if code == 0 {
-            return Read::Bad {
-                number: 4,
-                place: next,
-            };
+        if most <= met {
+            return bad(6, next);
         }
-        match skip_names(s, t, longest, next + 1, code / 2 % 4) {
+        if code == 0 {
+            return bad(4, next);
+        }
+        match skip_names(s, t, longest, after, code / 2 % 4) {
             Skip::To(past) => {
                 next = past;
             }
             Skip::Fault { number, place } => {
-                return Read::Bad { number, place };
+                return bad(number, place);
             }
         }
         met += 1;

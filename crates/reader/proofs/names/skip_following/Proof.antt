@@ -1,14 +1,14 @@
 -- `names::skip_following` meets its contract: what is left to read from p on is what was to be read from `at` on. Assumes nothing.
-use Prim.Native.Nat.{ℕ, suc, _+_, _-_, _≤_}
+use Prim.Native.Nat.{ℕ, _+_, _-_, _≤_}
 use native.Mathlib.Omega.{arith}
-use borrow.Author.Needs.{needs}
 use mathlib.Core.Path.{_≡_, refl, sym, ap, _∙_}
 use mathlib.Core.Bool.{true, false}
 use lib.ListN.{length, getD, drop}
 use Rattle.rules.specs.Name.{follows}
 use Rattle.rules.specs.Reading.{byteFor, many}
-use Rattle.reader.specs.View.{view}
+use Rattle.reader.specs.View.{view, skipped}
 use Rattle.reader.proofs.Views.{letter-on, letter-off, many-on, many-off, many-none}
+use borrow.Author.Needs.{needs}
 use Rattle.reader.proofs.names.skip_following.Statement.{statement}
 use Rattle.reader.proofs.names.skip_following.Tie as tie
 
@@ -46,14 +46,18 @@ loop-again c =
           ∙ many-on (byteFor follows 5) (a .end - l .p) u (l .p) (drop (l .p) s) (a .end - (l .p + 1)) (omega arith) _ u (l .p + 1) _ (letter-on follows s u (l .p) (omega arith) e),
     )
 
+fault-requires : tie.Need-fault-requires Inv-loop μ-loop
+fault-requires c κs = search needs
+
 returns : tie.Need-returns Inv-loop μ-loop
 returns c =
-    let l = c .before .before .before .before .loop in
-    let a = c .before .before .before .before .before .before .args in
+    let l = c .before .before .before .before .before .loop in
+    let a = c .before .before .before .before .before .before .before .args in
     let s = a .s .now in
     let e : follows (getD s (l .p) 0) ≡ false = cc in
     λ u.
-    sym (l .inv .1 u
+    ap (skipped u) (c .fault .ensures)
+    ∙ sym (l .inv .1 u
     ∙ many-off (byteFor follows 5) (a .end - l .p) u (l .p) (drop (l .p) s) (a .end - (l .p + 1)) (omega arith) 5 (l .p) (letter-off follows s u (l .p) (omega arith) e))
 
 returns-2 : tie.Need-returns-2 Inv-loop μ-loop
@@ -74,5 +78,6 @@ skip-following-spec =
     add-p
     loop-less
     loop-again
+    fault-requires
     returns
     returns-2)

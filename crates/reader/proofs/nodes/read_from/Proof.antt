@@ -1,7 +1,6 @@
 -- `nodes::read_from` meets its contract: whatever the nodes that are still to be read come to, the whole comes to. Assumes nothing.
 use Prim.Native.Nat.{ℕ, _+_, _-_, _*_, _≤_}
 use native.Mathlib.Omega.{arith}
-use borrow.Author.Needs.{needs}
 use mathlib.Core.Path.{_≡_, sym, ap, _∙_}
 use lib.ListN.{drop}
 use Rattle.rules.specs.Reading.{node}
@@ -10,6 +9,7 @@ use Rattle.reader.specs.View.{view}
 use Rattle.reader.proofs.Depth.{same}
 use Rattle.reader.proofs.Rest.{Rest, rest-one, rest-none}
 use Rattle.reader.proofs.Turn.{turn-out, turn-full, turn-unknown, few-parts, turn-off, turn-on}
+use borrow.Author.Needs.{needs}
 use Rattle.reader.proofs.nodes.read_from.Statement.{statement}
 use Rattle.reader.proofs.nodes.read_from.Tie as tie
 
@@ -32,35 +32,41 @@ loop-holds c =
       λ d h. sym (rest-one F (a .most) (a .s .now) (a .used) (a .at)) ∙ ap view (same F (a .most) (a .most) d (a .used) (a .at) (drop (a .at) (a .s .now)) (omega arith) h),
     )
 
+bad-requires : tie.Need-bad-requires Inv-loop μ-loop
+bad-requires c κs = search needs
+
 returns : tie.Need-returns Inv-loop μ-loop
 returns c =
-    let a = c .before .before .before .before .before .args in
-    let l = c .before .before .loop in
-    λ d h. sym (turn-out (a .form) (a .most) (a .s .now) (l .pending) (l .met) (l .next) (omega arith) (omega arith)) ∙ l .inv .1 d h
-
-returns-2 : tie.Need-returns-2 Inv-loop μ-loop
-returns-2 c =
     let a = c .before .before .before .before .before .before .args in
     let l = c .before .before .before .loop in
-    λ d h. sym (turn-full (a .form) (a .most) (a .s .now) (l .pending) (l .met) (l .next) (omega arith) (omega arith) (omega arith)) ∙ l .inv .1 d h
+    λ d h. c .bad .ensures ∙ sym (turn-out (a .form) (a .most) (a .s .now) (l .pending) (l .met) (l .next) (omega arith) (omega arith)) ∙ l .inv .1 d h
+
+add-after : tie.Need-add-after Inv-loop μ-loop
+add-after c = omega arith
 
 shared-slice-read-code-of : tie.Need-shared-slice-read-code-of Inv-loop μ-loop
 shared-slice-read-code-of c = omega arith
 
 code-of-requires : tie.Need-code-of-requires Inv-loop μ-loop
-code-of-requires c κs = c .before .before .before .before .before .before .before .pre .0
+code-of-requires c κs = c .before .before .before .before .before .before .pre .0
+
+bad-requires-2 : tie.Need-bad-requires-2 Inv-loop μ-loop
+bad-requires-2 c κs = search needs
+
+returns-2 : tie.Need-returns-2 Inv-loop μ-loop
+returns-2 c =
+    let a = c .before .before .before .before .before .before .before .before .before .args in
+    let l = c .before .before .before .before .before .before .loop in
+    λ d h. c .bad2 .ensures ∙ sym (turn-full (a .form) (a .most) (a .s .now) (l .pending) (l .met) (l .next) (omega arith) (omega arith) (omega arith)) ∙ l .inv .1 d h
+
+bad-requires-3 : tie.Need-bad-requires-3 Inv-loop μ-loop
+bad-requires-3 c κs = search needs
 
 returns-3 : tie.Need-returns-3 Inv-loop μ-loop
 returns-3 c =
-    let a = c .before .before .before .before .before .before .before .before .before .args in
-    let l = c .before .before .before .before .before .before .loop in
-    λ d h.
-    sym (turn-unknown (a .form) (a .most) (a .s .now) (l .pending) (l .met) (l .next) (omega arith) (omega arith) (omega arith)
-    (c .before .code-of .result) (c .before .code-of .ensures) (c .if3 .taken))
-    ∙ l .inv .1 d h
-
-add-skip-names : tie.Need-add-skip-names Inv-loop μ-loop
-add-skip-names c = omega arith
+    let a = c .before .before .before .before .before .before .before .before .before .before .args in
+    let l = c .before .before .before .before .before .before .before .loop in
+    λ d h. c .bad3 .ensures ∙ sym (turn-unknown (a .form) (a .most) (a .s .now) (l .pending) (l .met) (l .next) (omega arith) (omega arith) (omega arith) (c .before .before .before .code-of .result) (c .before .before .before .code-of .ensures) (c .before .if3 .taken)) ∙ l .inv .1 d h
 
 skip-names-requires : tie.Need-skip-names-requires Inv-loop μ-loop
 skip-names-requires c κs = (c .before .before .before .before .before .before .before .before .before .pre .0 .letters, omega arith)
@@ -71,15 +77,17 @@ enum-known-past c = search needs
 enum-known-number : tie.Need-enum-known-number Inv-loop μ-loop
 enum-known-number c = search needs
 
+bad-requires-4 : tie.Need-bad-requires-4 Inv-loop μ-loop
+bad-requires-4 c κs = search needs
+
 returns-4 : tie.Need-returns-4 Inv-loop μ-loop
 returns-4 c =
-    let a = c .before .before .before .before .before .before .before .before .before .before .before .before .before .args in
-    let l = c .before .before .before .before .before .before .before .before .before .before .loop in
+    let a = c .before .before .before .before .before .before .before .before .before .before .before .before .before .before .args in
+    let l = c .before .before .before .before .before .before .before .before .before .before .before .loop in
     λ d h.
-    sym (turn-off (a .form) (a .most) (a .s .now) (l .pending) (l .met) (l .next) (omega arith) (omega arith) (omega arith)
-    (c .before .before .before .before .before .code-of .result) (c .before .before .before .before .before .code-of .ensures) (c .before .before .before .before .if3 .left) (c .before .before .before .before .before .before .before .before .before .before .before .longest-name .result) (c .before .before .before .before .before .before .before .before .before .before .before .longest-name .ensures)
-    (c .before .before .before .skip-names .result) (c .before .before .before .skip-names .ensures)
-    _ _ (c .before .number .given .1))
+    c .bad4 .ensures
+    ∙ sym (turn-off (a .form) (a .most) (a .s .now) (l .pending) (l .met) (l .next) (omega arith) (omega arith) (omega arith)
+    (c .before .before .before .before .before .before .before .code-of .result) (c .before .before .before .before .before .before .before .code-of .ensures) (c .before .before .before .before .before .if3 .left) (c .before .before .before .before .before .before .before .before .before .before .before .before .longest-name .result) (c .before .before .before .before .before .before .before .before .before .before .before .before .longest-name .ensures) (c .before .before .before .before .skip-names .result) (c .before .before .before .before .skip-names .ensures) _ _ (c .before .before .number .given .1))
     ∙ l .inv .1 d h
 
 add-met : tie.Need-add-met Inv-loop μ-loop
@@ -95,8 +103,7 @@ add-pending c =
     omega (
       arith,
       few-parts (a .form) (a .most) (a .s .now) (l .pending) (l .met) (l .next) (omega arith) (omega arith) (omega arith)
-          (c .before .before .before .before .before .code-of .result) (c .before .before .before .before .before .code-of .ensures) (c .before .before .before .before .if3 .left) (c .before .before .before .before .before .before .before .before .before .before .before .longest-name .result) (c .before .before .before .before .before .before .before .before .before .before .before .longest-name .ensures)
-          (c .before .before .before .skip-names .result) (c .before .before .before .skip-names .ensures),
+          (c .before .before .before .before .before .before .code-of .result) (c .before .before .before .before .before .before .code-of .ensures) (c .before .before .before .before .if3 .left) (c .before .before .before .before .before .before .before .before .before .before .before .longest-name .result) (c .before .before .before .before .before .before .before .before .before .before .before .longest-name .ensures) (c .before .before .before .skip-names .result) (c .before .before .before .skip-names .ensures),
       c .before .before .before .before .before .before .before .before .before .before .before .before .before .pre .1,
     )
 
@@ -110,15 +117,10 @@ loop-again c =
       omega (
         arith,
         few-parts (a .form) (a .most) (a .s .now) (l .pending) (l .met) (l .next) (omega arith) (omega arith) (omega arith)
-            (c .before .before .before .before .before .code-of .result) (c .before .before .before .before .before .code-of .ensures) (c .before .before .before .before .if3 .left) (c .before .before .before .before .before .before .before .before .before .before .before .longest-name .result) (c .before .before .before .before .before .before .before .before .before .before .before .longest-name .ensures)
-            (c .before .before .before .skip-names .result) (c .before .before .before .skip-names .ensures),
+            (c .before .before .before .before .before .before .code-of .result) (c .before .before .before .before .before .before .code-of .ensures) (c .before .before .before .before .if3 .left) (c .before .before .before .before .before .before .before .before .before .before .before .longest-name .result) (c .before .before .before .before .before .before .before .before .before .before .before .longest-name .ensures) (c .before .before .before .skip-names .result) (c .before .before .before .skip-names .ensures),
       ),
-      λ d h.
-          sym (turn-on (a .form) (a .most) (a .s .now) (l .pending) (l .met) (l .next) (omega arith) (omega arith) (omega arith)
-          (c .before .before .before .before .before .code-of .result) (c .before .before .before .before .before .code-of .ensures) (c .before .before .before .before .if3 .left) (c .before .before .before .before .before .before .before .before .before .before .before .longest-name .result) (c .before .before .before .before .before .before .before .before .before .before .before .longest-name .ensures)
-          (c .before .before .before .skip-names .result) (c .before .before .before .skip-names .ensures)
-          _ (c .before .past .given .1))
-          ∙ l .inv .1 d h,
+      λ d h. sym (turn-on (a .form) (a .most) (a .s .now) (l .pending) (l .met) (l .next) (omega arith) (omega arith) (omega arith)
+          (c .before .before .before .before .before .before .code-of .result) (c .before .before .before .before .before .before .code-of .ensures) (c .before .before .before .before .if3 .left) (c .before .before .before .before .before .before .before .before .before .before .before .longest-name .result) (c .before .before .before .before .before .before .before .before .before .before .before .longest-name .ensures) (c .before .before .before .skip-names .result) (c .before .before .before .skip-names .ensures) _ (c .before .past .given .1)) ∙ l .inv .1 d h,
     )
 
 returns-5 : tie.Need-returns-5 Inv-loop μ-loop
@@ -135,15 +137,19 @@ read-from-spec =
     μ-loop
     longest-name-requires
     loop-holds
+    bad-requires
     returns
-    returns-2
+    add-after
     shared-slice-read-code-of
     code-of-requires
+    bad-requires-2
+    returns-2
+    bad-requires-3
     returns-3
-    add-skip-names
     skip-names-requires
     enum-known-past
     enum-known-number
+    bad-requires-4
     returns-4
     add-met
     sub-pending

@@ -1,0 +1,39 @@
+# make test is the gate. It takes rt, cargo, make and gcc, and no network.
+SHELL := /bin/bash
+.SHELLFLAGS := -eu -o pipefail -c
+
+CARGO := --release --offline --locked --quiet --manifest-path host/Cargo.toml
+VERDICT := host/target/verdict
+WARN := -Iinclude -Wall -Wextra -Wpedantic -Werror
+
+.PHONY: test hosted library run bench cases
+
+# rt ci proves every crate from nothing; the static library is then built from what it has just proved. Its last line, the verdict, is kept
+# back until the runs over that library have passed too, so that it is the last line of all and nothing is proved twice.
+test:
+	@mkdir -p $(dir $(VERDICT))
+	@rt ci 2>&1 | tee $(VERDICT) | sed -u '$$d' || { tail -n 1 $(VERDICT); exit 1; }
+	@$(MAKE) --no-print-directory hosted
+	@tail -n 1 $(VERDICT)
+
+# What is run and not proved: header and library fit, the model answers as document 01 says, the port answers as the model does.
+hosted: library
+	@gcc -std=c99 $(WARN) host/c/smoke.c host/target/library/libentry.a -o host/target/smoke && host/target/smoke
+	@gcc -x c++ $(WARN) -c host/c/smoke.c -o host/target/smoke.o
+	@cargo test $(CARGO) -p patch-model -p lolli-extract -p cases
+	@cargo run $(CARGO) -p differential
+
+library:
+	@host/library.sh
+
+# The text of a formula, by way of the proved library.
+run: library
+	@cargo run $(CARGO) -p patch --example formula
+
+bench: library
+	@cargo run $(CARGO) -p bench -- $(MODE)
+
+# The list of the Rust's answers that crates/cases proves the rules by.
+cases:
+	@cargo run $(CARGO) -p cases > host/target/cases.antt
+	@mv host/target/cases.antt crates/cases/specs/RustCases.antt

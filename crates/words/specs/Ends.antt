@@ -1,0 +1,34 @@
+-- A text from the start of an output, with zeros behind it: what a call leaves.
+-- Assumes nothing.
+use Prim.Native.Nat.{ℕ, _+_, _*_, _-_, _/_, _≤_, _<_}
+use mathlib.Core.Path.{_≡_, sym, ap, _∙_}
+use mathlib.Core.List.{List, _++_, append-nil}
+use native.Mathlib.Nat.{zero-add}
+use native.Mathlib.Omega.{arith}
+use lib.ListN.{length, take, replicate, length-replicate, drop-of-length-le}
+use lib.Seq.{sets, sets-eq}
+use Rattle.words.specs.Task.{Done}
+
+module _ {out : List ℕ} {e x o : List ℕ} {r : ℕ} (d : Done 0 out 0 e x o r) (short : length e < 65536) where
+  -- where the text ends
+  pub whole-long : r / 65536 ≡ length x
+  whole-long = ap (λ (n : ℕ). n / 65536) (d .ends) ∙ high (0 + length e) (0 + length x) (omega arith) ∙ zero-add (length x)
+    where
+      high : (a t : ℕ) → a < 65536 → (t * 65536 + a) / 65536 ≡ t
+      high a t h = omega arith
+
+  module _ (room : length x ≤ length out) where
+    pub whole-room : r / 65536 ≤ length o
+    whole-room = omega (arith, whole-long, d .prints .long)
+
+    pub whole : {o′ : List ℕ} → o′ ≡ sets o (r / 65536) (replicate (length o - r / 65536) 0) → o′ ≡ x ++ replicate (length out - length x) 0
+    whole {o′} h =
+        let n = length x in
+        let zeros : List ℕ = replicate (length o - n) 0 in
+        let k : length zeros ≡ length o - n = length-replicate (length o - n) 0 in
+        let z : o′ ≡ sets o n zeros = h ∙ ap (λ (i : ℕ). sets o i (replicate (length o - i) 0)) whole-long in
+        let p : take n o ≡ x = ap (λ (i : ℕ). take i o) (sym (zero-add n)) ∙ d .prints .holds in
+        z ∙ sets-eq zeros o n (omega (arith, d .prints .long))
+        ∙ ap (λ (l : List ℕ). (take n o ++ zeros) ++ l) (drop-of-length-le o {i = n + length zeros} (omega (arith, d .prints .long)))
+        ∙ append-nil (take n o ++ zeros) ∙ ap (λ (l : List ℕ). l ++ zeros) p
+        ∙ ap (λ (i : ℕ). x ++ replicate (i - n) 0) (d .prints .long)

@@ -1,0 +1,4 @@
+pub mod Prints
+pub mod Task
+pub mod Steps
+pub mod Ends

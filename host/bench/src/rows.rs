@@ -1,0 +1,114 @@
+//! What is compared: for each row the port, and beside it the ported Rust or a plain loop, over the same inputs.
+
+use lolli_core::{Formula, Term};
+use patch_generate::{formulas, terms, Rng};
+use patch_model::form::{formula_bytes, term_bytes};
+use std::cell::RefCell;
+use std::hint::black_box;
+
+pub struct Row {
+    pub name: &'static str,
+    pub nodes: usize,
+    /// of all inputs together
+    pub bytes: usize,
+    pub inputs: usize,
+    pub other_name: &'static str,
+    pub other: Box<dyn Fn()>,
+    pub port: Box<dyn Fn()>,
+}
+
+const INPUTS: u64 = 8;
+
+fn row<T: 'static>(
+    name: &'static str,
+    nodes: usize,
+    inputs: Vec<(T, Vec<u8>)>,
+    other_name: &'static str,
+    other: impl Fn(&T, &[u8]) + 'static,
+    port: impl Fn(&[u8]) + 'static,
+) -> Row {
+    let bytes = inputs.iter().map(|(_, bytes)| bytes.len()).sum();
+    let count = inputs.len();
+    let inputs = std::rc::Rc::new(inputs);
+    let ours = inputs.clone();
+    Row {
+        name,
+        nodes,
+        bytes,
+        inputs: count,
+        other_name,
+        other: Box::new(move || inputs.iter().for_each(|(value, bytes)| other(black_box(value), black_box(bytes)))),
+        port: Box::new(move || ours.iter().for_each(|(_, bytes)| port(black_box(bytes)))),
+    }
+}
+
+/// A result that the compiler may not leave out.
+fn kept<T>(result: T) {
+    black_box(result);
+}
+
+pub fn rows() -> Vec<Row> {
+    let mut rows = Vec::new();
+    for nodes in [1, 10, 100, 1024] {
+        let out = RefCell::new(vec![0; patch::FORMULA_TEXT_ROOM]);
+        rows.push(row(
+            "text of formulas",
+            nodes,
+            some_formulas(nodes),
+            "Rust",
+            |formula: &Formula, _| kept(formula.pretty()),
+            move |bytes| kept(patch::formula_text_to(bytes, &mut out.borrow_mut())),
+        ));
+    }
+    for nodes in [10, 100, 1024] {
+        rows.push(row(
+            "check of formulas",
+            nodes,
+            some_formulas(nodes),
+            "byte loop",
+            |_, bytes| kept(byte_loop(bytes)),
+            |bytes| kept(patch::check_formula(bytes)),
+        ));
+    }
+    for nodes in [10, 100, 512] {
+        rows.push(row(
+            "check of terms",
+            nodes,
+            some_terms(nodes),
+            "byte loop",
+            |_, bytes| kept(byte_loop(bytes)),
+            |bytes| kept(patch::check_term(bytes)),
+        ));
+    }
+    rows
+}
+
+/// The least that a reader does: each byte is looked up once.
+fn byte_loop(bytes: &[u8]) -> u64 {
+    static CLASSES: [u8; 256] = {
+        let mut classes = [0; 256];
+        let mut i = 0;
+        while i < 256 {
+            classes[i] = (i * 7 % 13) as u8;
+            i += 1;
+        }
+        classes
+    };
+    let mut sum = 0;
+    for &byte in bytes {
+        sum += CLASSES[byte as usize] as u64;
+    }
+    sum
+}
+
+fn some_formulas(nodes: usize) -> Vec<(Formula, Vec<u8>)> {
+    let pool: Vec<String> = ["A", "B1", "in_left", "x"].map(String::from).to_vec();
+    let make = |i| formulas::of_nodes(&mut Rng::new(0x6265_6e63, i), &pool, nodes);
+    (0..INPUTS).map(make).map(|formula| (formula.clone(), formula_bytes(&formula))).collect()
+}
+
+fn some_terms(nodes: usize) -> Vec<(Term, Vec<u8>)> {
+    let style = terms::Style { pool: ["a", "b1", "in_left", "x"].map(String::from).to_vec(), redexes: 4 };
+    let make = |i| style.of_nodes(&mut Rng::new(0x6265_6e64, i), nodes);
+    (0..INPUTS).map(make).map(|term| (term.clone(), term_bytes(&term))).collect()
+}

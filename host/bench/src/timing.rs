@@ -1,0 +1,65 @@
+//! Medians of interleaved runs. Each round times both sides, so that what else the machine does falls on both.
+
+use crate::rows::Row;
+use std::time::Instant;
+
+const ROUNDS: usize = 41;
+/// How long one side of a round runs.
+const NANOS: f64 = 2e6;
+
+pub fn table(rows: &[Row]) {
+    println!(
+        "{:<20} {:>6} {:>6}  {:<10} {:>12} {:>12} {:>9}  middle half",
+        "call", "nodes", "bytes", "beside", "its ns", "port ns", "ratio"
+    );
+    for row in rows {
+        let (other, port) = (repeats(&row.other), repeats(&row.port));
+        let (mut others, mut ports, mut ratios) = (Vec::new(), Vec::new(), Vec::new());
+        for _ in 0..ROUNDS {
+            let a = nanos(&row.other, other) / row.inputs as f64;
+            let b = nanos(&row.port, port) / row.inputs as f64;
+            others.push(a);
+            ports.push(b);
+            ratios.push(a / b);
+        }
+        println!(
+            "{:<20} {:>6} {:>6}  {:<10} {:>12.0} {:>12.0} {:>9.2}  {:.2} to {:.2}",
+            row.name,
+            row.nodes,
+            row.bytes / row.inputs,
+            row.other_name,
+            quantile(&mut others, 2),
+            quantile(&mut ports, 2),
+            quantile(&mut ratios, 2),
+            quantile(&mut ratios, 1),
+            quantile(&mut ratios, 3),
+        );
+    }
+    println!("ratio: how often the port does it while the other does it once");
+}
+
+/// For one input each, in nanoseconds.
+fn nanos(side: &dyn Fn(), times: usize) -> f64 {
+    let start = Instant::now();
+    for _ in 0..times {
+        side();
+    }
+    start.elapsed().as_nanos() as f64 / times as f64
+}
+
+/// So often that a side runs long enough to be timed.
+fn repeats(side: &dyn Fn()) -> usize {
+    let mut times = 1;
+    loop {
+        let each = nanos(side, times);
+        if each * times as f64 > NANOS / 4.0 {
+            return (NANOS / each).ceil() as usize;
+        }
+        times *= 2;
+    }
+}
+
+fn quantile(numbers: &mut [f64], quarter: usize) -> f64 {
+    numbers.sort_by(f64::total_cmp);
+    numbers[(numbers.len() - 1) * quarter / 4]
+}
