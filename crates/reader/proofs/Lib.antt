@@ -8,3 +8,4 @@ pub mod Rest
 pub mod Turn
 pub mod Whole
 pub mod Bare
+pub mod Marks

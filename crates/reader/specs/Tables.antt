@@ -5,7 +5,8 @@ use native.Mathlib.Nat.{add-zero, zero-add, add-suc, suc-add, le-of-suc-le-suc, 
 use mathlib.Core.Path.{_≡_, refl, sym, ap, _∙_}
 use mathlib.Core.Bool.{Bool, true, false, not, _&&_}
 use mathlib.Core.List.{List, [], _∷_}
-use lib.ListN.{length, getD}
+use lib.ListN.{length, getD, replicate}
+use lib.Seq.{sets}
 use borrow.Author.Tests.{eqb-true}
 use Rattle.rules.specs.Basic.{Bytes, if_then_else_, _==_}
 use Rattle.rules.specs.Name.{leads, follows}
@@ -16,27 +17,15 @@ use Rattle.laws.specs.Same.{both-true}
 use Rattle.reader.specs.Form.{Form, layoutOf, Term, Formula}
 use Rattle.reader.specs.Classes.{Letters, Classes, codeAt}
 
-abbrev pub termClasses : List ℕ
-termClasses =
-    0 ∷ 12 ∷ 4 ∷ 68 ∷ 84 ∷ 44 ∷ 68 ∷ 36 ∷ 36 ∷ 116 ∷ 4 ∷ 36 ∷ 36 ∷ 36 ∷ 36 ∷ 36 ∷ 68 ∷ 84 ∷ 0 ∷ 0 ∷ 0 ∷ 0 ∷ 0 ∷ 0 ∷ 0 ∷ 0 ∷ 0 ∷ 0 ∷ 0 ∷ 0 ∷ 0 ∷ 0
-    ∷ 0 ∷ 0 ∷ 0 ∷ 0 ∷ 0 ∷ 0 ∷ 0 ∷ 0 ∷ 0 ∷ 0 ∷ 0 ∷ 0 ∷ 0 ∷ 0 ∷ 0 ∷ 0 ∷ 1 ∷ 1 ∷ 1 ∷ 1 ∷ 1 ∷ 1 ∷ 1 ∷ 1 ∷ 1 ∷ 1 ∷ 0 ∷ 0 ∷ 0 ∷ 0 ∷ 0 ∷ 0
-    ∷ 0 ∷ 3 ∷ 3 ∷ 3 ∷ 3 ∷ 3 ∷ 3 ∷ 3 ∷ 3 ∷ 3 ∷ 3 ∷ 3 ∷ 3 ∷ 3 ∷ 3 ∷ 3 ∷ 3 ∷ 3 ∷ 3 ∷ 3 ∷ 3 ∷ 3 ∷ 3 ∷ 3 ∷ 3 ∷ 3 ∷ 3 ∷ 0 ∷ 0 ∷ 0 ∷ 0 ∷ 3
-    ∷ 0 ∷ 3 ∷ 3 ∷ 3 ∷ 3 ∷ 3 ∷ 3 ∷ 3 ∷ 3 ∷ 3 ∷ 3 ∷ 3 ∷ 3 ∷ 3 ∷ 3 ∷ 3 ∷ 3 ∷ 3 ∷ 3 ∷ 3 ∷ 3 ∷ 3 ∷ 3 ∷ 3 ∷ 3 ∷ 3 ∷ 3 ∷ 0 ∷ 0 ∷ 0 ∷ 0 ∷ 0
-    ∷ 0 ∷ 0 ∷ 0 ∷ 0 ∷ 0 ∷ 0 ∷ 0 ∷ 0 ∷ 0 ∷ 0 ∷ 0 ∷ 0 ∷ 0 ∷ 0 ∷ 0 ∷ 0 ∷ 0 ∷ 0 ∷ 0 ∷ 0 ∷ 0 ∷ 0 ∷ 0 ∷ 0 ∷ 0 ∷ 0 ∷ 0 ∷ 0 ∷ 0 ∷ 0 ∷ 0 ∷ 0
-    ∷ 0 ∷ 0 ∷ 0 ∷ 0 ∷ 0 ∷ 0 ∷ 0 ∷ 0 ∷ 0 ∷ 0 ∷ 0 ∷ 0 ∷ 0 ∷ 0 ∷ 0 ∷ 0 ∷ 0 ∷ 0 ∷ 0 ∷ 0 ∷ 0 ∷ 0 ∷ 0 ∷ 0 ∷ 0 ∷ 0 ∷ 0 ∷ 0 ∷ 0 ∷ 0 ∷ 0 ∷ 0
-    ∷ 0 ∷ 0 ∷ 0 ∷ 0 ∷ 0 ∷ 0 ∷ 0 ∷ 0 ∷ 0 ∷ 0 ∷ 0 ∷ 0 ∷ 0 ∷ 0 ∷ 0 ∷ 0 ∷ 0 ∷ 0 ∷ 0 ∷ 0 ∷ 0 ∷ 0 ∷ 0 ∷ 0 ∷ 0 ∷ 0 ∷ 0 ∷ 0 ∷ 0 ∷ 0 ∷ 0 ∷ 0
-    ∷ 0 ∷ 0 ∷ 0 ∷ 0 ∷ 0 ∷ 0 ∷ 0 ∷ 0 ∷ 0 ∷ 0 ∷ 0 ∷ 0 ∷ 0 ∷ 0 ∷ 0 ∷ 0 ∷ 0 ∷ 0 ∷ 0 ∷ 0 ∷ 0 ∷ 0 ∷ 0 ∷ 0 ∷ 0 ∷ 0 ∷ 0 ∷ 0 ∷ 0 ∷ 0 ∷ 0 ∷ 0 ∷ []
+-- digits, letters and `_`
+unfoldable pub letterTable : Bytes
+letterTable = sets (sets (sets (sets (replicate 256 0) 48 (replicate 10 1)) 65 (replicate 26 3)) 95 (replicate 1 3)) 97 (replicate 26 3)
 
-abbrev pub formulaClasses : List ℕ
-formulaClasses =
-    0 ∷ 12 ∷ 12 ∷ 68 ∷ 68 ∷ 4 ∷ 4 ∷ 68 ∷ 68 ∷ 4 ∷ 4 ∷ 36 ∷ 36 ∷ 68 ∷ 0 ∷ 0 ∷ 0 ∷ 0 ∷ 0 ∷ 0 ∷ 0 ∷ 0 ∷ 0 ∷ 0 ∷ 0 ∷ 0 ∷ 0 ∷ 0 ∷ 0 ∷ 0 ∷ 0 ∷ 0
-    ∷ 0 ∷ 0 ∷ 0 ∷ 0 ∷ 0 ∷ 0 ∷ 0 ∷ 0 ∷ 0 ∷ 0 ∷ 0 ∷ 0 ∷ 0 ∷ 0 ∷ 0 ∷ 0 ∷ 1 ∷ 1 ∷ 1 ∷ 1 ∷ 1 ∷ 1 ∷ 1 ∷ 1 ∷ 1 ∷ 1 ∷ 0 ∷ 0 ∷ 0 ∷ 0 ∷ 0 ∷ 0
-    ∷ 0 ∷ 3 ∷ 3 ∷ 3 ∷ 3 ∷ 3 ∷ 3 ∷ 3 ∷ 3 ∷ 3 ∷ 3 ∷ 3 ∷ 3 ∷ 3 ∷ 3 ∷ 3 ∷ 3 ∷ 3 ∷ 3 ∷ 3 ∷ 3 ∷ 3 ∷ 3 ∷ 3 ∷ 3 ∷ 3 ∷ 3 ∷ 0 ∷ 0 ∷ 0 ∷ 0 ∷ 3
-    ∷ 0 ∷ 3 ∷ 3 ∷ 3 ∷ 3 ∷ 3 ∷ 3 ∷ 3 ∷ 3 ∷ 3 ∷ 3 ∷ 3 ∷ 3 ∷ 3 ∷ 3 ∷ 3 ∷ 3 ∷ 3 ∷ 3 ∷ 3 ∷ 3 ∷ 3 ∷ 3 ∷ 3 ∷ 3 ∷ 3 ∷ 3 ∷ 0 ∷ 0 ∷ 0 ∷ 0 ∷ 0
-    ∷ 0 ∷ 0 ∷ 0 ∷ 0 ∷ 0 ∷ 0 ∷ 0 ∷ 0 ∷ 0 ∷ 0 ∷ 0 ∷ 0 ∷ 0 ∷ 0 ∷ 0 ∷ 0 ∷ 0 ∷ 0 ∷ 0 ∷ 0 ∷ 0 ∷ 0 ∷ 0 ∷ 0 ∷ 0 ∷ 0 ∷ 0 ∷ 0 ∷ 0 ∷ 0 ∷ 0 ∷ 0
-    ∷ 0 ∷ 0 ∷ 0 ∷ 0 ∷ 0 ∷ 0 ∷ 0 ∷ 0 ∷ 0 ∷ 0 ∷ 0 ∷ 0 ∷ 0 ∷ 0 ∷ 0 ∷ 0 ∷ 0 ∷ 0 ∷ 0 ∷ 0 ∷ 0 ∷ 0 ∷ 0 ∷ 0 ∷ 0 ∷ 0 ∷ 0 ∷ 0 ∷ 0 ∷ 0 ∷ 0 ∷ 0
-    ∷ 0 ∷ 0 ∷ 0 ∷ 0 ∷ 0 ∷ 0 ∷ 0 ∷ 0 ∷ 0 ∷ 0 ∷ 0 ∷ 0 ∷ 0 ∷ 0 ∷ 0 ∷ 0 ∷ 0 ∷ 0 ∷ 0 ∷ 0 ∷ 0 ∷ 0 ∷ 0 ∷ 0 ∷ 0 ∷ 0 ∷ 0 ∷ 0 ∷ 0 ∷ 0 ∷ 0 ∷ 0
-    ∷ 0 ∷ 0 ∷ 0 ∷ 0 ∷ 0 ∷ 0 ∷ 0 ∷ 0 ∷ 0 ∷ 0 ∷ 0 ∷ 0 ∷ 0 ∷ 0 ∷ 0 ∷ 0 ∷ 0 ∷ 0 ∷ 0 ∷ 0 ∷ 0 ∷ 0 ∷ 0 ∷ 0 ∷ 0 ∷ 0 ∷ 0 ∷ 0 ∷ 0 ∷ 0 ∷ 0 ∷ 0 ∷ []
+abbrev pub termTags : Bytes
+termTags = 0 ∷ 12 ∷ 4 ∷ 68 ∷ 84 ∷ 44 ∷ 68 ∷ 36 ∷ 36 ∷ 116 ∷ 4 ∷ 36 ∷ 36 ∷ 36 ∷ 36 ∷ 36 ∷ 68 ∷ 84 ∷ []
+
+abbrev pub formulaTags : Bytes
+formulaTags = 0 ∷ 12 ∷ 12 ∷ 68 ∷ 68 ∷ 4 ∷ 4 ∷ 68 ∷ 68 ∷ 4 ∷ 4 ∷ 36 ∷ 36 ∷ 68 ∷ []
 
 -- the test f passes at each entry of a list and its place, counted from i
 abbrev every : (ℕ → ℕ → Bool) → ℕ → Bytes → Bool
@@ -70,21 +59,24 @@ followTest b x = agree (x % 2 == 1) (follows b)
 abbrev tagTest : {H A : Type 0} → Layout H A → ℕ → ℕ → Bool
 tagTest F b x = x / 4 == codeAt F (headAt (F .heads) b)
 
-module _ {H A : Type 0} (F : Layout H A) (t : Bytes) (size : length t ≡ 256)
-    (leading : every leadTest 0 t ≡ true) (following : every followTest 0 t ≡ true) (tagged : every (tagTest F) 0 t ≡ true) where
-  tested : Classes F t
-  tested = record {
-    letters = record {
-      leading = λ b h. agree-eq _ _ (at leadTest t leading b (rw size h));
-      following = λ b h. agree-eq _ _ (at followTest t following b (rw size h));
-    };
-    tagged = λ b h. eqb-true _ _ (at (tagTest F) t tagged b (rw size h));
+module _ (t : Bytes) (size : length t ≡ 256) (leading : every leadTest 0 t ≡ true) (following : every followTest 0 t ≡ true) where
+  tested-letters : Letters t
+  tested-letters = record {
+    leading = λ b h. agree-eq _ _ (at leadTest t leading b (rw size h));
+    following = λ b h. agree-eq _ _ (at followTest t following b (rw size h));
   }
 
-pub term-classes : Classes (layoutOf Term) termClasses
-unfolding leads follows
-term-classes = tested terms termClasses refl refl refl refl
+  tested : {H A : Type 0} (F : Layout H A) → every (tagTest F) 0 t ≡ true → Classes F t
+  tested F tagged = record { letters = tested-letters; tagged = λ b h. eqb-true _ _ (at (tagTest F) t tagged b (rw size h)) }
 
-pub formula-classes : Classes (layoutOf Formula) formulaClasses
-unfolding leads follows
-formula-classes = tested formulas formulaClasses refl refl refl refl
+pub letter-classes : Letters letterTable
+unfolding letterTable leads follows
+letter-classes = tested-letters letterTable refl refl refl
+
+pub term-classes : Classes (layoutOf Term) (sets letterTable 0 termTags)
+unfolding letterTable leads follows
+term-classes = tested (sets letterTable 0 termTags) refl refl refl terms refl
+
+pub formula-classes : Classes (layoutOf Formula) (sets letterTable 0 formulaTags)
+unfolding letterTable leads follows
+formula-classes = tested (sets letterTable 0 formulaTags) refl refl refl formulas refl

@@ -10,8 +10,8 @@ ghost use Rattle.rules.specs.Reading.{node, readTerm, readFormula, readName};
 ghost use Rattle.rules.specs.Calls.{checkTermCall, checkFormulaCall};
 ghost use Rattle.reader.specs.Form.{layoutOf, countOf, mostOf, readOf};
 ghost use Rattle.reader.specs.View.{view};
-use classes::FORMULA_CLASSES;
-use classes::TERM_CLASSES;
+use classes::letter_table;
+use classes::table_of;
 use names::Skip;
 use names::skip_letters;
 use nodes::Read;
@@ -43,17 +43,6 @@ fn refused(number: u8, place: usize, input: u8) -> Answer
     })
 }
 
-// Reads one node from the start, by the form's table.
-fn read_first(s: &[u8], form: Form, most: usize) -> Read
-    requires { ⌜ most ≤ 65536 ⌝ }
-    ensures { λ r. ⌜ r ≡ view (node (layoutOf form) most most 0 0 (now (s .entry))) ⌝ }
-{
-    match form {
-        Form::Term => read_from(s, Form::Term, &TERM_CLASSES, 0, 0, most),
-        Form::Formula => read_from(s, Form::Formula, &FORMULA_CLASSES, 0, 0, most),
-    }
-}
-
 // Whether s is one of that form, of at most so many bytes and nodes; with its count of nodes.
 fn check_within(s: &[u8], form: Form, bytes: usize, most: usize, input: u8) -> Answer
     requires { ⌜ most ≤ 65536 ⌝ }
@@ -62,7 +51,8 @@ fn check_within(s: &[u8], form: Form, bytes: usize, most: usize, input: u8) -> A
     if bytes < s.len() {
         return refused(2, bytes, input);
     }
-    match read_first(s, form, most) {
+    let t = table_of(form);
+    match read_from(s, form, &t, 0, 0, most) {
         Read::Whole { next, met } => {
             if next < s.len() {
                 refused(7, next, input)
@@ -109,7 +99,8 @@ pub fn name_input(s: &[u8], input: u8) -> Answer
     if longest_name(Form::Term) < s.len() {
         return refused(5, 0, input);
     }
-    match skip_letters(s, &TERM_CLASSES, 0, s.len()) {
+    let t = letter_table();
+    match skip_letters(s, &t, 0, s.len()) {
         Skip::To(next) => Answer::Good(next),
         Skip::Fault { number, place } => refused(number, place, input),
     }

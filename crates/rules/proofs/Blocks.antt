@@ -1,15 +1,14 @@
 -- The stored form, refusals 10 to 13 in their order, and what `patchrun` prints. One table, computed.
-use Prim.Native.Nat.{ℕ, zero, suc, _+_, _-_}
+use Prim.Native.Nat.{ℕ, zero, suc, _-_}
 use Prim.Native.String.{String}
 use mathlib.Core.Path.{_≡_, refl}
 use mathlib.Core.Bool.{Bool}
 use mathlib.Core.List.{List, [], _∷_}
 use lib.ListN.{length, replicate}
 use Rattle.rules.specs.Basic.{Bytes, say, digits, low-high, _‥_}
-use Rattle.rules.specs.Limits.{Limits, limits}
-use Rattle.rules.specs.Refusal.{Outcome}
+use Rattle.rules.specs.Limits.{limits}
 use Rattle.rules.specs.Name.{leads, follows}
-use Rattle.rules.specs.Term.{Term, one, two, leaf, unit, inl, fst, snd, promote, derelict, discard, nodes, encode, fits}
+use Rattle.rules.specs.Term.{Term, one, two, inl, fst, snd, promote, derelict, discard, nodes, encode, fits}
 use Rattle.rules.specs.Reading.{times, many, byte, byteFor, room, letters, name, tag, tooMany, node, proofAt, whole, readTerm, readProof}
 use Rattle.rules.specs.Text.{text}
 use Rattle.rules.specs.Substitution.{subst}

@@ -1,7 +1,6 @@
 -- Every public call as numbers, at small limits, so that a table can list what a call answers and what it leaves in the buffers that it is lent.
 -- Assumes nothing: these are definitions.
-use Prim.Native.Nat.{ℕ, zero, suc, _+_, _-_}
-use Prim.Native.String.{String}
+use Prim.Native.Nat.{ℕ, _+_, _-_}
 use mathlib.Core.Bool.{Bool, true, false}
 use mathlib.Core.List.{List, [], _∷_}
 use mathlib.Core.Option.{Option, none, some}
@@ -17,7 +16,7 @@ use Rattle.rules.specs.Reading.{times, many, byte, byteFor, room, letter
 use Rattle.rules.specs.Text.{text, formulaText}
 use Rattle.rules.specs.Free.{insert, union, without, free}
 use Rattle.rules.specs.Substitution.{subst}
-use Rattle.rules.specs.Step.{Rule, step, contract}
+use Rattle.rules.specs.Step.{step, contract}
 use Rattle.rules.specs.Reduction.{Counts, reduceFrom}
 use Rattle.rules.specs.Extraction.{extractFrom, extract, oldest, axiomName}
 use Rattle.rules.specs.Stored.{Kind, weighed, blocks, stored, openBlock, openBlocks, opened}

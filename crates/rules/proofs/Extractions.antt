@@ -1,14 +1,14 @@
 -- Extraction: every rule with 0 to 3 premises, every kind of Cut, Axiom's search, the counter's bound; each term's size too. One table, computed.
-use Prim.Native.Nat.{ℕ, zero, suc, _+_, _-_}
+use Prim.Native.Nat.{ℕ, suc, _-_}
 use Prim.Native.String.{String}
 use mathlib.Core.Path.{_≡_, refl}
 use mathlib.Core.Bool.{Bool, true, false, _&&_}
 use mathlib.Core.List.{List, [], _∷_}
-use lib.ListN.{length, take}
+use lib.ListN.{take}
 use lib.Dec.{eqb}
-use Rattle.rules.specs.Basic.{Bytes, say, digits, _‥_}
+use Rattle.rules.specs.Basic.{Bytes, say, digits}
 use Rattle.rules.specs.Limits.{Limits, limits}
-use Rattle.rules.specs.Refusal.{Refusal, Outcome, good, refused}
+use Rattle.rules.specs.Refusal.{Outcome, good, refused}
 use Rattle.rules.specs.Formula.{Formula, atom, constant, exponential, connective, plain, negated, Bottom, Top, Zero, OfCourse, WhyNot, Tensor, Par, With, Plus, Lolli}
 use Rattle.rules.specs.Term.{Term, nodes, encode, size}
 use Rattle.rules.specs.Proof.{Proof, proof, row, Rule, plain as plainRule, focus, cut, FocusPositive, FocusNegative, Axiom, OneIntro, BottomIntro, TensorIntro, ParIntro, TopIntro, WithIntro, PlusIntroLeft, PlusIntroRight, OfCourseIntro, WhyNotIntro, Weakening, Contraction, Dereliction, Blur}
@@ -99,40 +99,50 @@ right (p gives-bytes s) = bytesAre (hex s) (extractFrom limits 0 p)
 right (p from n gives a) = right-from n p a
 right (p from n is-refused-by k) = refusedBy k (extractFrom limits n p)
 
+-- a rule that reads its first premise: what it gives with none, and with any
+abbrev pub reads-first : Rule → (none any : Answer) → Row
+reads-first r z a = rule r gives (z ∷ a ∷ a ∷ a ∷ [])
+
+abbrev pub passes : Rule → Row
+passes r = reads-first r ("()" ▹ 0) ("a" ▹ 0)
+
+abbrev pub applies : Formula → Row
+applies f = cuts f from (id ∷ id ∷ []) gives "(λx2. x2 λx1. x1)" ▹ 3
+
 abbrev pub table : List Row
 table =
-    rule plainRule Axiom gives ("λx0. x0" ▹ 1 ∷ "λx0. x0" ▹ 1 ∷ "λx0. x0" ▹ 1 ∷ "λx0. x0" ▹ 1 ∷ [])
+    reads-first (plainRule Axiom) ("λx0. x0" ▹ 1) ("λx0. x0" ▹ 1)
     ∷ rule cut 𝟏 gives ("()" ▹ 0 ∷ "()" ▹ 0 ∷ "(λx1. x1 a)" ▹ 2 ∷ "()" ▹ 0 ∷ [])
-    ∷ rule plainRule OneIntro gives ("()" ▹ 0 ∷ "()" ▹ 0 ∷ "()" ▹ 0 ∷ "()" ▹ 0 ∷ [])
-    ∷ rule plainRule BottomIntro gives ("()" ▹ 0 ∷ "a" ▹ 0 ∷ "a" ▹ 0 ∷ "a" ▹ 0 ∷ [])
+    ∷ reads-first (plainRule OneIntro) ("()" ▹ 0) ("()" ▹ 0)
+    ∷ passes (plainRule BottomIntro)
     ∷ rule plainRule TensorIntro gives ("()" ▹ 0 ∷ "a" ▹ 0 ∷ "(a, λx0. x0)" ▹ 1 ∷ "()" ▹ 0 ∷ [])
-    ∷ rule plainRule ParIntro gives ("()" ▹ 0 ∷ "a" ▹ 0 ∷ "a" ▹ 0 ∷ "a" ▹ 0 ∷ [])
-    ∷ rule plainRule TopIntro gives ("⟨⟩" ▹ 0 ∷ "⟨⟩" ▹ 0 ∷ "⟨⟩" ▹ 0 ∷ "⟨⟩" ▹ 0 ∷ [])
+    ∷ passes (plainRule ParIntro)
+    ∷ reads-first (plainRule TopIntro) ("⟨⟩" ▹ 0) ("⟨⟩" ▹ 0)
     ∷ rule plainRule WithIntro gives ("⟨⟩" ▹ 0 ∷ "a" ▹ 0 ∷ "(a, λx0. x0)" ▹ 1 ∷ "⟨⟩" ▹ 0 ∷ [])
-    ∷ rule plainRule PlusIntroLeft gives ("inl ()" ▹ 0 ∷ "inl a" ▹ 0 ∷ "inl a" ▹ 0 ∷ "inl a" ▹ 0 ∷ [])
-    ∷ rule plainRule PlusIntroRight gives ("inr ()" ▹ 0 ∷ "inr a" ▹ 0 ∷ "inr a" ▹ 0 ∷ "inr a" ▹ 0 ∷ [])
-    ∷ rule plainRule OfCourseIntro gives ("!()" ▹ 0 ∷ "!a" ▹ 0 ∷ "!a" ▹ 0 ∷ "!a" ▹ 0 ∷ [])
-    ∷ rule plainRule WhyNotIntro gives ("()" ▹ 0 ∷ "a" ▹ 0 ∷ "a" ▹ 0 ∷ "a" ▹ 0 ∷ [])
-    ∷ rule plainRule Weakening gives ("()" ▹ 0 ∷ "discard in a" ▹ 0 ∷ "discard in a" ▹ 0 ∷ "discard in a" ▹ 0 ∷ [])
-    ∷ rule plainRule Contraction gives ("()" ▹ 0 ∷ "copy x2 as (x0, x1) in a" ▹ 3 ∷ "copy x2 as (x0, x1) in a" ▹ 3 ∷ "copy x2 as (x0, x1) in a" ▹ 3 ∷ [])
-    ∷ rule plainRule Dereliction gives ("derelict ()" ▹ 0 ∷ "derelict a" ▹ 0 ∷ "derelict a" ▹ 0 ∷ "derelict a" ▹ 0 ∷ [])
-    ∷ rule focus FocusPositive 0 gives ("()" ▹ 0 ∷ "a" ▹ 0 ∷ "a" ▹ 0 ∷ "a" ▹ 0 ∷ [])
-    ∷ rule focus FocusNegative 65535 gives ("()" ▹ 0 ∷ "a" ▹ 0 ∷ "a" ▹ 0 ∷ "a" ▹ 0 ∷ [])
-    ∷ rule plainRule Blur gives ("()" ▹ 0 ∷ "a" ▹ 0 ∷ "a" ▹ 0 ∷ "a" ▹ 0 ∷ [])
+    ∷ reads-first (plainRule PlusIntroLeft) ("inl ()" ▹ 0) ("inl a" ▹ 0)
+    ∷ reads-first (plainRule PlusIntroRight) ("inr ()" ▹ 0) ("inr a" ▹ 0)
+    ∷ reads-first (plainRule OfCourseIntro) ("!()" ▹ 0) ("!a" ▹ 0)
+    ∷ passes (plainRule WhyNotIntro)
+    ∷ reads-first (plainRule Weakening) ("()" ▹ 0) ("discard in a" ▹ 0)
+    ∷ reads-first (plainRule Contraction) ("()" ▹ 0) ("copy x2 as (x0, x1) in a" ▹ 3)
+    ∷ reads-first (plainRule Dereliction) ("derelict ()" ▹ 0) ("derelict a" ▹ 0)
+    ∷ passes (focus FocusPositive 0)
+    ∷ passes (focus FocusNegative 65535)
+    ∷ passes (plainRule Blur)
     -- Weakening discards Unit; Contraction's names come before its premise's
     ∷ by Weakening on [] from (id ∷ []) gives-bytes "10 02 05 02 7830 01 02 7830"
     ∷ by Contraction on [] from (id ∷ []) gives "copy x2 as (x0, x1) in λx3. x3" ▹ 4
     -- Cut: its own name, producer, consumer, then for Tensor and Plus two more; the others apply consumer to producer
-    ∷ cuts A from (id ∷ id ∷ []) gives "(λx2. x2 λx1. x1)" ▹ 3
-    ∷ cuts A⊥ from (id ∷ id ∷ []) gives "(λx2. x2 λx1. x1)" ▹ 3
-    ∷ cuts constant Bottom from (id ∷ id ∷ []) gives "(λx2. x2 λx1. x1)" ▹ 3
-    ∷ cuts constant Top from (id ∷ id ∷ []) gives "(λx2. x2 λx1. x1)" ▹ 3
-    ∷ cuts constant Zero from (id ∷ id ∷ []) gives "(λx2. x2 λx1. x1)" ▹ 3
-    ∷ cuts exponential OfCourse A from (id ∷ id ∷ []) gives "(λx2. x2 λx1. x1)" ▹ 3
-    ∷ cuts exponential WhyNot A from (id ∷ id ∷ []) gives "(λx2. x2 λx1. x1)" ▹ 3
-    ∷ cuts connective Par A A from (id ∷ id ∷ []) gives "(λx2. x2 λx1. x1)" ▹ 3
-    ∷ cuts connective With A A from (id ∷ id ∷ []) gives "(λx2. x2 λx1. x1)" ▹ 3
-    ∷ cuts connective Lolli A A from (id ∷ id ∷ []) gives "(λx2. x2 λx1. x1)" ▹ 3
+    ∷ applies A
+    ∷ applies A⊥
+    ∷ applies (constant Bottom)
+    ∷ applies (constant Top)
+    ∷ applies (constant Zero)
+    ∷ applies (exponential OfCourse A)
+    ∷ applies (exponential WhyNot A)
+    ∷ applies (connective Par A A)
+    ∷ applies (connective With A A)
+    ∷ applies (connective Lolli A A)
     ∷ cuts connective Tensor A A from (id ∷ id ∷ []) gives "let (x3, x4) = λx1. x1 in λx2. x2" ▹ 5
     ∷ cuts connective Plus A A from (id ∷ id ∷ []) gives "case λx1. x1 of { inl x3 => λx2. x2 | inr x4 => λx2. x2 }" ▹ 5
     -- Axiom goes through `linear` in order; an Atom is at least its lower-cased self, a NegAtom may be passed over

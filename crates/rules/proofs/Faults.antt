@@ -1,12 +1,11 @@
 -- One reading from the left that stops at the first fault: each refusal of the three readers, its place and what comes before what. One table, computed at small limits.
 use Prim.Native.Nat.{ℕ}
-use Prim.Native.String.{String}
 use mathlib.Core.Path.{_≡_, refl}
 use mathlib.Core.List.{List, [], _∷_}
 use lib.ListN.{replicate}
 use Rattle.rules.specs.Basic.{Bytes, _‥_}
 use Rattle.rules.proofs.Notation.{hex, repeat, wrong}
-use Rattle.rules.proofs.Called.{Row, right, _⟹_⟫_, checkTerm, checkFormula, checkProof, isNormal, counts, refuses_at_of_}
+use Rattle.rules.proofs.Called.{Row, right, _⟹_⟫_, checkTerm, checkFormula, checkProof, counts, refuses_at_of_}
 
 infix 62 term_⟹_
 infix 62 formula_⟹_
@@ -79,6 +78,7 @@ table =
     ∷ (proof repeat 5 (hex "04 00 01") ‥ hex "02 05 09 050505050505050505 00" ⟹ counts 6)
     ∷ (proof repeat 6 (hex "04 00 01") ‥ hex "13" ⟹ refuses 6 at 18 of 1)
     ∷ (proof repeat 6 (hex "04 00 01") ⟹ refuses 3 at 18 of 1)
+    ∷ (proof hex "02" ‥ repeat 10 (hex "0b") ‥ hex "05" ⟹ refuses 6 at 11 of 1)
     ∷ (proof hex "02 0305 05 07 05050505050505 01 03 01 0e" ⟹ refuses 6 at 15 of 1)
     ∷ []
 

@@ -1,5 +1,5 @@
 -- What bytes mean: every tag with its names and parts, its text and its way back to bytes; every byte of a name. One table, computed.
-use Prim.Native.Nat.{ℕ, zero, suc, _+_}
+use Prim.Native.Nat.{ℕ, zero, suc}
 use Prim.Native.String.{String}
 use mathlib.Core.Path.{_≡_, refl}
 use mathlib.Core.Bool.{Bool, true, false, _&&_}
@@ -10,9 +10,9 @@ use Rattle.rules.specs.Basic.{Bytes, say, digits, if_then_else_}
 use Rattle.rules.specs.Limits.{limits}
 use Rattle.rules.specs.Refusal.{Outcome, good, refused}
 use Rattle.rules.specs.Name.{leads, follows}
-use Rattle.rules.specs.Formula.{encodeFormula, formulaNodes}
-use Rattle.rules.specs.Term.{Term, nodes, encode, parts}
-use Rattle.rules.specs.Proof.{Proof, encodeRule, encodeFormulas, encodeProof}
+use Rattle.rules.specs.Formula.{encodeFormula}
+use Rattle.rules.specs.Term.{nodes, encode, parts}
+use Rattle.rules.specs.Proof.{encodeRule, encodeFormulas, encodeProof}
 use Rattle.rules.specs.Reading.{times, many, byte, byteFor, room, letters, name, tag, tooMany, node, proofAt, whole, readTerm, readFormula, readProof}
 use Rattle.rules.specs.Text.{text, formulaText}
 use Rattle.rules.specs.Extraction.{extractFrom, extract, oldest, axiomName}

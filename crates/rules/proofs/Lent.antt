@@ -69,6 +69,7 @@ table =
     ∷ (substitutes 91 181 (hex "02") (say "1") [] ⟹ refuses 5 at 0 of 2 ⟫ untouched ∷ untouched ∷ [])
     ∷ (substitutes 91 181 (hex "02") (say long) [] ⟹ refuses 3 at 0 of 3 ⟫ untouched ∷ untouched ∷ [])
     ∷ (substitutes 91 181 (hex "02") (say "x") (repeat 91 (hex "02")) ⟹ refuses 2 at 90 of 3 ⟫ untouched ∷ untouched ∷ [])
+    ∷ (substitutes 91 181 (hex "02") (say "x") (hex "02 02") ⟹ refuses 7 at 1 of 3 ⟫ untouched ∷ untouched ∷ [])
     ∷ (substitutes 91 181 (encode (v "x" · v "y")) (say "x") (hex "02") ⟹ counts 5 ⟫ then-zeros (hex "06 02 010179") ∷ zeroed ∷ [])
     -- 8: 16 nodes and 90 bytes fit, 17 and 91 do not
     ∷ (substitutes 90 180 (encode ⟨ v "x" ﹐ ⟨⟩ ⟩) (say "x") (encode (promotes 13 ⟨⟩)) ⟹ counts 16 ⟫ then-zeros (encode ⟨ promotes 13 ⟨⟩ ﹐ ⟨⟩ ⟩) ∷ zeroed ∷ [])

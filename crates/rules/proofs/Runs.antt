@@ -1,5 +1,5 @@
 -- The cases that document 01 asks to run, and each limit met and passed by one, computed at the document's own limits: one table, one statement.
-use Prim.Native.Nat.{ℕ, zero, suc}
+use Prim.Native.Nat.{ℕ}
 use Prim.Native.String.{String}
 use mathlib.Core.Path.{_≡_, refl}
 use mathlib.Core.Bool.{Bool}
@@ -7,7 +7,6 @@ use mathlib.Core.List.{List, [], _∷_, map}
 use lib.ListN.{replicate, take}
 use Rattle.rules.specs.Basic.{Bytes, say, digits, _‥_}
 use Rattle.rules.specs.Limits.{Limits, limits, wideLimits, outputRoom, textRoom, formulaTextRoom, storedRoom, scratchRoom, entryRoom}
-use Rattle.rules.specs.Refusal.{Outcome}
 use Rattle.rules.specs.Name.{leads, follows}
 use Rattle.rules.specs.Formula.{atom, plain, negated, encodeFormula, formulaNodes}
 use Rattle.rules.specs.Term.{Term, one, promote, nodes, encode, fits}

@@ -1,11 +1,11 @@
 -- Free names, substitution and step: each scope, each rule, each part that is entered and each that is not. One table, computed.
-use Prim.Native.Nat.{ℕ, zero, suc, _+_}
+use Prim.Native.Nat.{ℕ, suc}
 use Prim.Native.String.{String}
 use mathlib.Core.Path.{_≡_, refl}
-use mathlib.Core.Bool.{Bool, true, false, _&&_}
+use mathlib.Core.Bool.{Bool, false, _&&_}
 use mathlib.Core.List.{List, [], _∷_, map}
 use lib.Dec.{eqb}
-use Rattle.rules.specs.Basic.{Bytes, say, if_then_else_}
+use Rattle.rules.specs.Basic.{say, if_then_else_}
 use Rattle.rules.specs.Name.{before, encodeNames}
 use Rattle.rules.specs.Term.{Term, one, two, encode, leaf, trivial, inl, inr, fst, snd, abort, promote, derelict, discard}
 use Rattle.rules.specs.Free.{insert, union, without, free, occurrences}
@@ -95,7 +95,7 @@ table =
     ∷ one derelict (one promote R) by Derelict to R
     ∷ (copies one promote R ⇉ "x" ﹐ "y" ⨟ v "x") by Copy to one promote R
     ∷ (copies one promote (v "y") ⇉ "x" ﹐ "y" ⨟ v "x" · v "y") by Copy to one promote (one promote (v "y")) · one promote (v "y")
-    ∷ two discard (one promote R) R by Discard to R
+    ∷ two discard (one promote R) (R · a) by Discard to R · a
     -- which first parts make a redex
     ∷ contracts (λ t. t · a) (5 ∷ [])
     ∷ contracts (λ t. lets "x" ﹐ "y" ≔ t ⨟ a) (3 ∷ [])

@@ -2,3 +2,8 @@
 pub mod Writes
 pub mod Shapes
 pub mod Splices
+pub mod Finds
+mod Splicing
+pub mod Growths
+mod Works
+mod Answers

@@ -7,24 +7,26 @@ ghost use Prim.Native.Nat.{_+_, _<_};
 ghost use lib.ListN.{length};
 ghost use Rattle.rules.specs.Basic.{if_then_else_, _==_};
 ghost use Rattle.rules.specs.Name.{Name, same as sameName, encodeNames};
-ghost use Rattle.rules.specs.Term.{Term};
-ghost use Rattle.walk.specs.Node.{namesAfter, partsAfter, encodeAll};
+ghost use Rattle.rules.specs.Term.{Term, parts};
+ghost use Rattle.walk.specs.Node.{head, namesAfter, partsAfter, encodeAll};
 ghost use Rattle.walk.specs.Place.{TermAt, TermsAt, NameAt, NamesAt};
 ghost use Rattle.walk.specs.Seen.{Seen};
+
+pub mod child;
 
 // How many names and how many parts follow each tag: two bits a tag.
 const NAMES: usize = 34360264196;
 
 const PARTS: usize = 44380808832;
 
-fn names_of(tag: usize) -> usize
+pub fn names_of(tag: usize) -> usize
     requires { ⌜ tag < 32 ⌝ }
     ensures { λ r. ⌜ r ≡ namesAfter tag ⌝ }
 {
     (NAMES >> (tag * 2)) % 4
 }
 
-fn parts_of(tag: usize) -> usize
+pub fn parts_of(tag: usize) -> usize
     requires { ⌜ tag < 32 ⌝ }
     ensures { λ r. ⌜ r ≡ partsAfter tag ⌝ }
 {
@@ -61,6 +63,22 @@ pub fn skip(s: &[u8], at: usize, n: usize) -> usize
     i
 }
 
+// The parts of a node: where they start, and how many there are.
+pub struct Row {
+    pub start: usize,
+    pub parts: usize,
+}
+
+pub fn parts_at(s: &[u8], at: usize) -> Row
+    requires { ⌜ ((t : Term) × TermAt (now s) at t) ⌝ }
+    ensures { λ r. ⌜ ((t : Term) → TermAt (now (s .entry)) at t → (r .start ≡ at + length (head t)) × (r .parts ≡ length (parts t))) ⌝ }
+{
+    let tag = s[at] as usize;
+    let parts = parts_of(tag);
+    let start = after_names(s, at + 1, names_of(tag));
+    Row { start, parts }
+}
+
 // Whether the name at `at` is `name`.
 pub fn same_name(s: &[u8], at: usize, name: &[u8]) -> bool
     requires { ⌜ ((y : Name) × NameAt (now s) at y) ⌝ }
@@ -72,33 +90,46 @@ pub fn same_name(s: &[u8], at: usize, name: &[u8]) -> bool
     runs::same(name, &s[from..end])
 }
 
-// Which parts two binders cover, where the first is the name sought, or the second: of two parts the second, of three one each.
+// What a binder covers, as a mask of the node's parts: 1 for the first, 2 for the second, 4 for the third.
+const ABS_BODY: usize = 1;
+
+// LetPair and Copy.
+const PAIR_BODY: usize = 2;
+
+// Case.
+const LEFT: usize = 2;
+
+const RIGHT: usize = 4;
+
+const BRANCHES: usize = 6;
+
+// What the two binders of a node cover, where x and y tell whether each is the name sought.
 fn covered(x: bool, y: bool, parts: usize) -> usize
     ensures { λ r. ⌜ r ≡ (if parts == 2 then (if x || y then 2 else 0) else ((if x then 2 else 0) + (if y then 4 else 0))) ⌝ }
 {
     if parts == 2 {
         if x {
-            return 2;
+            return PAIR_BODY;
         }
         if y {
-            return 2;
+            return PAIR_BODY;
         }
         return 0;
     }
     if x {
         if y {
-            return 6;
+            return BRANCHES;
         }
-        return 2;
+        return LEFT;
     }
     if y {
-        return 4;
+        return RIGHT;
     }
     0
 }
 
-// A node, with a name in mind: where its parts start, how many there are, which of them a binder of that name covers
-// (1 the first, 2 the second, 4 the third, added up), and whether it is that variable.
+// A node, with a name in mind: where its parts start, how many there are, which of them a binder of that name covers,
+// and whether it is that variable.
 pub struct Node {
     pub start: usize,
     pub parts: usize,
@@ -134,7 +165,7 @@ pub fn look(s: &[u8], at: usize, name: &[u8]) -> Node
         };
     }
     if names == 1 {
-        let hides = if x { 1 } else { 0 };
+        let hides = if x { ABS_BODY } else { 0 };
         return Node {
             start: second,
             parts,

@@ -12,8 +12,11 @@ refused-requires c κs = search needs
 returns : tie.Need-returns
 returns c = let a = c .before .before .before .args in λ L b m. c .refused .ensures ∙ sym (whole-long (a .form) (a .input) (a .s .now) L b m (c .before .if1 .taken))
 
-read-first-requires : tie.Need-read-first-requires
-read-first-requires c κs = search needs
+table-of-requires : tie.Need-table-of-requires
+table-of-requires c κs = search needs
+
+read-from-requires : tie.Need-read-from-requires
+read-from-requires c κs = (c .before .table-of .ensures, c .before .before .before .before .pre)
 
 enum-known-next : tie.Need-enum-known-next
 enum-known-next c = search needs
@@ -29,18 +32,18 @@ refused-requires-3 c κs = search needs
 
 returns-2 : tie.Need-returns-2
 returns-2 c =
-    let a = c .before .before .before .before .before .before .before .before .args in
-    λ L b m. c .refused2 .ensures ∙ sym (whole-more (a .form) (a .input) (a .s .now) L b m (omega arith) (sym (c .before .before .before .before .before .read-first .ensures) ∙ c .before .before .before .next .given .1) (omega arith))
+    let a = c .before .before .before .before .before .before .before .before .before .before .args in
+    λ L b m. c .refused2 .ensures ∙ sym (whole-more (a .form) (a .input) (a .s .now) L b m (omega arith) (sym (c .before .before .before .before .before .read-from .ensures (a .most) (omega arith)) ∙ c .before .before .before .next .given .1) (omega arith))
 
 returns-3 : tie.Need-returns-3
 returns-3 c =
-    let a = c .before .before .before .before .before .before .before .args in
-    λ L b m. sym (whole-good (a .form) (a .input) (a .s .now) L b m (omega arith) (sym (c .before .before .before .before .read-first .ensures) ∙ c .before .before .next .given .1) (omega arith))
+    let a = c .before .before .before .before .before .before .before .before .before .args in
+    λ L b m. sym (whole-good (a .form) (a .input) (a .s .now) L b m (omega arith) (sym (c .before .before .before .before .read-from .ensures (a .most) (omega arith)) ∙ c .before .before .next .given .1) (omega arith))
 
 returns-4 : tie.Need-returns-4
 returns-4 c =
-    let a = c .before .before .before .before .before .before .before .args in
-    λ L b m. c .refused3 .ensures ∙ sym (whole-bad (a .form) (a .input) (a .s .now) L b m (omega arith) (sym (c .before .before .before .before .read-first .ensures) ∙ c .before .before .number .given .1))
+    let a = c .before .before .before .before .before .before .before .before .before .args in
+    λ L b m. c .refused3 .ensures ∙ sym (whole-bad (a .form) (a .input) (a .s .now) L b m (omega arith) (sym (c .before .before .before .before .read-from .ensures (a .most) (omega arith)) ∙ c .before .before .number .given .1))
 
 pub check-within-spec : {M : Type 1} → statement M
 check-within-spec =
@@ -48,7 +51,8 @@ check-within-spec =
     (tie.spec
     refused-requires
     returns
-    read-first-requires
+    table-of-requires
+    read-from-requires
     enum-known-next
     refused-requires-2
     enum-known-number

@@ -2,7 +2,7 @@
 use native.Mathlib.Omega.{arith}
 use mathlib.Core.Path.{sym, ap, _∙_}
 use Rattle.reader.specs.View.{skipped}
-use Rattle.reader.specs.Tables.{term-classes}
+use Rattle.reader.specs.Tables.{letter-classes}
 use Rattle.reader.proofs.Bare.{bare-empty, bare-long, bare-good, bare-bad}
 use borrow.Author.Needs.{needs}
 use Rattle.reader.proofs.name_input.Statement.{statement}
@@ -23,8 +23,11 @@ refused-requires-2 c κs = search needs
 returns-2 : tie.Need-returns-2
 returns-2 c = let a = c .before .before .before .before .before .args in c .refused2 .ensures ∙ sym (bare-long (a .input) (a .s .now) (omega (arith, c .before .before .longest-name .ensures)))
 
+letter-table-requires : tie.Need-letter-table-requires
+letter-table-requires c κs = search needs
+
 skip-letters-requires : tie.Need-skip-letters-requires
-skip-letters-requires c κs = (term-classes .letters, omega arith)
+skip-letters-requires c κs = (rw (c .before .letter-table .ensures) letter-classes, omega arith)
 
 enum-known-next : tie.Need-enum-known-next
 enum-known-next c = search needs
@@ -37,14 +40,14 @@ refused-requires-3 c κs = search needs
 
 returns-3 : tie.Need-returns-3
 returns-3 c =
-    let a = c .before .before .before .before .before .before .before .before .before .args in
-    sym (bare-good (a .input) (a .s .now) (omega arith) (omega (arith, c .before .before .before .before .before .before .longest-name .ensures)) (sym (c .before .before .before .skip-letters .ensures 0) ∙ ap (skipped 0) (c .before .next .given .1)))
+    let a = c .before .before .before .before .before .before .before .before .before .before .args in
+    sym (bare-good (a .input) (a .s .now) (omega arith) (omega (arith, c .before .before .before .before .before .before .before .longest-name .ensures)) (sym (c .before .before .before .skip-letters .ensures 0) ∙ ap (skipped 0) (c .before .next .given .1)))
 
 returns-4 : tie.Need-returns-4
 returns-4 c =
-    let a = c .before .before .before .before .before .before .before .before .before .before .args in
+    let a = c .before .before .before .before .before .before .before .before .before .before .before .args in
     c .refused3 .ensures
-    ∙ sym (bare-bad (a .input) (a .s .now) (omega arith) (omega (arith, c .before .before .before .before .before .before .before .longest-name .ensures)) (sym (c .before .before .before .before .skip-letters .ensures 0) ∙ ap (skipped 0) (c .before .before .number .given .1)))
+    ∙ sym (bare-bad (a .input) (a .s .now) (omega arith) (omega (arith, c .before .before .before .before .before .before .before .before .longest-name .ensures)) (sym (c .before .before .before .before .skip-letters .ensures 0) ∙ ap (skipped 0) (c .before .before .number .given .1)))
 
 pub name-input-spec : {M : Type 1} → statement M
 name-input-spec =
@@ -55,6 +58,7 @@ name-input-spec =
     longest-name-requires
     refused-requires-2
     returns-2
+    letter-table-requires
     skip-letters-requires
     enum-known-next
     enum-known-number

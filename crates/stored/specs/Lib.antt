@@ -1,0 +1,15 @@
+pub mod Weights
+pub mod Heads
+pub mod Opening
+pub mod Writing
+pub mod Blocks
+pub mod Gathering
+pub mod Answers
+pub mod Storing
+pub mod Undone
+pub mod Inverse
+pub mod Octets
+pub mod Loaded
+pub mod Tells
+pub mod Changed
+pub mod Facts
