@@ -4,7 +4,7 @@
 ghost use mathlib.Core.Path.{_≡_};
 ghost use Rattle.rules.specs.Limits.{limits};
 ghost use Rattle.rules.specs.Refusal.{answered};
-ghost use Rattle.rules.specs.Calls.{checkTermCall, checkFormulaCall};
+ghost use Rattle.rules.specs.Calls.{checkTermCall, checkFormulaCall, formulaTextCall};
 ghost use Rattle.entry.specs.Told.{toldAnswer};
 use rules::Answer;
 
@@ -37,4 +37,12 @@ pub extern "C" fn patch_check_term(term: &[u8], answer: &mut [u64; 16])
     ensures { λ _. ⌜ now (answer .exit) ≡ toldAnswer (answered (checkTermCall limits (now (term .entry)))) ⌝ }
 {
     tell(reader::check_term(term), answer);
+}
+
+#[no_mangle]
+pub extern "C" fn patch_formula_text(formula: &[u8], out: &mut [u8], answer: &mut [u64; 16])
+    ensures { λ _. ⌜ now (answer .exit) ≡ toldAnswer (answered (formulaTextCall limits (now (formula .entry)) (now (out .entry)) .answer)) ⌝ }
+    ensures { λ _. ⌜ now (out .exit) ≡ formulaTextCall limits (now (formula .entry)) (now (out .entry)) .output ⌝ }
+{
+    tell(formula_text::pretty(formula, out), answer);
 }

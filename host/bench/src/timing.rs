@@ -1,7 +1,6 @@
-//! Medians of interleaved runs. Each round times both sides, so that what else the machine does falls on both.
+//! Medians of interleaved runs. Each round times both sides, and times are the thread's own, so that what else the machine does counts little.
 
 use crate::rows::Row;
-use std::time::Instant;
 
 const ROUNDS: usize = 41;
 /// How long one side of a round runs.
@@ -38,13 +37,29 @@ pub fn table(rows: &[Row]) {
     println!("ratio: how often the port does it while the other does it once");
 }
 
-/// For one input each, in nanoseconds.
+/// How long each of so many runs takes, in nanoseconds.
 fn nanos(side: &dyn Fn(), times: usize) -> f64 {
-    let start = Instant::now();
+    let start = thread_nanos();
     for _ in 0..times {
         side();
     }
-    start.elapsed().as_nanos() as f64 / times as f64
+    (thread_nanos() - start) as f64 / times as f64
+}
+
+/// The processor time that this thread has had.
+fn thread_nanos() -> i64 {
+    #[repr(C)]
+    struct Time {
+        seconds: i64,
+        nanos: i64,
+    }
+    extern "C" {
+        fn clock_gettime(clock: i32, time: *mut Time) -> i32;
+    }
+    const CLOCK_THREAD_CPUTIME_ID: i32 = 3;
+    let mut time = Time { seconds: 0, nanos: 0 };
+    unsafe { clock_gettime(CLOCK_THREAD_CPUTIME_ID, &mut time) };
+    time.seconds * 1_000_000_000 + time.nanos
 }
 
 /// So often that a side runs long enough to be timed.
