@@ -1,12 +1,11 @@
 -- `report::put_decimal` meets its contract: the digits of a tenth, then the last one. Assumes nothing.
-use mathlib.Core.Path.{_≡_, refl, sym, ap, _∙_}
-use mathlib.Core.List.{[], _∷_, _++_}
+use mathlib.Core.Path.{sym, ap, _∙_}
+use mathlib.Core.List.{[], _∷_}
 use Prim.Native.Nat.{_+_, _/_, _%_}
 use native.Mathlib.Omega.{arith}
 use lib.ListN.{length, length-set, length-append}
 use denote.Ref.{now}
-use Rattle.rules.specs.Basic.{Bytes, decimal}
-use Rattle.runs.specs.Wrote.{Wrote}
+use Rattle.rules.specs.Basic.{decimal}
 use Rattle.runs.specs.Writing.{chain}
 use Rattle.report.specs.Digits.{decimal-one, decimal-more, wrote-one, wrote-as}
 use Prim.Native.Nat.{ℕ, _<_}
