@@ -10,9 +10,9 @@ use Rattle.rules.specs.Basic.{Bytes, say, digits, if_then_else_}
 use Rattle.rules.specs.Limits.{limits}
 use Rattle.rules.specs.Refusal.{Outcome, good, refused}
 use Rattle.rules.specs.Name.{leads, follows}
-use Rattle.rules.specs.Formula.{encodeFormula}
+use Rattle.rules.specs.Formula.{encodeFormula, formulaNodes}
 use Rattle.rules.specs.Term.{nodes, encode, parts}
-use Rattle.rules.specs.Proof.{encodeRule, encodeFormulas, encodeProof}
+use Rattle.rules.specs.Proof.{encodeRule, encodeFormulas, encodeProof, proofFormulaNodes}
 use Rattle.rules.specs.Reading.{times, many, byte, byteFor, room, letters, name, tag, tooMany, node, proofAt, whole, readTerm, readFormula, readProof}
 use Rattle.rules.specs.Text.{text, formulaText}
 use Rattle.rules.specs.Extraction.{extractFrom, extract, oldest, axiomName}
@@ -101,6 +101,11 @@ table =
 pub forms-hold : wrong right table ≡ []
 unfolding right
 forms-hold = refl
+
+-- The formula nodes of a proof: 3 in Cut's formula, 3 in `linear`, 1 and 2 in the premises.
+pub formula-nodes : goodAnd (readProof limits 1 (hex "02 030505 02 0b05 05 02 03010500 040001 0302090500")) (λ p. eqb (proofFormulaNodes p) 9) ≡ true
+unfolding times many byte byteFor room letters name tag tooMany node proofAt whole readProof leads follows formulaNodes proofFormulaNodes
+formula-nodes = refl
 
 -- Of all 256 bytes, those that may stand first in a name, and those that may stand later.
 abbrev pub those : (ℕ → Bool) → (from many : ℕ) → Bytes
