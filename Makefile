@@ -6,7 +6,7 @@ CARGO := --release --offline --locked --quiet --manifest-path host/Cargo.toml
 VERDICT := host/target/verdict
 WARN := -Iinclude -Wall -Wextra -Wpedantic -Werror
 
-.PHONY: test hosted library run bench cases
+.PHONY: test hosted library run bench cases vectors
 
 # rt ci proves every crate from nothing; the static library is then built from what it has just proved. Its last line, the verdict, is kept
 # back until the runs over that library have passed too, so that it is the last line of all and nothing is proved twice.
@@ -37,3 +37,8 @@ bench: library
 cases:
 	@cargo run $(CARGO) -p cases > host/target/cases.antt
 	@mv host/target/cases.antt crates/cases/specs/RustCases.antt
+
+# The list of the Rust's answers that the program crates/vectors replays.
+vectors:
+	@cargo run $(CARGO) -p cases --bin vectors > host/target/vectors
+	@mv host/target/vectors crates/vectors/stdin
