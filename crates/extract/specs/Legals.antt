@@ -9,7 +9,7 @@ use native.Mathlib.Omega.{arith}
 use Rattle.rules.specs.Basic.{if_then_else_, _‥_, say}
 use Rattle.rules.specs.Limits.{mostCounter}
 use Rattle.rules.specs.Name.{Name, nameMost, atomMost, lower, leads, follows}
-use Rattle.rules.specs.Legal.{All, LegalName, LegalFormula, Legal}
+use Rattle.rules.specs.Legal.{All, LegalName, LegalFormula, Legal, LegalFormulas, LegalRule, LegalProof, LegalPremises}
 use Rattle.rules.specs.Formula.{Formula, atom, constant, exponential, connective, Sign, plain, negated, Tensor, Par, With, Plus, Lolli}
 use Rattle.rules.specs.Term.{Term, var, leaf, one, two, abs, both, branch, Leaf, unit, trivial, One, inl, inr, promote, derelict, Two, pair, app, discard, Both, letPair, copy}
 use Rattle.rules.specs.Proof.{Proof, proof, Premises, done, _then_, Rule, plain as plainRule, cut, focus, Plain}
@@ -17,24 +17,7 @@ use Rattle.rules.specs.Proof.Plain.{Axiom, OneIntro, BottomIntro, TensorIntro, 
 use Rattle.rules.specs.Extraction.{terms, Entries, Fresh, fresh, x, stemFor, Premise, cutsAtom, oldest, orItself, axiomName, identity, firstOr, wrapped, paired, discarding, copying, joined, cutting, plainly, byRule, extract, extracts}
 use Rattle.extract.specs.Names.{lower-legal, fresh-legal}
 
--- ---- legal proofs and entries
-
-abbrev pub LegalFormulas : List Formula → Type 0
-LegalFormulas [] = Unit {0}
-LegalFormulas (f ∷ fs) = LegalFormula f × LegalFormulas fs
-
-abbrev pub LegalRule : Rule → Type 0
-LegalRule (plainRule k) = Unit {0}
-LegalRule (cut f) = LegalFormula f
-LegalRule (focus k n) = Unit {0}
-
-unfoldable mutual
-  pub LegalProof : Proof → Type 0
-  LegalProof (proof r l ps) = LegalRule r × LegalFormulas l × LegalPremises ps
-
-  pub LegalPremises : Premises → Type 0
-  LegalPremises done = Unit {0}
-  LegalPremises (p then ps) = LegalProof p × LegalPremises ps
+-- ---- entries
 
 -- the names of the entries are legal
 abbrev pub LegalEntries : Entries → Type 0
