@@ -1,0 +1,1 @@
+// Extraction of terms from proofs.
