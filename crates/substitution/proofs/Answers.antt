@@ -11,13 +11,12 @@ use Rattle.rules.specs.declared.Refusal.{Refusal}
 use Rattle.rules.specs.Refusal.{Outcome, good, refused, refuse, answered, sparesScratch}
 use Rattle.rules.specs.declared.Answer.{Answer}
 use Rattle.rules.specs.declared.Answer.the-variants.{Refused}
-use Rattle.rules.specs.Name.{Name, nameMost}
+use Rattle.rules.specs.Name.{Name}
 use Rattle.rules.specs.Term.{Term, fits}
 use Rattle.rules.specs.Substitution.{subst}
 use Rattle.rules.specs.Reading.{readTerm, readName}
 use Rattle.rules.specs.Buffers.{bytesOr, cleared}
 use Rattle.rules.specs.Calls.{grown, substituted, substituteCall}
-use Rattle.laws.specs.Names.{name-long}
 use Rattle.laws.specs.Decoding.{term-sound, bare-name-sound}
 use Rattle.laws.specs.Numbers.{term-spares, name-spares}
 use Rattle.substitution.specs.declared.Inputs.the-variants.{Read, Refused as Bad}
@@ -88,7 +87,6 @@ module _ (term name value out scratch : Bytes) where
                     record {
                       term-in = term-sound limits 1 term t p;
                       value-in = term-sound limits 3 value v p″;
-                      name-short = rw (w .0) (name-long nameMost x (w .1) .1);
                       count = cc;
                       value-count = cc;
                       out-room = h;

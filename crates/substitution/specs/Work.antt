@@ -6,7 +6,7 @@ use Rattle.rules.specs.Basic.{Bytes}
 use Rattle.rules.specs.Limits.{limits, outputRoom}
 use Rattle.rules.specs.Refusal.{Outcome, good, refused, answered}
 use Rattle.rules.specs.declared.Answer.{Answer}
-use Rattle.rules.specs.Name.{Name, nameMost}
+use Rattle.rules.specs.Name.{Name}
 use Rattle.rules.specs.Term.{Term, encode, nodes}
 use Rattle.rules.specs.Substitution.{subst}
 use Rattle.rules.specs.Buffers.{bytesOr, filled}
@@ -26,7 +26,6 @@ inputs (good t) (good x) (good v) = Read (nodes t) (nodes v)
 pub record Job (term name value out scratch : Bytes) (n m : ℕ) (t v : Term) : Type 0 where
   pub term-in : TermIn limits term t
   pub value-in : TermIn limits value v
-  pub name-short : length name ≤ nameMost
   pub count : n ≡ nodes t
   pub value-count : m ≡ nodes v
   pub out-room : outputRoom limits ≤ length out

@@ -16,7 +16,7 @@ pub mod sizes;
 pub mod splice;
 
 // The inputs of a substitution: how many nodes the term has, and the value; or a refusal.
-pub enum Inputs {
+enum Inputs {
     Read { nodes: usize, added: usize },
     Refused(Refusal),
 }

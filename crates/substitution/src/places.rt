@@ -22,9 +22,9 @@ fn keep(places: &mut [u8], to: usize, place: usize) -> usize
 }
 
 // The place after the terms, and after what was kept.
-pub struct Found {
-    pub next: usize,
-    pub to: usize,
+struct Found {
+    next: usize,
+    to: usize,
 }
 
 // Keeps from `to` on where `name` is free in the n terms at `at`, but for those that the mask hides.

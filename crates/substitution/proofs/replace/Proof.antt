@@ -25,10 +25,16 @@ part-splice-end : tie.Need-part-splice-end
 part-splice-end c = kept-within (c .before .before .before .before .before .before .before .before .before .before .before .before .pre .2) _ _ (c .before .before .before .before .before .free-places .ensures)
 
 splice-requires : tie.Need-splice-requires
-splice-requires c κs = splice-left (c .before .before .before .before .before .before .before .before .before .before .before .before .before .before .pre .2) _ _ (c .before .before .before .before .before .before .before .free-places .ensures) _ (c .before .before .before .before .stays .ensures _ _ _ (growth (c .before .before .before .before .before .before .before .before .before .before .before .before .before .before .pre .2) _ _ (c .before .before .before .before .before .before .before .free-places .ensures))) (c .before .before .before .if1 .taken)
+splice-requires c κs =
+    let j = c .before .before .before .before .before .before .before .before .before .before .before .before .before .before .pre .2 in
+    let f = c .before .before .before .before .before .before .before .free-places .ensures in
+    splice-left j _ _ f _ (c .before .before .before .before .stays .ensures _ _ _ (growth j _ _ f)) (c .before .before .before .if1 .taken)
 
 clear-requires : tie.Need-clear-requires
-clear-requires c κs = end-within (c .before .before .before .before .before .before .before .before .before .before .before .before .before .before .before .before .before .before .pre .2) _ _ (c .before .before .before .before .before .before .before .before .before .before .before .free-places .ensures) _ (c .before .before .before .before .before .before .before .before .stays .ensures _ _ _ (growth (c .before .before .before .before .before .before .before .before .before .before .before .before .before .before .before .before .before .before .pre .2) _ _ (c .before .before .before .before .before .before .before .before .before .before .before .free-places .ensures))) (c .before .before .before .before .before .before .before .if1 .taken) _ _ (c .before .before .before .splice .ensures)
+clear-requires c κs =
+    let j = c .before .before .before .before .before .before .before .before .before .before .before .before .before .before .before .before .before .before .pre .2 in
+    let f = c .before .before .before .before .before .before .before .before .before .before .before .free-places .ensures in
+    end-within j _ _ f _ (c .before .before .before .before .before .before .before .before .stays .ensures _ _ _ (growth j _ _ f)) (c .before .before .before .before .before .before .before .if1 .taken) _ _ (c .before .before .before .splice .ensures)
 
 clear-requires-2 : tie.Need-clear-requires-2
 clear-requires-2 c κs = search needs
