@@ -1,0 +1,5 @@
+-- What the proofs of several functions use.
+pub mod Places
+pub mod Tags
+pub mod Views
+pub mod Rows
