@@ -3,3 +3,7 @@ pub mod Places
 pub mod Tags
 pub mod Views
 pub mod Rows
+pub mod Ways
+pub mod Bytes
+pub mod Owns
+pub mod Tops

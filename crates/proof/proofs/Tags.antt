@@ -2,17 +2,20 @@
 -- Assumes nothing.
 use Prim.Native.Nat.{ℕ, zero, suc, _+_, _<_, _≤_}
 use native.Mathlib.Omega.{arith}
-use mathlib.Core.Path.{_≡_, refl, ap, _∙_}
+use mathlib.Core.Path.{_≡_, refl, sym, ap, _∙_}
 use mathlib.Core.Bool.{Bool, true, false, _&&_}
+use mathlib.Core.List.{[], _∷_}
 use mathlib.Core.Option.{Option, none, some}
 use lib.ListN.{length, getD, drop}
-use borrow.Author.Tests.{lt-ltb, le-ltb, eqb-true, eqb-false}
+use borrow.Author.Tests.{lt-ltb, le-ltb, ltb-true, eqb-true, eqb-false}
 use Rattle.rules.specs.Basic.{Bytes, if_then_else_, _<?_, _==_}
 use Rattle.rules.specs.Layout.{headAt}
 use Rattle.rules.specs.Proof.{RuleHead, aPlain, aCut, aFocus, ruleHeads}
-use Rattle.rules.specs.Reading.{byte, listed, tag}
+use Rattle.rules.specs.Reading.{Got, got, bad, byte, listed, tag}
 use Rattle.laws.specs.Same.{both-true}
-use Rattle.proof.specs.Seen.{Tag, Plain, Cut, Focus, NoTag, tagSeen}
+use Rattle.laws.specs.Holds.{Holds, chosen, told as read}
+use Rattle.laws.specs.Steady.{steady-got, steady-tag}
+use Rattle.proof.specs.Seen.{Tag, Plain, Cut, Focus, NoTag, carries, tagSeen}
 use Rattle.proof.proofs.Places.{rest-in, rest-out}
 
 module _ (f : ℕ → Bool) where
@@ -67,3 +70,52 @@ module _ (s : Bytes) (at used most : ℕ) where
   tag-is h l small =
       rw (rest-in s at h) (simp (lt-ltb used most l) (by-kind used at (at + 1) (drop (at + 1) s) (headAt ruleHeads (getD s at 0))))
       ∙ ap (shown at) (kind-is (getD s at 0) small)
+
+-- A tag that was read: it was there, and not one too many.
+pub record Tagged (most u at : ℕ) (r : Bytes) (v p : ℕ) (r′ : Bytes) : Type 0 where
+  pub first : ℕ
+  pub bytes : r ≡ first ∷ r′
+  pub next : p ≡ at + 1
+  pub met : v ≡ u + 1
+  pub room : u < most
+
+pub tag-holds : (most u at : ℕ) (r : Bytes) → Holds (λ h v p r′. Tagged most u at r v p r′) (tag most (headAt ruleHeads) u at r)
+unfolding tag byte
+tag-holds most u at [] = tt
+tag-holds most u at (b ∷ r) = chosen _ (u <? most) _ _ (λ e. go (ltb-true _ _ e) (headAt ruleHeads b)) (λ e. tt)
+  where
+    go : u < most → (o : Option RuleHead) → Holds (λ h v p r′. Tagged most u at (b ∷ r) v p r′) (listed u at (at + 1) r o)
+    go l none = tt
+    go l (some h) = record { first = b; bytes = refl; next = refl; met = refl; room = l }
+
+abbrev pub known : Tag → Bool
+known Plain = true
+known Cut = true
+known Focus = true
+known (NoTag n p) = false
+
+seen-tag : (g : Got ℕ RuleHead) (k : Tag) → tagSeen g ≡ k → known k ≡ true → (h : RuleHead) × (v : ℕ) × (p : ℕ) × (r : Bytes) × (g ≡ got h v p r)
+seen-tag (got h v p r) k e i = (h, v, p, r, refl)
+seen-tag (bad n p) k e i = absurd (let f : false ≡ true = ap known e ∙ i in let z : _≡_ {A = ℕ} 0 1 = cc in omega arith)
+
+-- The same, from what the code tells: the head that was read, and what is left.
+pub record Headed (s : Bytes) (at used most : ℕ) (k : Tag) : Type 0 where
+  pub head : RuleHead
+  pub is : tag most (headAt ruleHeads) used at (drop at s) ≡ got head (used + 1) (at + 1) (drop (at + 1) s)
+  pub carried : carries head ≡ k
+  pub room : used < most
+  pub inside : at < length s
+
+pub headed : (s : Bytes) (at used most : ℕ) (k : Tag) → at ≤ length s → k ≡ tagSeen (tag most (headAt ruleHeads) used at (drop at s)) → known k ≡ true → Headed s at used most k
+headed s at used most k h e i =
+    let g = tag most (headAt ruleHeads) used at (drop at s) in
+    let w = seen-tag g k (sym e) i in
+    let t : Tagged most used at (drop at s) (w .1) (w .2) (w .3) = read (λ h v p r′. Tagged most used at (drop at s) v p r′) g (tag-holds most used at (drop at s)) (w .4) in
+    let d = steady-got (tag most (headAt ruleHeads)) (steady-tag most (headAt ruleHeads)) s used at h (w .4) in
+    record {
+      head = w .0;
+      is = w .4 ∙ cc (t .met, t .next, d .rest);
+      carried = ap tagSeen (sym (w .4)) ∙ sym e;
+      room = t .room;
+      inside = omega (arith, t .next, d .within);
+    }

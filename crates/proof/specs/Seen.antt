@@ -1,6 +1,6 @@
 -- What the code tells of a reading of a proof: all but the value read and the bytes that are left.
 -- Assumes nothing: these are definitions.
-use Prim.Native.Nat.{ℕ}
+use Prim.Native.Nat.{ℕ, _+_}
 use lib.ListN.{drop}
 use Rattle.rules.specs.Basic.{Bytes}
 use Rattle.rules.specs.Limits.{Limits}
@@ -22,6 +22,13 @@ metBy q = record { rules = q .rules; formulas = q .formulas }
 
 abbrev pub reached : Met → ℕ → Reached
 reached u p = record { next = p; rules = u .rules; formulas = u .formulas }
+
+-- a byte further on; and a rule more besides
+abbrev pub pastByte : Reached → Reached
+pastByte q = record { next = q .next + 1; rules = q .rules; formulas = q .formulas }
+
+abbrev pub pastTag : Reached → Reached
+pastTag q = record { next = q .next + 1; rules = q .rules + 1; formulas = q .formulas }
 
 abbrev pub seen : {A : Type 0} → Got Met A → Reading
 seen (got x u p r) = To (reached u p)

@@ -1,6 +1,6 @@
 -- The reader of proofs (rules, Reading.antt) in the stages in which the code has it.
 -- Assumes nothing: these are definitions.
-use Prim.Native.Nat.{ℕ}
+use Prim.Native.Nat.{ℕ, _+_, _*_}
 use mathlib.Core.List.{List}
 use Rattle.rules.specs.Basic.{_≤?_}
 use Rattle.rules.specs.Limits.{Limits}
@@ -12,13 +12,24 @@ use Rattle.rules.specs.Reading.{Reader, Met, _>>=_, pure, many, byte, byteFor, 
 abbrev pub formulaOf : Limits → Reader Met Formula
 formulaOf L = countingFormulas (node formulas (L .formulas) (L .formulas))
 
+-- formulas in a row
 unfoldable pub rowOf : Limits → ℕ → Reader Met (List Formula)
 rowOf L n = many (formulaOf L) n
+
+-- two bytes, low byte first
+unfoldable pub indexOf : Reader Met ℕ
+indexOf = do
+  low ← byte
+  high ← byte
+  pure (low + 256 * high)
+
+abbrev pub tagOf : Limits → Reader Met RuleHead
+tagOf L = countingRules (tag (L .rules) (headAt ruleHeads))
 
 -- a rule's tag, and what it carries
 unfoldable pub ownOf : Limits → Reader Met Rule
 ownOf L = do
-  h ← countingRules (tag (L .rules) (headAt ruleHeads))
+  h ← tagOf L
   ruleOf (formulaOf L) h
 
 unfoldable pub linearOf : Limits → Reader Met (List Formula)
@@ -35,9 +46,9 @@ pub record Top : Type 0 where
   pub linear : List Formula
   pub premises : ℕ
 
-unfoldable pub conclusionOf : Limits → Reader Met Top
-conclusionOf L = do
+unfoldable pub topOf : Limits → Reader Met Top
+topOf L = do
   r ← ownOf L
   l ← linearOf L
-  m ← countOf
-  pure (record { rule = r; linear = l; premises = m })
+  n ← countOf
+  pure (record { rule = r; linear = l; premises = n })
