@@ -7,3 +7,4 @@ pub mod Ways
 pub mod Bytes
 pub mod Owns
 pub mod Tops
+pub mod Above

@@ -35,3 +35,17 @@ came m k s from h {q} e =
     let w = seen-got (found m s from) e in
     let i = steady-got m k s (metBy from) (from .next) h (w .2) in
     record { value = w .0; is = w .2 ∙ ap (λ r. got (w .0) (metBy q) (q .next) r) (i .rest); inside = i .within }
+
+-- The first of n items is read, or fails.
+module _ {A : Type 0} (m : Reader Met A) (s : Bytes) (q : Reached) (n : ℕ) where
+  pub many-none : n ≡ 0 → seen (found (many m n) s q) ≡ To q
+  unfolding many
+  many-none z = rw z
+
+  pub many-off : (k : ℕ) → n ≡ suc k → (i p : ℕ) → found m s q ≡ bad i p → seen (found (many m n) s q) ≡ Fault i p
+  unfolding many
+  many-off k z i p e = rw (z, e)
+
+  pub many-on : (k : ℕ) → n ≡ suc k → {q′ : Reached} → Came s (found m s q) q′ → seen (found (many m n) s q) ≡ seen (found (many m k) s q′)
+  unfolding many
+  many-on k z {q′} c = rw (z, c .is) (seen-made (found (many m k) s q′) (λ xs. c .value ∷ xs))

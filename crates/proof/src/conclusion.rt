@@ -100,7 +100,15 @@ fn read_formulas(s: &[u8], t: &[u8; 256], most: Most, from: Reached, n: usize) -
     requires { ⌜ (most .formulas ≤ 65536) × (n ≤ 65536) ⌝ }
     ensures { λ r. ⌜ r ≡ seen (found (rowOf (within most) n) (now (s .entry)) from) ⌝ }
 {
-    match read_row(s, Form::Formula, t, from.next, from.formulas, most.formulas, n) {
+    match read_row(
+        s,
+        Form::Formula,
+        t,
+        from.next,
+        from.formulas,
+        most.formulas,
+        n,
+    ) {
         Read::Whole { next, met } => Reading::To(Reached {
             next,
             rules: from.rules,

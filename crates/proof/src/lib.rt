@@ -1,5 +1,6 @@
 // Reads encoded proofs: accepted with their count of rules, or refused by number and place.
 pub mod conclusion;
+pub mod premises;
 
 // How far a reading has come: the next place, and the rules and formula nodes met so far.
 pub struct Reached {

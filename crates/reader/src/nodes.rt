@@ -28,7 +28,15 @@ pub fn longest_name(form: Form) -> usize
 }
 
 // Reads n nodes in a row from `at` on, where `used` were met before: `pending` nodes are still to be read.
-pub fn read_row(s: &[u8], form: Form, t: &[u8; 256], at: usize, used: usize, most: usize, n: usize) -> Read
+pub fn read_row(
+    s: &[u8],
+    form: Form,
+    t: &[u8; 256],
+    at: usize,
+    used: usize,
+    most: usize,
+    n: usize,
+) -> Read
     requires { ⌜ Classes (layoutOf form) (now t) ⌝ }
     requires { ⌜ (most ≤ 65536) × (n ≤ 65536) ⌝ }
     ensures { λ r. ⌜ r ≡ view (times (node (layoutOf form) most most) n used at (drop at (now (s .entry)))) ⌝ }
