@@ -8,3 +8,4 @@ pub mod Bytes
 pub mod Owns
 pub mod Tops
 pub mod Above
+pub mod Whole
