@@ -12,8 +12,8 @@ use Rattle.reader.specs.declared.nodes.Read.{Read}
 use Rattle.reader.specs.declared.nodes.Read.the-variants.{Whole, Bad}
 use Rattle.reader.specs.View.{view}
 use Rattle.proof.specs.Seen.{Reached, Most, Reading, To, Fault, seen, found, within}
-use Rattle.proof.specs.Stages.{rowOf}
-use Rattle.proof.proofs.Views.{seen-made}
+use Rattle.proof.specs.Stages.{formulaOf, rowOf}
+use Rattle.proof.proofs.Views.{seen-made, many-none}
 
 -- what a row of nodes says, where k rules were met
 abbrev pub afterRules : ℕ → Read → Reading
@@ -38,6 +38,10 @@ module _ {A : Type 0} (m : Reader ℕ A) (k : ℕ) where
           ≡ afterRules k (view (andThen g (λ x u p r. andThen (times m n u p r) (λ xs. pure (pair n x xs)))))
       go (got x v p q) h = seen-made (many (countingFormulas m) n (record { rules = k; formulas = v }) p q) (λ xs. x ∷ xs) ∙ h v p q ∙ ap (afterRules k) (sym (made (times m n v p q) (pair n x)))
       go (bad i p) h = refl
+
+pub row-none : (s : Bytes) (most : Most) (from : Reached) (n : ℕ) → n ≡ 0 → seen (found (rowOf (within most) n) s from) ≡ To from
+unfolding rowOf
+row-none s most from n z = many-none (formulaOf (within most)) s from n z
 
 pub row-seen : (s : Bytes) (most : Most) (from : Reached) (n : ℕ)
     → seen (found (rowOf (within most) n) s from) ≡ afterRules (from .rules) (view (times (node formulas (most .formulas) (most .formulas)) n (from .formulas) (from .next) (drop (from .next) s)))

@@ -100,6 +100,9 @@ fn read_formulas(s: &[u8], t: &[u8; 256], most: Most, from: Reached, n: usize) -
     requires { ⌜ (most .formulas ≤ 65536) × (n ≤ 65536) ⌝ }
     ensures { λ r. ⌜ r ≡ seen (found (rowOf (within most) n) (now (s .entry)) from) ⌝ }
 {
+    if n == 0 {
+        return Reading::To(from);
+    }
     match read_row(
         s,
         Form::Formula,
