@@ -15,7 +15,7 @@ use Rattle.rules.specs.Reading.{Got, got, bad, byte, listed, tag}
 use Rattle.laws.specs.Same.{both-true}
 use Rattle.laws.specs.Holds.{Holds, chosen, told as read}
 use Rattle.laws.specs.Steady.{steady-got, steady-tag}
-use Rattle.proof.specs.Seen.{Tag, Plain, Cut, Focus, NoTag, carries, tagSeen}
+use Rattle.proof.specs.Seen.{Tag, Plain, Cut, Focus, NoTag, carries, kindAt, tagSeen}
 use Rattle.proof.proofs.Places.{rest-in, rest-out}
 
 module _ (f : ℕ → Bool) where
@@ -31,23 +31,17 @@ module _ (f : ℕ → Bool) where
       go true q g = rw (eqb-true k n q) (both-true (f n) (allBelow n) e .0)
       go false q g = g (omega (arith, eqb-false k n q))
 
--- what a tag carries, as a number: by the list of heads, and by the tests of the code
-abbrev kind : Option RuleHead → ℕ
-kind none = 0
-kind (some (aPlain k)) = 1
-kind (some aCut) = 2
-kind (some (aFocus k)) = 3
-
+-- what a tag carries, by the tests of the code
 abbrev pub kindBy : ℕ → ℕ
 kindBy b = if b <? 1 then 0 else (if 18 <? b then 0 else (if b == 2 then 2 else (if b == 16 then 3 else (if b == 17 then 3 else 1))))
 
-kind-is : (b : ℕ) → b < 256 → kind (headAt ruleHeads b) ≡ kindBy b
-kind-is b h = eqb-true _ _ (below (λ b. kind (headAt ruleHeads b) == kindBy b) 256 refl b h)
+pub kind-is : (b : ℕ) → b < 256 → kindAt (headAt ruleHeads b) ≡ kindBy b
+kind-is b h = eqb-true _ _ (below (λ b. kindAt (headAt ruleHeads b) == kindBy b) 256 refl b h)
 
 abbrev pub shown : (at kind : ℕ) → Tag
 shown at k = if k == 0 then NoTag 4 at else (if k == 1 then Plain else (if k == 2 then Cut else Focus))
 
-by-kind : (used at next : ℕ) (r : Bytes) (o : Option RuleHead) → tagSeen (listed used at next r o) ≡ shown at (kind o)
+by-kind : (used at next : ℕ) (r : Bytes) (o : Option RuleHead) → tagSeen (listed used at next r o) ≡ shown at (kindAt o)
 by-kind used at next r none = refl
 by-kind used at next r (some (aPlain k)) = refl
 by-kind used at next r (some aCut) = refl
@@ -65,11 +59,9 @@ module _ (s : Bytes) (at used most : ℕ) where
   unfolding tag byte
   tag-full h l = rw (rest-in s at h) (simp (le-ltb used most l))
 
-  pub tag-is : at < length s → used < most → getD s at 0 < 256 → told ≡ shown at (kindBy (getD s at 0))
+  pub tag-is : at < length s → used < most → told ≡ shown at (kindAt (headAt ruleHeads (getD s at 0)))
   unfolding tag byte
-  tag-is h l small =
-      rw (rest-in s at h) (simp (lt-ltb used most l) (by-kind used at (at + 1) (drop (at + 1) s) (headAt ruleHeads (getD s at 0))))
-      ∙ ap (shown at) (kind-is (getD s at 0) small)
+  tag-is h l = rw (rest-in s at h) (simp (lt-ltb used most l) (by-kind used at (at + 1) (drop (at + 1) s) (headAt ruleHeads (getD s at 0))))
 
 -- A tag that was read: it was there, and not one too many.
 pub record Tagged (most u at : ℕ) (r : Bytes) (v p : ℕ) (r′ : Bytes) : Type 0 where

@@ -1,6 +1,7 @@
 -- What the code tells of a reading of a proof: all but the value read and the bytes that are left.
 -- Assumes nothing: these are definitions.
 use Prim.Native.Nat.{ℕ, _+_}
+use mathlib.Core.Option.{Option, none, some}
 use lib.ListN.{drop}
 use Rattle.rules.specs.Basic.{Bytes}
 use Rattle.rules.specs.Limits.{Limits}
@@ -11,10 +12,10 @@ pub use Rattle.proof.specs.declared.Reached.{Reached}
 pub use Rattle.proof.specs.declared.Most.{Most}
 pub use Rattle.proof.specs.declared.Reading.{Reading}
 pub use Rattle.proof.specs.declared.Reading.the-variants.{To, Fault}
-pub use Rattle.proof.specs.declared.conclusion.Tag.{Tag}
-pub use Rattle.proof.specs.declared.conclusion.Tag.the-variants.{Plain, Cut, Focus, NoTag}
+pub use Rattle.proof.specs.declared.tag.Tag.{Tag}
+pub use Rattle.proof.specs.declared.tag.Tag.the-variants.{Plain, Cut, Focus, Fault as NoTag}
 pub use Rattle.proof.specs.declared.conclusion.Conclusion.{Conclusion}
-pub use Rattle.proof.specs.declared.conclusion.Conclusion.the-variants.{Before, NoCount}
+pub use Rattle.proof.specs.declared.conclusion.Conclusion.the-variants.{Before, Fault as NoCount}
 
 -- what was met on the way to a place, and that place
 abbrev pub metBy : Reached → Met
@@ -43,6 +44,13 @@ abbrev pub carries : RuleHead → Tag
 carries (aPlain k) = Plain
 carries aCut = Cut
 carries (aFocus k) = Focus
+
+-- the same as a number, 0 for no head
+abbrev pub kindAt : Option RuleHead → ℕ
+kindAt none = 0
+kindAt (some (aPlain k)) = 1
+kindAt (some aCut) = 2
+kindAt (some (aFocus k)) = 3
 
 abbrev pub tagSeen : Got ℕ RuleHead → Tag
 tagSeen (got h u p r) = carries h

@@ -1,33 +1,24 @@
 // Reads what stands before a rule's premises: its tag, what it carries, the formulas of `linear`, and the count of premises.
 ghost use mathlib.Core.Path.{_≡_};
 ghost use Prim.Native.Nat.{ℕ, _+_, _^_, _≤_, _<_};
-ghost use lib.ListN.{length, drop};
-ghost use Rattle.rules.specs.Layout.{headAt};
+ghost use lib.ListN.{length};
 ghost use Rattle.rules.specs.Formula.{formulas as formulaLayout};
-ghost use Rattle.rules.specs.Proof.{ruleHeads};
-ghost use Rattle.rules.specs.Reading.{tag as tagOf};
 ghost use Rattle.reader.specs.Classes.{Classes};
-ghost use Rattle.proof.specs.Seen.{pastByte, pastTag, seen, found, tagSeen, countSeen, within};
+ghost use Rattle.proof.specs.Seen.{pastByte, pastTag, seen, found, countSeen, within};
 ghost use Rattle.proof.specs.Stages.{rowOf, indexOf, ownOf, linearOf, countOf, topOf};
 use crate::Most;
 use crate::Reached;
 use crate::Reading;
+use crate::tag::Tag;
+use crate::tag::read_tag;
 use reader::Form;
 use reader::nodes::Read;
 use reader::nodes::read_row;
 
-// A rule's tag, by what the rule carries: nothing, a formula, or an index.
-pub enum Tag {
-    Plain,
-    Cut,
-    Focus,
-    NoTag { number: u8, place: usize },
-}
-
 // Where the premises begin, and how many there are.
 pub enum Conclusion {
     Before { reached: Reached, premises: usize },
-    NoCount { number: u8, place: usize },
+    Fault { number: u8, place: usize },
 }
 
 // The place after a byte.
@@ -52,46 +43,6 @@ fn past_tag(from: Reached) -> Reached
         rules: from.rules + 1,
         formulas: from.formulas,
     }
-}
-
-fn read_tag(s: &[u8], at: usize, used: usize, most: usize) -> Tag
-    ensures { λ r. ⌜ r ≡ tagSeen (tagOf most (headAt ruleHeads) used at (drop at (now (s .entry)))) ⌝ }
-{
-    if s.len() <= at {
-        return Tag::NoTag {
-            number: 3,
-            place: at,
-        };
-    }
-    if most <= used {
-        return Tag::NoTag {
-            number: 6,
-            place: at,
-        };
-    }
-    let tag = s[at];
-    if tag < 1 {
-        return Tag::NoTag {
-            number: 4,
-            place: at,
-        };
-    }
-    if 18 < tag {
-        return Tag::NoTag {
-            number: 4,
-            place: at,
-        };
-    }
-    if tag == 2 {
-        return Tag::Cut;
-    }
-    if tag == 16 {
-        return Tag::Focus;
-    }
-    if tag == 17 {
-        return Tag::Focus;
-    }
-    Tag::Plain
 }
 
 // n formulas, one after the other.
@@ -151,7 +102,7 @@ fn read_own(s: &[u8], t: &[u8; 256], most: Most, from: Reached) -> Reading
         Tag::Plain => Reading::To(past_tag(from)),
         Tag::Cut => read_formulas(s, t, most, past_tag(from), 1),
         Tag::Focus => read_index(s, past_tag(from)),
-        Tag::NoTag { number, place } => Reading::Fault { number, place },
+        Tag::Fault { number, place } => Reading::Fault { number, place },
     }
 }
 
@@ -161,34 +112,35 @@ fn read_linear(s: &[u8], t: &[u8; 256], most: Most, from: Reached) -> Reading
     requires { ⌜ most .formulas ≤ 65536 ⌝ }
     ensures { λ r. ⌜ r ≡ seen (found (linearOf (within most)) (now (s .entry)) from) ⌝ }
 {
-    let at = from.next;
-    if s.len() <= at {
+    if s.len() <= from.next {
         return Reading::Fault {
             number: 3,
-            place: at,
+            place: from.next,
         };
     }
+    let at = from.next;
     read_formulas(s, t, most, past_byte(from), s[at] as usize)
 }
 
+// The count of premises.
 fn read_count(s: &[u8], from: Reached) -> Conclusion
     ensures { λ r. ⌜ r ≡ countSeen (λ n. n) (found countOf (now (s .entry)) from) ⌝ }
 {
-    let at = from.next;
-    if s.len() <= at {
-        return Conclusion::NoCount {
+    if s.len() <= from.next {
+        return Conclusion::Fault {
             number: 3,
-            place: at,
+            place: from.next,
         };
     }
+    let at = from.next;
     let premises = s[at] as usize;
+    let reached = past_byte(from);
     if 3 < premises {
-        return Conclusion::NoCount {
+        return Conclusion::Fault {
             number: 4,
             place: at,
         };
     }
-    let reached = past_byte(from);
     Conclusion::Before { reached, premises }
 }
 
@@ -201,8 +153,8 @@ pub fn read_conclusion(s: &[u8], t: &[u8; 256], most: Most, from: Reached) -> Co
     match read_own(s, t, most, from) {
         Reading::To(own) => match read_linear(s, t, most, own) {
             Reading::To(linear) => read_count(s, linear),
-            Reading::Fault { number, place } => Conclusion::NoCount { number, place },
+            Reading::Fault { number, place } => Conclusion::Fault { number, place },
         },
-        Reading::Fault { number, place } => Conclusion::NoCount { number, place },
+        Reading::Fault { number, place } => Conclusion::Fault { number, place },
     }
 }

@@ -16,6 +16,7 @@ use rules::Refusal;
 
 pub mod conclusion;
 pub mod premises;
+pub mod tag;
 
 // How far a reading has come: the next place, and the rules and formula nodes met so far.
 pub struct Reached {

@@ -20,7 +20,7 @@ pub fn read_rule(s: &[u8], t: &[u8; 256], most: Most, from: Reached) -> Reading
 {
     match read_conclusion(s, t, most, from) {
         Conclusion::Before { reached, premises } => read_premises(s, t, most, reached, premises),
-        Conclusion::NoCount { number, place } => Reading::Fault { number, place },
+        Conclusion::Fault { number, place } => Reading::Fault { number, place },
     }
 }
 
