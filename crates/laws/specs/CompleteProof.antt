@@ -2,7 +2,7 @@
 -- Assumes nothing.
 use Prim.Native.Nat.{ℕ, zero, suc, _+_, _*_, _/_, _%_, _<_, _≤_}
 use native.Mathlib.Omega.{arith}
-use mathlib.Core.Path.{_≡_, refl, sym, ap, _∙_}
+use mathlib.Core.Path.{_≡_, refl, ap}
 use mathlib.Core.List.{List, [], _∷_, _++_, append-assoc}
 use lib.ListN.{length, length-append}
 use borrow.Author.Tests.{lt-ltb, le-leb}
@@ -10,10 +10,10 @@ use Rattle.rules.specs.Basic.{Bytes, _≤?_}
 use Rattle.rules.specs.Limits.{Limits}
 use Rattle.rules.specs.Layout.{headAt}
 use Rattle.rules.specs.Formula.{Formula, formulas, encodeFormula, formulaNodes}
-use Rattle.rules.specs.Proof.{Proof, proof, Premises, done, _then_, row, premiseCount, Rule, plain, cut, focus, RuleHead, ruleHeads, encodeProof, rules, rulesIn, ruleFormulaNodes, proofFormulaNodes}
+use Rattle.rules.specs.Proof.{Proof, proof, Premises, done, _then_, row, premiseCount, Rule, plain, cut, focus, RuleHead, ruleHeads, encodeProof, rules, ruleFormulaNodes, proofFormulaNodes}
 use Rattle.rules.specs.Legal.{LegalFormula, LegalFormulas, LegalRule, LegalProof, LegalPremises}
 use Rattle.rules.specs.Reading.{got, Reader, Met, countingRules, countingFormulas, many, byte, byteFor, tag, node, ruleOf, proofAt}
-use Rattle.laws.specs.Lists.{joined, total, EachOf, premises-rules, premises-count}
+use Rattle.laws.specs.Lists.{joined, total, EachOf}
 use Rattle.laws.specs.WrittenFormula.{written-formulas}
 use Rattle.laws.specs.WrittenProof.{tagOfRule, head-at, headOf, carried, chain, chain-length, chain-rules, chain-nodes}
 use Rattle.laws.specs.Complete.{node-found}

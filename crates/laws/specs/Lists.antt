@@ -6,7 +6,7 @@ use mathlib.Core.List.{List, [], _∷_, _++_}
 use lib.ListN.{length}
 use Rattle.rules.specs.Basic.{Bytes, _‥_}
 use Rattle.rules.specs.Formula.{Formula, encodeFormula, formulaNodes}
-use Rattle.rules.specs.Proof.{Proof, Premises, done, _then_, row, premiseCount, encodeFormulas, encodeProof, encodePremises, rules, rulesIn, listNodes, proofFormulaNodes, premisesFormulaNodes}
+use Rattle.rules.specs.Proof.{Proof, row, premiseCount, encodeFormulas, encodeProof, encodePremises, rules, rulesIn, listNodes, proofFormulaNodes, premisesFormulaNodes}
 use Rattle.rules.specs.Legal.{LegalFormula, LegalFormulas, LegalProof, LegalPremises}
 
 module _ {A : Type 0} where

@@ -1,7 +1,7 @@
 -- Lists of bytes: each number is below 256, as the numbers of a slice are.
 -- Assumes nothing.
-use Prim.Native.Nat.{ℕ, zero, suc, _<_}
-use mathlib.Core.List.{List, [], _∷_, _++_}
+use Prim.Native.Nat.{ℕ, suc, _<_}
+use mathlib.Core.List.{[], _∷_, _++_}
 use lib.ListN.{getD}
 use Rattle.rules.specs.Basic.{Bytes}
 

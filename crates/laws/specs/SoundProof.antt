@@ -1,6 +1,6 @@
 -- Soundness of the reader of proofs: the bytes that it passed are the encoding of the proof that it read, and that is legal; by induction on the depth.
 -- Assumes nothing.
-use Prim.Native.Nat.{ℕ, zero, suc, _+_, _*_, _/_, _%_, _<_, _≤_}
+use Prim.Native.Nat.{ℕ, zero, suc, _+_, _*_, _/_, _%_}
 use native.Mathlib.Omega.{arith}
 use mathlib.Core.Path.{_≡_, refl, sym, ap, _∙_}
 use mathlib.Core.Bool.{Bool, true, false}
@@ -12,10 +12,10 @@ use Rattle.rules.specs.Basic.{Bytes, if_then_else_, _<?_, _≤?_}
 use Rattle.rules.specs.Limits.{Limits}
 use Rattle.rules.specs.Layout.{headAt}
 use Rattle.rules.specs.Formula.{Formula, formulas, encodeFormula, formulaNodes}
-use Rattle.rules.specs.Proof.{Proof, proof, row, RuleHead, aPlain, aCut, aFocus, ruleHeads, encodeProof, rules, ruleFormulaNodes, proofFormulaNodes}
+use Rattle.rules.specs.Proof.{Proof, RuleHead, aPlain, aCut, aFocus, ruleHeads, encodeProof, rules, ruleFormulaNodes, proofFormulaNodes}
 use Rattle.rules.specs.Legal.{LegalFormula, LegalRule, LegalProof}
 use Rattle.rules.specs.Reading.{Got, got, bad, Reader, Met, ruleGot, formulaGot, countingRules, countingFormulas, many, byte, byteFor, tag, listed, tooMany, node, ruleOf, proofAt}
-use Rattle.laws.specs.Holds.{Holds, and-then, chosen, weaker, none-read}
+use Rattle.laws.specs.Holds.{Holds, and-then, none-read}
 use Rattle.laws.specs.Octets.{Octets, octets-after}
 use Rattle.laws.specs.Names.{Item, byte-sound, Single, single-sound}
 use Rattle.laws.specs.Lists.{joined, total, EachOf, formulas-legal, premises-count, premises-legal}

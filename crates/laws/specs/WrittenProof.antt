@@ -10,7 +10,7 @@ use Rattle.rules.specs.Basic.{Bytes, low-high}
 use Rattle.rules.specs.Layout.{headAt}
 use Rattle.rules.specs.Formula.{Formula, encodeFormula, formulaNodes}
 use Rattle.rules.specs.Proof.{Plain, Axiom, OneIntro, BottomIntro, TensorIntro, ParIntro, TopIntro, WithIntro, PlusIntroLeft, PlusIntroRight, OfCourseIntro, WhyNotIntro, Weakening, Contraction, Dereliction, Blur}
-use Rattle.rules.specs.Proof.{Focus, FocusPositive, FocusNegative, Rule, plain, cut, focus, RuleHead, aPlain, aCut, aFocus, ruleHeads, plainTag, focusTag, encodeRule}
+use Rattle.rules.specs.Proof.{FocusPositive, FocusNegative, Rule, plain, cut, focus, RuleHead, aPlain, aCut, aFocus, ruleHeads, plainTag, focusTag, encodeRule}
 use Rattle.rules.specs.Proof.{Proof, proof, row, premiseCount, encodeProof, rules, ruleFormulaNodes, proofFormulaNodes}
 use Rattle.laws.specs.Written.{placed}
 use Rattle.laws.specs.Lists.{joined, total, formulas-joined, formulas-total, premises-joined, premises-count, premises-rules, premises-nodes}

@@ -1,12 +1,12 @@
 -- What reading a byte finds, and the stages that begin with one: an index, the formulas of `linear`, the count of premises.
 -- Assumes nothing.
-use Prim.Native.Nat.{ℕ, _+_, _<_, _≤_}
+use Prim.Native.Nat.{_+_, _<_, _≤_}
 use mathlib.Core.Path.{_≡_}
 use lib.ListN.{length, getD, drop}
 use borrow.Author.Tests.{le-leb, lt-leb}
 use Rattle.rules.specs.Basic.{Bytes}
 use Rattle.rules.specs.Limits.{Limits}
-use Rattle.rules.specs.Reading.{got, bad, Met, byte, byteFor}
+use Rattle.rules.specs.Reading.{got, bad, byte, byteFor}
 use Rattle.proof.specs.Seen.{Reached, To, Fault, Before, NoCount, metBy, pastByte, seen, found, countSeen}
 use Rattle.proof.specs.Stages.{rowOf, indexOf, linearOf, countOf}
 use Rattle.proof.proofs.Places.{rest-in, rest-out}

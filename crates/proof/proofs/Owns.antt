@@ -11,7 +11,7 @@ use Rattle.rules.specs.Layout.{headAt}
 use Rattle.rules.specs.Formula.{Formula}
 use Rattle.rules.specs.Proof.{RuleHead, aPlain, aCut, aFocus, ruleHeads, cut, focus}
 use Rattle.rules.specs.Reading.{Got, got, bad, Reader, Met, andThen, many, byte, tag, ruleGot, ruleOf}
-use Rattle.proof.specs.Seen.{Reached, Reading, To, Fault, Tag, Plain, Cut, Focus, NoTag, pastTag, seen, found, carries, tagSeen}
+use Rattle.proof.specs.Seen.{Reached, To, Fault, Tag, Plain, Cut, Focus, NoTag, pastTag, seen, found, carries, tagSeen}
 use Rattle.proof.specs.Stages.{formulaOf, rowOf, indexOf, ownOf}
 use Rattle.proof.proofs.Views.{seen-made}
 use Rattle.proof.proofs.Tags.{Headed}

@@ -1,12 +1,12 @@
 -- What stands before the premises is its stages, one after the other.
 -- Assumes nothing.
 use Prim.Native.Nat.{ℕ}
-use mathlib.Core.Path.{_≡_, refl, sym, _∙_}
+use mathlib.Core.Path.{_≡_, refl}
 use Rattle.rules.specs.Basic.{Bytes}
 use Rattle.rules.specs.Limits.{Limits}
 use Rattle.rules.specs.Reading.{Got, got, bad, Met, andThen}
 use Rattle.proof.specs.Seen.{Reached, Conclusion, Fault, NoCount, seen, found, countSeen}
-use Rattle.proof.specs.Stages.{ownOf, linearOf, countOf, Top, topOf}
+use Rattle.proof.specs.Stages.{ownOf, linearOf, countOf, topOf}
 use Rattle.proof.proofs.Views.{seen-bad, Came}
 
 count-made : {A B : Type 0} (g : Got Met A) (f : A → B) (i : A → ℕ) (j : B → ℕ) → ((x : A) → j (f x) ≡ i x) → countSeen j (andThen g (λ x u p r. got (f x) u p r)) ≡ countSeen i g

@@ -6,7 +6,7 @@ use mathlib.Core.Path.{_≡_, refl, ap, _∙_}
 use mathlib.Core.List.{_∷_}
 use lib.ListN.{length, drop}
 use Rattle.rules.specs.Basic.{Bytes}
-use Rattle.rules.specs.Reading.{Got, got, bad, Reader, Met, andThen, pure, many}
+use Rattle.rules.specs.Reading.{Got, got, bad, Reader, Met, andThen, many}
 use Rattle.laws.specs.Steady.{Steady, steady-got}
 use Rattle.proof.specs.Seen.{Reached, To, Fault, metBy, seen, found}
 

@@ -3,18 +3,18 @@
 -- Assumes nothing.
 use Prim.Native.Nat.{ℕ, _+_, _<_, _≤_}
 use native.Mathlib.Omega.{arith}
-use mathlib.Core.Path.{_≡_, refl, ap, _∙_}
+use mathlib.Core.Path.{_≡_, refl, _∙_}
 use mathlib.Core.List.{_∷_}
 use Rattle.rules.specs.Basic.{Bytes, _≤?_}
 use Rattle.rules.specs.Limits.{Limits}
 use Rattle.rules.specs.Layout.{headAt}
 use Rattle.rules.specs.Proof.{RuleHead, ruleHeads}
-use Rattle.rules.specs.Reading.{Got, got, bad, Reader, Met, andThen, byte, byteFor, tag, ruleGot, proofAt}
+use Rattle.rules.specs.Reading.{Got, got, bad, Reader, Met, andThen, byte, tag, ruleGot, proofAt}
 use Rattle.laws.specs.Holds.{Holds, and-then, weaker}
 use Rattle.laws.specs.Keeps.{Kept, Keeps, keeps-byte, keeps-byteFor, keeps-then, keeps-many}
 use Rattle.laws.specs.Steady.{Steady, Along, along, to-steady, stands-next}
 use Rattle.laws.specs.SteadyProof.{OnFormulas, keeps-part, keeps-rule, keeps-proof}
-use Rattle.proof.specs.Stages.{formulaOf, rowOf, indexOf, tagOf, ownOf, linearOf, countOf, Top, topOf}
+use Rattle.proof.specs.Stages.{formulaOf, rowOf, tagOf, ownOf, linearOf, countOf, topOf}
 use Rattle.proof.proofs.Tags.{Tagged, tag-holds}
 
 -- a tag makes T, and what keeps R keeps it

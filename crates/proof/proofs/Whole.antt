@@ -1,24 +1,22 @@
 -- A whole input: what reading it comes to, from what reading its first rule finds.
 -- Assumes nothing.
-use Prim.Native.Nat.{ℕ, zero, suc, _+_, _<_, _≤_}
+use Prim.Native.Nat.{ℕ, zero, suc, _<_, _≤_}
 use native.Mathlib.Omega.{arith}
-use mathlib.Core.Path.{_≡_, refl, sym, ap, _∙_}
-use mathlib.Core.List.{[], _∷_}
-use lib.ListN.{length, drop}
+use mathlib.Core.Path.{_≡_, refl, ap, _∙_}
+use lib.ListN.{length}
 use borrow.Author.Tests.{lt-ltb, le-ltb}
 use Rattle.rules.specs.Basic.{Bytes}
 use Rattle.rules.specs.Limits.{Limits}
-use Rattle.rules.specs.Refusal.{Outcome, refuse, mapped, answered}
-use Rattle.rules.specs.Proof.{Proof, rules, encodeProof, proofFormulaNodes}
-use Rattle.rules.specs.Legal.{LegalProof}
-use Rattle.rules.specs.Reading.{Got, got, bad, Met, proofAt, ended, whole, readProof}
+use Rattle.rules.specs.Refusal.{refuse, mapped, answered}
+use Rattle.rules.specs.Proof.{Proof, rules}
+use Rattle.rules.specs.Reading.{Got, Met, proofAt, ended, whole, readProof}
 use Rattle.rules.specs.declared.Answer.{Answer}
-use Rattle.rules.specs.declared.Answer.the-variants.{Good, Refused}
+use Rattle.rules.specs.declared.Answer.the-variants.{Good}
 use Rattle.laws.specs.Holds.{told}
 use Rattle.laws.specs.Octets.{Octets}
 use Rattle.laws.specs.SteadyProof.{steady-proof}
-use Rattle.laws.specs.SoundProof.{Piece, proof-reads}
-use Rattle.proof.specs.Seen.{Reached, Most, Reading, To, Fault, metBy, seen, found, within}
+use Rattle.laws.specs.SoundProof.{proof-reads}
+use Rattle.proof.specs.Seen.{Reached, Most, To, Fault, metBy, seen, found, within}
 use Rattle.proof.proofs.Places.{rest-in, rest-out}
 use Rattle.proof.proofs.Views.{seen-bad, Came, came}
 

@@ -5,8 +5,7 @@ use mathlib.Core.Option.{Option, none, some}
 use lib.ListN.{drop}
 use Rattle.rules.specs.Basic.{Bytes}
 use Rattle.rules.specs.Limits.{Limits}
-use Rattle.rules.specs.Formula.{Formula}
-use Rattle.rules.specs.Proof.{Rule, RuleHead, aPlain, aCut, aFocus}
+use Rattle.rules.specs.Proof.{RuleHead, aPlain, aCut, aFocus}
 use Rattle.rules.specs.Reading.{Got, got, bad, Reader, Met}
 pub use Rattle.proof.specs.declared.Reached.{Reached}
 pub use Rattle.proof.specs.declared.Most.{Most}

@@ -1,6 +1,6 @@
 // Reads what stands before a rule's premises: its tag, what it carries, the formulas of `linear`, and the count of premises.
 ghost use mathlib.Core.Path.{_≡_};
-ghost use Prim.Native.Nat.{ℕ, _+_, _^_, _≤_, _<_};
+ghost use Prim.Native.Nat.{_+_, _^_, _≤_, _<_};
 ghost use lib.ListN.{length};
 ghost use Rattle.rules.specs.Formula.{formulas as formulaLayout};
 ghost use Rattle.reader.specs.Classes.{Classes};

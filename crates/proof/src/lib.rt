@@ -1,6 +1,6 @@
 // Reads encoded proofs: accepted with their count of rules, or refused by number and place.
 ghost use mathlib.Core.Path.{_≡_};
-ghost use Prim.Native.Nat.{ℕ, _≤_};
+ghost use Prim.Native.Nat.{_≤_};
 ghost use Rattle.rules.specs.Limits.{Limits, limits};
 ghost use Rattle.rules.specs.Refusal.{mapped, answered};
 ghost use Rattle.rules.specs.Proof.{rules as ruleCount};
@@ -14,9 +14,9 @@ use rules::MOST_FORMULA_NODES;
 use rules::MOST_RULES;
 use rules::Refusal;
 
-pub mod conclusion;
-pub mod premises;
-pub mod tag;
+mod conclusion;
+mod premises;
+mod tag;
 
 // How far a reading has come: the next place, and the rules and formula nodes met so far.
 pub struct Reached {

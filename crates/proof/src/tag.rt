@@ -1,6 +1,5 @@
 // Reads a rule's tag, by what the rule carries.
 ghost use mathlib.Core.Path.{_≡_};
-ghost use Prim.Native.Nat.{ℕ};
 ghost use lib.ListN.{drop};
 ghost use Rattle.rules.specs.Layout.{headAt};
 ghost use Rattle.rules.specs.Proof.{ruleHeads};

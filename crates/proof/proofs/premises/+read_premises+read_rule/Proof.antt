@@ -6,7 +6,7 @@ use borrow.Author.Needs.{needs}
 use mathlib.Core.Path.{sym, _∙_}
 use lib.ListN.{length}
 use Rattle.proof.specs.Seen.{within}
-use Rattle.proof.proofs.Above.{Topped, topped, rule-off, rule-on, Going, going-start, going-done, going-off, going-on}
+use Rattle.proof.proofs.Above.{topped, rule-off, rule-on, Going, going-start, going-done, going-off, going-on}
 use Prim.Native.Nat.{ℕ, _<_}
 use borrow.Fn.Kinds.{In}
 use borrow.Fn.PlainCycle.{Measures, is, falls, and}
