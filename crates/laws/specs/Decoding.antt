@@ -33,7 +33,7 @@ pub record Accepted {A : Type 0} (encode : A → Bytes) (nodes : A → ℕ) (Ok 
   pub legal : Ok x
 
 -- where nothing is left over
-ended-good : {S A : Type 0} (i : ℕ) (g : Got S A) (P : A → S → ℕ → Bytes → Type 0) (x : A) → Holds P g → ended i g ≡ good x → (u : S) × (p : ℕ) × P x u p [] × (g ≡ got x u p [])
+pub ended-good : {S A : Type 0} (i : ℕ) (g : Got S A) (P : A → S → ℕ → Bytes → Type 0) (x : A) → Holds P g → ended i g ≡ good x → (u : S) × (p : ℕ) × P x u p [] × (g ≡ got x u p [])
 ended-good i (got y u p []) P x h e = let z : y ≡ x = cc in (u, p, rw (← z) h, rw (← z))
 ended-good i (got y u p (b ∷ r)) P x h e = absurd (let z : _≡_ {A = ℕ} 0 1 = cc in omega arith)
 ended-good i (bad n p) P x h e = absurd (let z : _≡_ {A = ℕ} 0 1 = cc in omega arith)

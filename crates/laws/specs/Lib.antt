@@ -2,6 +2,11 @@ pub mod Holds
 pub mod Keeps
 pub mod Steady
 pub mod SteadyProof
+pub mod Octets
+pub mod Lists
+pub mod WrittenProof
+pub mod SoundProof
+pub mod CompleteProof
 pub mod Written
 pub mod WrittenTerm
 pub mod WrittenFormula
@@ -9,6 +14,7 @@ pub mod Names
 pub mod Sound
 pub mod Complete
 pub mod Decoding
+pub mod DecodingProof
 pub mod TextSize
 pub mod Same
 pub mod FreeSize

@@ -41,15 +41,15 @@ name-long most [] l = absurd l
 name-long most (b ∷ bs) l = (omega arith, l .2)
 
 module _ {S : Type 0} where
-  byte-sound : (u : S) (at : ℕ) (r : Bytes) → Holds (λ b v p r′. (r ≡ b ∷ r′) × (p ≡ at + 1) × (v ≡ u)) (byte u at r)
+  pub byte-sound : (u : S) (at : ℕ) (r : Bytes) → Holds (λ b v p r′. (r ≡ b ∷ r′) × (p ≡ at + 1) × (v ≡ u)) (byte u at r)
   unfolding byte
   byte-sound u at [] = tt
   byte-sound u at (b ∷ r) = (refl, refl, refl)
 
-  abbrev Single : (ℕ → Bool) → S → ℕ → Bytes → ℕ → S → ℕ → Bytes → Type 0
+  abbrev pub Single : (ℕ → Bool) → S → ℕ → Bytes → ℕ → S → ℕ → Bytes → Type 0
   Single ok u at r b v p r′ = (r ≡ b ∷ r′) × (p ≡ at + 1) × (v ≡ u) × (ok b ≡ true)
 
-  single-sound : (ok : ℕ → Bool) (n : ℕ) (u : S) (at : ℕ) (r : Bytes) → Holds (Single ok u at r) (byteFor ok n u at r)
+  pub single-sound : (ok : ℕ → Bool) (n : ℕ) (u : S) (at : ℕ) (r : Bytes) → Holds (Single ok u at r) (byteFor ok n u at r)
   unfolding byteFor
   single-sound ok n u at r =
       and-then (λ b v p r′. (r ≡ b ∷ r′) × (p ≡ at + 1) × (v ≡ u)) _ (byte u at r) _ (byte-sound u at r) (λ b v p r′ h.

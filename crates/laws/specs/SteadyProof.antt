@@ -17,13 +17,13 @@ counts k f = record { rules = k; formulas = f }
 
 module _ (R : Met → ℕ → Bytes → Met → ℕ → Bytes → Type 0) where
   -- the relation, seen by what counts rules alone, and by what counts formula nodes alone
-  abbrev OnRules : ℕ → ℕ → ℕ → Bytes → ℕ → ℕ → Bytes → Type 0
+  abbrev pub OnRules : ℕ → ℕ → ℕ → Bytes → ℕ → ℕ → Bytes → Type 0
   OnRules f u at r v p r′ = R (counts u f) at r (counts v f) p r′
 
-  abbrev OnFormulas : ℕ → ℕ → ℕ → Bytes → ℕ → ℕ → Bytes → Type 0
+  abbrev pub OnFormulas : ℕ → ℕ → ℕ → Bytes → ℕ → ℕ → Bytes → Type 0
   OnFormulas k u at r v p r′ = R (counts k u) at r (counts k v) p r′
 
-  keeps-rules : {A : Type 0} (m : Reader ℕ A) → ((f : ℕ) → Keeps (OnRules f) m) → Keeps R (countingRules m)
+  pub keeps-rules : {A : Type 0} (m : Reader ℕ A) → ((f : ℕ) → Keeps (OnRules f) m) → Keeps R (countingRules m)
   keeps-rules {A} m h u at r = go (m (u .rules) at r) (h (u .formulas) (u .rules) at r)
     where
       go : (g : Got ℕ A) → Holds (λ x v p r′. R u at r (counts v (u .formulas)) p r′) g → Holds (λ x v p r′. R u at r v p r′) (ruleGot (u .formulas) g)
@@ -37,38 +37,38 @@ module _ (R : Met → ℕ → Bytes → Met → ℕ → Bytes → Type 0) where
       go (got x v p r′) i = i
       go (bad n p) i = tt
 
-  module _ (k : Kept R) (L : Limits)
-      (rule : (f u at b : ℕ) (r : Bytes) → u < L .rules → OnRules f u at (b ∷ r) (u + 1) (at + 1) r)
-      (formula : (n u at b : ℕ) (r : Bytes) → u < L .formulas → OnFormulas n u at (b ∷ r) (u + 1) (at + 1) r) where
-    on-rules : (f : ℕ) → Kept (OnRules f)
-    on-rules f = record { still = λ u at r. k .still (counts u f) at r; on = λ i j. k .on i j; passed = λ u at b r. k .passed (counts u f) at b r }
-
+  module _ (k : Kept R) (L : Limits) (formula : (n u at b : ℕ) (r : Bytes) → u < L .formulas → OnFormulas n u at (b ∷ r) (u + 1) (at + 1) r) where
     on-formulas : (n : ℕ) → Kept (OnFormulas n)
     on-formulas n = record { still = λ u at r. k .still (counts n u) at r; on = λ i j. k .on i j; passed = λ u at b r. k .passed (counts n u) at b r }
 
     abbrev part : Reader Met Formula
     part = countingFormulas (node formulas (L .formulas) (L .formulas))
 
-    keeps-part : Keeps R part
+    pub keeps-part : Keeps R part
     keeps-part = keeps-formulas (node formulas (L .formulas) (L .formulas)) (λ n. keeps-node (OnFormulas n) (on-formulas n) (L .formulas) (formula n) formulas (L .formulas))
 
-    keeps-rule : (h : RuleHead) → Keeps R (ruleOf part h)
+    -- what a rule carries
+    pub keeps-rule : (h : RuleHead) → Keeps R (ruleOf part h)
     keeps-rule (aPlain x) = k .still
     keeps-rule aCut = keeps-then R k part _ keeps-part (λ a. k .still)
     keeps-rule (aFocus x) = keeps-then R k byte _ (keeps-byte R k) (λ low. keeps-then R k byte _ (keeps-byte R k) (λ high. k .still))
 
-    pub keeps-proof : (depth : ℕ) → Keeps R (proofAt L depth)
-    unfolding proofAt
-    keeps-proof zero = keeps-rules {A = Proof} tooMany (λ f u at r. none-read _ u at r)
-    keeps-proof (suc depth) =
-        keeps-then R k (countingRules (tag (L .rules) (headAt ruleHeads))) _
-        (keeps-rules (tag (L .rules) (headAt ruleHeads)) (λ f. keeps-tag (OnRules f) (on-rules f) (L .rules) (rule f) (headAt ruleHeads))) (λ h.
-        keeps-then R k (ruleOf part h) _ (keeps-rule h) (λ r.
-        keeps-then R k byte _ (keeps-byte R k) (λ n.
-        keeps-then R k (many part n) _ (keeps-many R k part keeps-part n) (λ linear.
-        keeps-then R k (byteFor (_≤? 3) 4) _ (keeps-byteFor R k (_≤? 3) 4) (λ m.
-        keeps-then R k (many (proofAt L depth) m) _ (keeps-many R k (proofAt L depth) (keeps-proof depth) m) (λ ps. k .still))))))
+    module _ (rule : (f u at b : ℕ) (r : Bytes) → u < L .rules → OnRules f u at (b ∷ r) (u + 1) (at + 1) r) where
+      on-rules : (f : ℕ) → Kept (OnRules f)
+      on-rules f = record { still = λ u at r. k .still (counts u f) at r; on = λ i j. k .on i j; passed = λ u at b r. k .passed (counts u f) at b r }
+
+      pub keeps-proof : (depth : ℕ) → Keeps R (proofAt L depth)
+      unfolding proofAt
+      keeps-proof zero = keeps-rules {A = Proof} tooMany (λ f u at r. none-read _ u at r)
+      keeps-proof (suc depth) =
+          keeps-then R k (countingRules (tag (L .rules) (headAt ruleHeads))) _
+          (keeps-rules (tag (L .rules) (headAt ruleHeads)) (λ f. keeps-tag (OnRules f) (on-rules f) (L .rules) (rule f) (headAt ruleHeads))) (λ h.
+          keeps-then R k (ruleOf part h) _ (keeps-rule h) (λ r.
+          keeps-then R k byte _ (keeps-byte R k) (λ n.
+          keeps-then R k (many part n) _ (keeps-many R k part keeps-part n) (λ linear.
+          keeps-then R k (byteFor (_≤? 3) 4) _ (keeps-byteFor R k (_≤? 3) 4) (λ m.
+          keeps-then R k (many (proofAt L depth) m) _ (keeps-many R k (proofAt L depth) (keeps-proof depth) m) (λ ps. k .still))))))
 
 pub steady-proof : (L : Limits) (depth : ℕ) → Steady (proofAt L depth)
 steady-proof L depth =
-    to-steady (proofAt L depth) (λ s. keeps-proof (Along s) (along s) L (λ f u at b r l h. stands-next s at b r h) (λ n u at b r l h. stands-next s at b r h) depth)
+    to-steady (proofAt L depth) (λ s. keeps-proof (Along s) (along s) L (λ n u at b r l h. stands-next s at b r h) (λ f u at b r l h. stands-next s at b r h) depth)

@@ -50,6 +50,10 @@ module _ {H A : Type 0} (F : Layout H A) (most : ℕ) (s : Bytes) where
   unfoldable pub Rest : (c u at : ℕ) → Read
   Rest c u at = view (times (node F most most) c u at (drop at s))
 
+  pub rest-is : (c u at : ℕ) → Rest c u at ≡ view (times (node F most most) c u at (drop at s))
+  unfolding Rest
+  rest-is c u at = refl
+
   pub rest-one : (u at : ℕ) → view (node F most most u at (drop at s)) ≡ Rest 1 u at
   unfolding Rest times
   rest-one u at = sym (view-made (node F most most u at (drop at s)) (λ x. more 0 x tt))

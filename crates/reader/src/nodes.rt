@@ -2,7 +2,7 @@
 ghost use mathlib.Core.Path.{_≡_};
 ghost use Prim.Native.Nat.{ℕ, _+_, _≤_};
 ghost use lib.ListN.{drop};
-ghost use Rattle.rules.specs.Reading.{node};
+ghost use Rattle.rules.specs.Reading.{times, node};
 ghost use Rattle.reader.specs.Form.{layoutOf};
 ghost use Rattle.reader.specs.Classes.{Classes};
 ghost use Rattle.reader.specs.View.{view};
@@ -33,16 +33,24 @@ pub fn longest_name(form: Form) -> usize
     }
 }
 
-// Reads one node from `at` on, where `used` were met before: `pending` nodes are still to be read.
-pub fn read_from(s: &[u8], form: Form, t: &[u8; 256], at: usize, used: usize, most: usize) -> Read
+// Reads n nodes in a row from `at` on, where `used` were met before: `pending` nodes are still to be read.
+pub fn read_row(
+    s: &[u8],
+    form: Form,
+    t: &[u8; 256],
+    at: usize,
+    used: usize,
+    most: usize,
+    n: usize,
+) -> Read
     requires { ⌜ Classes (layoutOf form) (now t) ⌝ }
-    requires { ⌜ most ≤ 65536 ⌝ }
-    ensures { λ r. ⌜ ((depth : ℕ) → most ≤ used + depth → r ≡ view (node (layoutOf form) most depth used at (drop at (now (s .entry))))) ⌝ }
+    requires { ⌜ (most ≤ 65536) × (n ≤ 65536) ⌝ }
+    ensures { λ r. ⌜ r ≡ view (times (node (layoutOf form) most most) n used at (drop at (now (s .entry)))) ⌝ }
 {
     let longest = longest_name(form);
     let mut next = at;
     let mut met = used;
-    let mut pending = 1;
+    let mut pending = n;
     while 0 < pending {
         if s.len() <= next {
             return bad(3, next);
@@ -67,4 +75,13 @@ pub fn read_from(s: &[u8], form: Form, t: &[u8; 256], at: usize, used: usize, mo
         pending = pending - 1 + code / 8;
     }
     Read::Whole { next, met }
+}
+
+// Reads one node from `at` on, where `used` were met before.
+pub fn read_from(s: &[u8], form: Form, t: &[u8; 256], at: usize, used: usize, most: usize) -> Read
+    requires { ⌜ Classes (layoutOf form) (now t) ⌝ }
+    requires { ⌜ most ≤ 65536 ⌝ }
+    ensures { λ r. ⌜ ((depth : ℕ) → most ≤ used + depth → r ≡ view (node (layoutOf form) most depth used at (drop at (now (s .entry))))) ⌝ }
+{
+    read_row(s, form, t, at, used, most, 1)
 }

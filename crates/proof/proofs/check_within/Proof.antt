@@ -1,0 +1,45 @@
+-- `check_within` meets its contract: each return is a case of what a whole input is. Assumes nothing.
+use native.Mathlib.Omega.{arith}
+use mathlib.Core.Path.{sym, _∙_}
+use Rattle.reader.specs.Tables.{formula-classes}
+use Rattle.laws.specs.Octets.{octets}
+use Rattle.proof.proofs.Whole.{whole-long, whole-bad, whole-more, whole-good}
+use borrow.Author.Needs.{needs}
+use Rattle.proof.proofs.check_within.Statement.{statement}
+use Rattle.proof.proofs.check_within.Tie as tie
+
+returns : tie.Need-returns
+returns c = let a = c .before .before .args in λ L b m f. sym (whole-long (a .input) (a .s .now) L b m f (c .if1 .taken))
+
+read-rule-requires : tie.Need-read-rule-requires
+read-rule-requires c κs = (formula-classes, (c .before .before .before .pre, omega arith))
+
+enum-known-end : tie.Need-enum-known-end
+enum-known-end c = search needs
+
+enum-known-number : tie.Need-enum-known-number
+enum-known-number c = search needs
+
+returns-2 : tie.Need-returns-2
+returns-2 c = let a = c .before .before .before .before .before .before .before .before .before .args in
+    λ L b m f. sym (whole-more (a .input) (a .s .now) L b m f (omega arith) (sym (c .before .before .before .before .before .read-rule .ensures (a .most .rules) (omega arith)) ∙ c .before .before .before .end .given .1) (omega arith))
+
+returns-3 : tie.Need-returns-3
+returns-3 c = let a = c .before .before .before .before .before .before .before .before .before .args in
+    λ L b m f. sym (whole-good (a .input) (a .s .now) L b m f (omega arith) (sym (c .before .before .before .before .before .read-rule .ensures (a .most .rules) (omega arith)) ∙ c .before .before .before .end .given .1) (octets (a .s .now) (λ i. c .before .before .before .before .before .before .before .before .shared-slice-known .given i .fits)) (omega arith))
+
+returns-4 : tie.Need-returns-4
+returns-4 c = let a = c .before .before .before .before .before .before .before .args in
+    λ L b m f. sym (whole-bad (a .input) (a .s .now) L b m f (omega arith) (sym (c .before .before .before .read-rule .ensures (a .most .rules) (omega arith)) ∙ c .before .number .given .1))
+
+pub check-within-spec : {M : Type 1} → statement M
+check-within-spec =
+    tie.close
+    (tie.spec
+    returns
+    read-rule-requires
+    enum-known-end
+    enum-known-number
+    returns-2
+    returns-3
+    returns-4)

@@ -1,0 +1,47 @@
+// Reads a rule with its premises: one reader for a rule and one for its row of premises, each calling the other.
+ghost use mathlib.Core.Path.{_≡_};
+ghost use Prim.Native.Nat.{ℕ, _+_, _≤_};
+ghost use lib.ListN.{length};
+ghost use Rattle.rules.specs.Formula.{formulas as formulaLayout};
+ghost use Rattle.rules.specs.Reading.{many, proofAt};
+ghost use Rattle.reader.specs.Classes.{Classes};
+ghost use Rattle.proof.specs.Seen.{seen, found, within};
+use crate::Most;
+use crate::Reached;
+use crate::Reading;
+use crate::conclusion::Conclusion;
+use crate::conclusion::read_conclusion;
+
+// A rule and all its premises.
+pub fn read_rule(s: &[u8], t: &[u8; 256], most: Most, from: Reached) -> Reading
+    requires { ⌜ Classes formulaLayout (now t) ⌝ }
+    requires { ⌜ (most .formulas ≤ 65536) × (from .next ≤ length (now s)) ⌝ }
+    ensures { λ r. ⌜ ((depth : ℕ) → most .rules ≤ from .rules + depth → r ≡ seen (found (proofAt (within most) depth) (now (s .entry)) from)) ⌝ }
+{
+    match read_conclusion(s, t, most, from) {
+        Conclusion::Before { reached, premises } => read_premises(s, t, most, reached, premises),
+        Conclusion::Fault { number, place } => Reading::Fault { number, place },
+    }
+}
+
+// The premises of a rule, n of them.
+fn read_premises(s: &[u8], t: &[u8; 256], most: Most, from: Reached, n: usize) -> Reading
+    requires { ⌜ Classes formulaLayout (now t) ⌝ }
+    requires { ⌜ (most .formulas ≤ 65536) × (from .next ≤ length (now s)) ⌝ }
+    ensures { λ r. ⌜ ((depth : ℕ) → most .rules ≤ from .rules + depth → r ≡ seen (found (many (proofAt (within most) depth) n) (now (s .entry)) from)) ⌝ }
+{
+    let mut reached = from;
+    let mut left = n;
+    while 0 < left {
+        match read_rule(s, t, most, reached) {
+            Reading::To(past) => {
+                reached = past;
+            }
+            Reading::Fault { number, place } => {
+                return Reading::Fault { number, place };
+            }
+        }
+        left -= 1;
+    }
+    Reading::To(reached)
+}

@@ -1,0 +1,146 @@
+-- `nodes::read_row` meets its contract: whatever the nodes that are still to be read come to, the whole comes to. Assumes nothing.
+use Prim.Native.Nat.{_+_, _-_, _*_, _≤_}
+use native.Mathlib.Omega.{arith}
+use borrow.Author.Needs.{needs}
+use mathlib.Core.Path.{_≡_, sym, _∙_}
+use lib.ListN.{drop}
+use Rattle.rules.specs.Reading.{times, node}
+use Rattle.reader.specs.Form.{layoutOf}
+use Rattle.reader.specs.View.{view}
+use Rattle.reader.proofs.Rest.{Rest, rest-is, rest-none}
+use Rattle.reader.proofs.Turn.{turn-out, turn-full, turn-unknown, few-parts, turn-off, turn-on}
+use Rattle.reader.proofs.nodes.read_row.Statement.{statement}
+use Rattle.reader.proofs.nodes.read_row.Tie as tie
+
+abbrev Inv-loop : tie.InvT-loop
+Inv-loop s form t at used most n longest next₀ met₀ pending₀ next met pending =
+    (pending ≤ n + 2 * met) × (Rest (layoutOf form) most s pending met next ≡ view (times (node (layoutOf form) most most) n used at (drop at s)))
+
+abbrev μ-loop : tie.MeasureT-loop
+μ-loop s form t at used most n longest next₀ met₀ pending₀ next met pending = most - met
+
+longest-name-requires : tie.Need-longest-name-requires Inv-loop μ-loop
+longest-name-requires c κs = search needs
+
+loop-holds : tie.Need-loop-holds Inv-loop μ-loop
+loop-holds c =
+    let a = c .before .before .args in
+    (omega arith, rest-is (layoutOf (a .form)) (a .most) (a .s .now) (a .n) (a .used) (a .at))
+
+returns : tie.Need-returns Inv-loop μ-loop
+returns c =
+    let a = c .before .before .before .before .before .args in
+    let l = c .before .before .loop in
+    sym (turn-out (a .form) (a .most) (a .s .now) (l .pending) (l .met) (l .next) (omega arith) (omega arith)) ∙ l .inv .1
+
+returns-2 : tie.Need-returns-2 Inv-loop μ-loop
+returns-2 c =
+    let a = c .before .before .before .before .before .before .args in
+    let l = c .before .before .before .loop in
+    sym (turn-full (a .form) (a .most) (a .s .now) (l .pending) (l .met) (l .next) (omega arith) (omega arith) (omega arith)) ∙ l .inv .1
+
+shared-slice-read-code-of : tie.Need-shared-slice-read-code-of Inv-loop μ-loop
+shared-slice-read-code-of c = omega arith
+
+code-of-requires : tie.Need-code-of-requires Inv-loop μ-loop
+code-of-requires c κs = c .before .before .before .before .before .before .before .pre .0
+
+returns-3 : tie.Need-returns-3 Inv-loop μ-loop
+returns-3 c =
+    let a = c .before .before .before .before .before .before .before .before .before .args in
+    let l = c .before .before .before .before .before .before .loop in
+    sym (turn-unknown (a .form) (a .most) (a .s .now) (l .pending) (l .met) (l .next) (omega arith) (omega arith) (omega arith)
+    (c .before .code-of .result) (c .before .code-of .ensures) (c .if3 .taken))
+    ∙ l .inv .1
+
+add-skip-names : tie.Need-add-skip-names Inv-loop μ-loop
+add-skip-names c = omega arith
+
+skip-names-requires : tie.Need-skip-names-requires Inv-loop μ-loop
+skip-names-requires c κs = (c .before .before .before .before .before .before .before .before .before .pre .0 .letters, omega arith)
+
+enum-known-past : tie.Need-enum-known-past Inv-loop μ-loop
+enum-known-past c = search needs
+
+enum-known-number : tie.Need-enum-known-number Inv-loop μ-loop
+enum-known-number c = search needs
+
+returns-4 : tie.Need-returns-4 Inv-loop μ-loop
+returns-4 c =
+    let a = c .before .before .before .before .before .before .before .before .before .before .before .before .before .args in
+    let l = c .before .before .before .before .before .before .before .before .before .before .loop in
+    sym (turn-off (a .form) (a .most) (a .s .now) (l .pending) (l .met) (l .next) (omega arith) (omega arith) (omega arith)
+    (c .before .before .before .before .before .code-of .result) (c .before .before .before .before .before .code-of .ensures) (c .before .before .before .before .if3 .left) (c .before .before .before .before .before .before .before .before .before .before .before .longest-name .result) (c .before .before .before .before .before .before .before .before .before .before .before .longest-name .ensures)
+    (c .before .before .before .skip-names .result) (c .before .before .before .skip-names .ensures)
+    _ _ (c .before .number .given .1))
+    ∙ l .inv .1
+
+add-met : tie.Need-add-met Inv-loop μ-loop
+add-met c = omega arith
+
+sub-pending : tie.Need-sub-pending Inv-loop μ-loop
+sub-pending c = omega arith
+
+add-pending : tie.Need-add-pending Inv-loop μ-loop
+add-pending c =
+    let a = c .before .before .before .before .before .before .before .before .before .before .before .before .before .args in
+    let l = c .before .before .before .before .before .before .before .before .before .before .loop in
+    omega (
+      arith,
+      few-parts (a .form) (a .most) (a .s .now) (l .pending) (l .met) (l .next) (omega arith) (omega arith) (omega arith)
+          (c .before .before .before .before .before .code-of .result) (c .before .before .before .before .before .code-of .ensures) (c .before .before .before .before .if3 .left) (c .before .before .before .before .before .before .before .before .before .before .before .longest-name .result) (c .before .before .before .before .before .before .before .before .before .before .before .longest-name .ensures)
+          (c .before .before .before .skip-names .result) (c .before .before .before .skip-names .ensures),
+      c .before .before .before .before .before .before .before .before .before .before .before .before .before .pre .1 .0,
+      c .before .before .before .before .before .before .before .before .before .before .before .before .before .pre .1 .1,
+    )
+
+loop-less : tie.Need-loop-less Inv-loop μ-loop
+loop-less c = omega arith
+
+loop-again : tie.Need-loop-again Inv-loop μ-loop
+loop-again c =
+    let a = c .before .before .before .before .before .before .before .before .before .before .before .before .before .args in
+    let l = c .before .before .before .before .before .before .before .before .before .before .loop in (
+      omega (
+        arith,
+        few-parts (a .form) (a .most) (a .s .now) (l .pending) (l .met) (l .next) (omega arith) (omega arith) (omega arith)
+            (c .before .before .before .before .before .code-of .result) (c .before .before .before .before .before .code-of .ensures) (c .before .before .before .before .if3 .left) (c .before .before .before .before .before .before .before .before .before .before .before .longest-name .result) (c .before .before .before .before .before .before .before .before .before .before .before .longest-name .ensures)
+            (c .before .before .before .skip-names .result) (c .before .before .before .skip-names .ensures),
+      ),
+      sym (turn-on (a .form) (a .most) (a .s .now) (l .pending) (l .met) (l .next) (omega arith) (omega arith) (omega arith)
+          (c .before .before .before .before .before .code-of .result) (c .before .before .before .before .before .code-of .ensures) (c .before .before .before .before .if3 .left) (c .before .before .before .before .before .before .before .before .before .before .before .longest-name .result) (c .before .before .before .before .before .before .before .before .before .before .before .longest-name .ensures)
+          (c .before .before .before .skip-names .result) (c .before .before .before .skip-names .ensures)
+          _ (c .before .past .given .1))
+          ∙ l .inv .1,
+    )
+
+returns-5 : tie.Need-returns-5 Inv-loop μ-loop
+returns-5 c =
+    let a = c .before .before .before .before .args in
+    let l = c .before .loop in
+    sym (rest-none (layoutOf (a .form)) (a .most) (a .s .now) (l .pending) (l .met) (l .next) (omega arith)) ∙ l .inv .1
+
+pub read-row-spec : {M : Type 1} → statement M
+read-row-spec =
+    tie.close
+    (tie.spec
+    Inv-loop
+    μ-loop
+    longest-name-requires
+    loop-holds
+    returns
+    returns-2
+    shared-slice-read-code-of
+    code-of-requires
+    returns-3
+    add-skip-names
+    skip-names-requires
+    enum-known-past
+    enum-known-number
+    returns-4
+    add-met
+    sub-pending
+    add-pending
+    loop-less
+    loop-again
+    returns-5)
