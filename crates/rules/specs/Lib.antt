@@ -5,8 +5,8 @@ pub mod Name
 pub mod Layout
 pub mod Formula
 pub mod Term
-pub mod Legal
 pub mod Proof
+pub mod Legal
 pub mod Reading
 pub mod Text
 pub mod Free

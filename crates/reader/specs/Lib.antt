@@ -1,0 +1,6 @@
+pub mod Form
+pub mod View
+pub mod Viewed
+pub mod Classes
+pub mod Tables
+pub mod Accepted

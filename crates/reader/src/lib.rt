@@ -1,0 +1,116 @@
+// Reads encoded terms, formulas and bare names: accepted with a count, or refused by number and place.
+ghost use mathlib.Core.Path.{_≡_};
+ghost use Prim.Native.Nat.{ℕ, _≤_};
+ghost use lib.ListN.{length};
+ghost use Rattle.rules.specs.Limits.{Limits, limits};
+ghost use Rattle.rules.specs.Refusal.{refuse, mapped, answered};
+ghost use Rattle.rules.specs.Term.{nodes as nodeCount};
+ghost use Rattle.rules.specs.Formula.{formulaNodes};
+ghost use Rattle.rules.specs.Reading.{node, readTerm, readFormula, readName};
+ghost use Rattle.rules.specs.Calls.{checkTermCall, checkFormulaCall};
+ghost use Rattle.reader.specs.Form.{layoutOf, countOf, mostOf, readOf};
+ghost use Rattle.reader.specs.View.{view};
+use classes::FORMULA_CLASSES;
+use classes::TERM_CLASSES;
+use names::Skip;
+use names::skip_letters;
+use nodes::Read;
+use nodes::longest_name;
+use nodes::read_from;
+use rules::Answer;
+use rules::MOST_BYTES;
+use rules::MOST_FORMULA_NODES;
+use rules::MOST_NODES;
+use rules::Refusal;
+
+pub mod classes;
+pub mod names;
+pub mod nodes;
+
+// The two forms that are read alike: a tag, then names, then parts.
+pub enum Form {
+    Term,
+    Formula,
+}
+
+fn refused(number: u8, place: usize, input: u8) -> Answer
+    ensures { λ r. ⌜ r ≡ answered (refuse number place input) ⌝ }
+{
+    Answer::Refused(Refusal {
+        number,
+        place,
+        input,
+    })
+}
+
+// Reads one node from the start, by the form's table.
+fn read_first(s: &[u8], form: Form, most: usize) -> Read
+    requires { ⌜ most ≤ 65536 ⌝ }
+    ensures { λ r. ⌜ r ≡ view (node (layoutOf form) most most 0 0 (now (s .entry))) ⌝ }
+{
+    match form {
+        Form::Term => read_from(s, Form::Term, &TERM_CLASSES, 0, 0, most),
+        Form::Formula => read_from(s, Form::Formula, &FORMULA_CLASSES, 0, 0, most),
+    }
+}
+
+// Whether s is one of that form, of at most so many bytes and nodes; with its count of nodes.
+fn check_within(s: &[u8], form: Form, bytes: usize, most: usize, input: u8) -> Answer
+    requires { ⌜ most ≤ 65536 ⌝ }
+    ensures { λ r. ⌜ ((L : Limits) → L .bytes ≡ bytes → mostOf form L ≡ most → r ≡ answered (mapped (countOf form) (readOf form L input (now (s .entry))))) ⌝ }
+{
+    if bytes < s.len() {
+        return refused(2, bytes, input);
+    }
+    match read_first(s, form, most) {
+        Read::Whole { next, met } => {
+            if next < s.len() {
+                refused(7, next, input)
+            } else {
+                Answer::Good(met)
+            }
+        }
+        Read::Bad { number, place } => refused(number, place, input),
+    }
+}
+
+// An input of a call with several.
+pub fn term_input(s: &[u8], input: u8) -> Answer
+    ensures { λ r. ⌜ r ≡ answered (mapped nodeCount (readTerm limits input (now (s .entry)))) ⌝ }
+{
+    check_within(s, Form::Term, MOST_BYTES, MOST_NODES, input)
+}
+
+pub fn formula_input(s: &[u8], input: u8) -> Answer
+    ensures { λ r. ⌜ r ≡ answered (mapped formulaNodes (readFormula limits input (now (s .entry)))) ⌝ }
+{
+    check_within(s, Form::Formula, MOST_BYTES, MOST_FORMULA_NODES, input)
+}
+
+pub fn check_term(term: &[u8]) -> Answer
+    ensures { λ r. ⌜ r ≡ answered (checkTermCall limits (now (term .entry))) ⌝ }
+{
+    term_input(term, 1)
+}
+
+pub fn check_formula(formula: &[u8]) -> Answer
+    ensures { λ r. ⌜ r ≡ answered (checkFormulaCall limits (now (formula .entry))) ⌝ }
+{
+    formula_input(formula, 1)
+}
+
+// A bare name: it has no length byte, and is accepted with its length.
+pub fn name_input(s: &[u8], input: u8) -> Answer
+    ensures { λ r. ⌜ r ≡ answered (mapped length (readName input (now (s .entry)))) ⌝ }
+{
+    if s.len() < 1 {
+        return refused(5, 0, input);
+    }
+    if longest_name(Form::Term) < s.len() {
+        return refused(5, 0, input);
+    }
+    match skip_letters(s, &TERM_CLASSES, 0, s.len()) {
+        Skip::To(next) => Answer::Good(next),
+        Skip::Fault { number, place } => refused(number, place, input),
+    }
+}

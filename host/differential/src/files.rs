@@ -1,0 +1,60 @@
+//! Stored forms.
+
+use crate::case::{Call, Case};
+use crate::readers::{bad_inputs, lent_lengths, mostly_damaged, term, TERMS};
+use crate::run::{listed, random, Verdict};
+use patch_generate::{files, proofs, Rng};
+use patch_model::form::proof_bytes;
+use patch_model::stored::{blocks, seal};
+use patch_model::Limits;
+
+const L: Limits = Limits::BASE;
+
+pub fn all() -> Verdict {
+    let one = |call: Call, bytes: Vec<u8>| Case::new(call, vec![bytes]);
+    let mut cases: Vec<Case> = bad_inputs(&TERMS).into_iter().map(|bytes| one(Call::StoreTerm, bytes)).collect();
+    cases.extend(lent_lengths(Call::StoreTerm, &[vec![2], vec![2, 2]]));
+    cases.extend(lent_lengths(Call::LoadTerm, &[blocks(1, &[2]), vec![0; 512], vec![]]));
+    // files of every length near a whole number of blocks
+    for length in [0, 1, 511, 512, 513, 1023, 1024, 4607, 4608, 4609, 5120] {
+        cases.push(one(Call::LoadTerm, vec![0; length]));
+    }
+    // contents at every edge of a block
+    for length in [1, 505, 506, 507, 511, 512, 1011, 1012, 1013] {
+        let content = [vec![14; length.min(512) - 1], vec![2]].concat();
+        cases.push(one(Call::StoreTerm, content.clone()));
+        cases.push(one(Call::LoadTerm, blocks(1, &content)));
+        cases.push(one(Call::LoadProof, blocks(2, &content)));
+        cases.push(one(Call::LoadProof, blocks(1, &content)));
+    }
+    // one block, each byte of it changed, with its check put right and not
+    for at in 0..512 {
+        let mut file = blocks(1, &[3, 2, 2]);
+        file[at] ^= 1;
+        cases.push(one(Call::LoadTerm, file.clone()));
+        seal(&mut file);
+        cases.push(one(Call::LoadTerm, file));
+    }
+    Ok(listed("Store and Load at the edges", &cases)?
+        + random("Store of terms and proofs, some damaged", 40_000, |index| {
+            let mut rng = Rng::new(0x7374_6f72, index);
+            let (call, bytes) = content(&mut rng);
+            let bytes = if rng.one_in(2) { bytes } else { mostly_damaged(&mut rng, bytes) };
+            one(call, bytes).lent_by(&mut rng)
+        })?
+        + random("Load of files, some damaged", 80_000, |index| {
+            let mut rng = Rng::new(0x6c6f_6164, index);
+            let (call, mut bytes) = content(&mut rng);
+            bytes.truncate(L.stored_room);
+            let (call, kind) = if call == Call::StoreTerm { (Call::LoadTerm, 1) } else { (Call::LoadProof, 2) };
+            one(call, files::damaged(&mut rng, kind, &bytes)).lent_by(&mut rng)
+        })?)
+}
+
+fn content(rng: &mut Rng) -> (Call, Vec<u8>) {
+    if rng.one_in(2) {
+        (Call::StoreTerm, term(rng))
+    } else {
+        (Call::StoreProof, proof_bytes(&proofs::random(rng, 200)))
+    }
+}

@@ -1,0 +1,53 @@
+//! Holds the port to the model, which takes its results from the ported Rust: answers, places and every byte of every lent buffer.
+//! Fixed seeds; ends with status 1 at the first difference, made as small as it gets.
+
+mod case;
+mod extraction;
+mod files;
+mod formulas;
+mod itself;
+mod readers;
+mod reduction;
+mod run;
+mod shrink;
+mod terms;
+
+use std::process::ExitCode;
+use std::time::Instant;
+
+type Family = (&'static str, fn() -> run::Verdict);
+
+const FAMILIES: [Family; 8] = [
+    ("model", itself::all),
+    ("readers", readers::all),
+    ("formulas", formulas::all),
+    ("terms", terms::all),
+    ("steps", reduction::steps),
+    ("reduction", reduction::reductions),
+    ("extraction", extraction::all),
+    ("stored", files::all),
+];
+
+fn main() -> ExitCode {
+    let asked: Vec<String> = std::env::args().skip(1).collect();
+    if let Some(unknown) = asked.iter().find(|a| !FAMILIES.iter().any(|(name, _)| name == a)) {
+        let names: Vec<&str> = FAMILIES.iter().map(|(name, _)| *name).collect();
+        eprintln!("no family {unknown}; there are: {}", names.join(", "));
+        return ExitCode::from(2);
+    }
+    for (name, family) in FAMILIES {
+        if !asked.is_empty() && !asked.iter().any(|a| a == name) {
+            continue;
+        }
+        let start = Instant::now();
+        match family() {
+            Ok(0) => println!("{name}: nothing to compare yet"),
+            Ok(cases) => println!("{name}: {cases} cases equal ({:.1} s)", start.elapsed().as_secs_f32()),
+            Err(difference) => {
+                println!("{name}: DIFFERENT\n{difference}");
+                return ExitCode::FAILURE;
+            }
+        }
+    }
+    ExitCode::SUCCESS
+}

@@ -1,0 +1,82 @@
+//! Step and bounded reduction.
+
+use crate::case::{Call, Case};
+use crate::readers::{bad_inputs, lent_lengths, term, TERMS};
+use crate::run::{listed, random, Verdict};
+use crate::terms::probes;
+use lolli_core::Term;
+use patch_generate::damage::damage;
+use patch_generate::{terms, Rng};
+use patch_model::form::term_bytes;
+use patch_model::Limits;
+
+const L: Limits = Limits::BASE;
+
+/// A term to step: random, near a limit, largest half-way, or straight.
+fn reducible(rng: &mut Rng, most: usize) -> Vec<u8> {
+    let made = match rng.below(16) {
+        0 | 1 => terms::near_limit(rng, L.nodes, L.bytes),
+        2 => terms::half_way(rng),
+        3 => {
+            let nodes = rng.size(most);
+            terms::straight(rng, nodes)
+        }
+        4 => return term(rng),
+        _ => terms::random(rng, most),
+    };
+    term_bytes(&made)
+}
+
+pub fn steps() -> Verdict {
+    let step = |bytes: Vec<u8>| Case::new(Call::Step, vec![bytes]);
+    let small: Vec<Case> = (1..=4).flat_map(|nodes| terms::all(nodes, &["x", "y"])).map(|t| step(term_bytes(&t))).collect();
+    let mut bad: Vec<Case> = bad_inputs(&TERMS).into_iter().map(step).collect();
+    bad.extend(lent_lengths(Call::Step, &probes()));
+    bad.extend((250..=258).map(|n| step(doubled(n))));
+    Ok(listed("Step of every term to 4 nodes over two names", &small)?
+        + listed("Step of bad inputs, and of copies near the limit", &bad)?
+        + random("Step of random terms", 100_000, |index| {
+            let mut rng = Rng::new(0x7374_6570, index);
+            step(reducible(&mut rng, L.nodes)).lent_by(&mut rng)
+        })?
+        + random("Step of damaged terms", 30_000, |index| {
+            let mut rng = Rng::new(0x7374_6571, index);
+            let mut bytes = reducible(&mut rng, 60);
+            damage(&mut rng, &mut bytes);
+            step(bytes).lent_by(&mut rng)
+        })?)
+}
+
+/// `copy !v as (x, y) in (x y)` for v of n Promotes and a Unit.
+fn doubled(promotes: usize) -> Vec<u8> {
+    let value = (0..=promotes).fold(Term::Unit, |e, _| Term::Promote(Box::new(e)));
+    let body = Term::App(Box::new(Term::Var("x".into())), Box::new(Term::Var("y".into())));
+    term_bytes(&Term::Copy(Box::new(value), "x".into(), "y".into(), Box::new(body)))
+}
+
+pub fn reductions() -> Verdict {
+    let reduce = |bytes: Vec<u8>, limit: u32| Case { number: limit as u64, ..Case::new(Call::NormalizeBounded, vec![bytes]) };
+    let small: Vec<Case> = (1..=4)
+        .flat_map(|nodes| terms::all(nodes, &["x", "y"]))
+        .flat_map(|t| [0, 1, 2, 9].map(|limit| reduce(term_bytes(&t), limit)))
+        .collect();
+    let mut bad: Vec<Case> = bad_inputs(&TERMS).into_iter().map(|bytes| reduce(bytes, 5)).collect();
+    bad.extend(lent_lengths(Call::NormalizeBounded, &probes()).into_iter().map(|case| Case { number: u32::MAX as u64, ..case }));
+    Ok(listed("NormalizeBounded of every term to 4 nodes over two names", &small)?
+        + listed("NormalizeBounded of bad inputs", &bad)?
+        + random("NormalizeBounded of random terms", 60_000, |index| {
+            let mut rng = Rng::new(0x7265_6475, index);
+            let most = *rng.pick(&[20, 20, 60, 60, 200, 512]);
+            let limit = *rng.pick(&[0, 1, 2, 3, 7, 30, 100]);
+            let mut bytes = reducible(&mut rng, most);
+            if rng.one_in(20) {
+                damage(&mut rng, &mut bytes);
+            }
+            reduce(bytes, limit).lent_by(&mut rng)
+        })?
+        + random("NormalizeBounded of straight terms to the end", 3_000, |index| {
+            let mut rng = Rng::new(0x7374_7261, index);
+            let nodes = rng.size(300);
+            reduce(term_bytes(&terms::straight(&mut rng, nodes)), u32::MAX)
+        })?)
+}

@@ -1,0 +1,110 @@
+//! Calls on terms that take no step: text, free names, substitution, child; and whether a term is normal or straight.
+
+use crate::case::{Call, Case};
+use crate::readers::{bad_inputs, lent_lengths, mostly_damaged, term, TERMS};
+use crate::run::{listed, random, Verdict};
+use patch_generate::damage::damage;
+use patch_generate::{names, terms, Rng};
+use patch_model::form::term_bytes;
+use patch_model::Limits;
+
+const L: Limits = Limits::BASE;
+const ONE_INPUT: [Call; 4] = [Call::TermText, Call::FreeVars, Call::IsNormal, Call::IsStraight];
+
+/// `\x. (x y)`, the same without its end, and too many bytes.
+pub fn probes() -> [Vec<u8>; 3] {
+    let whole = vec![5, 1, b'x', 6, 1, 1, b'x', 1, 1, b'y'];
+    let cut = whole[..9].to_vec();
+    [whole, cut, vec![2; 4097]]
+}
+
+pub fn all() -> Verdict {
+    let small: Vec<Vec<u8>> = (1..=4).flat_map(|nodes| terms::all(nodes, &["x", "y"])).map(|t| term_bytes(&t)).collect();
+    let mut cases = 0;
+    for call in ONE_INPUT {
+        let one = |bytes: Vec<u8>| Case::new(call, vec![bytes]);
+        let all: Vec<Case> = small.iter().cloned().map(one).collect();
+        cases += listed(&format!("{call:?} of every term to 4 nodes over two names"), &all)?;
+        let mut bad: Vec<Case> = bad_inputs(&TERMS).into_iter().map(one).collect();
+        bad.extend(lent_lengths(call, &probes()));
+        cases += listed(&format!("{call:?} of bad inputs"), &bad)?;
+        cases += random(&format!("{call:?} of random terms"), 50_000, |index| {
+            let mut rng = Rng::new(0x7465_7800 + call as u64, index);
+            let mut bytes = if call == Call::IsStraight { nearly_straight(&mut rng) } else { term(&mut rng) };
+            if rng.one_in(4) {
+                damage(&mut rng, &mut bytes);
+            }
+            one(bytes).lent_by(&mut rng)
+        })?;
+    }
+    Ok(cases + substitution()? + children(&small)?)
+}
+
+/// A straight term, or one with a name changed.
+fn nearly_straight(rng: &mut Rng) -> Vec<u8> {
+    let nodes = rng.size(300);
+    let mut bytes = term_bytes(&terms::straight(rng, nodes));
+    if rng.one_in(2) {
+        // one digit of a name for another: a name twice, or a use without its binder
+        let digits: Vec<usize> = (0..bytes.len()).filter(|&i| bytes[i].is_ascii_digit()).collect();
+        if !digits.is_empty() {
+            let at = *rng.pick(&digits);
+            bytes[at] = b'0' + rng.below(10) as u8;
+        }
+    }
+    bytes
+}
+
+fn substitution() -> Verdict {
+    let call = Call::Substitute;
+    let mut listed_cases = Vec::new();
+    let pieces: Vec<Vec<u8>> = (1..=2).flat_map(|nodes| terms::all(nodes, &["x", "y"])).map(|t| term_bytes(&t)).collect();
+    for t in (1..=3).flat_map(|nodes| terms::all(nodes, &["x", "y"])) {
+        for value in &pieces {
+            listed_cases.push(Case::new(call, vec![term_bytes(&t), b"x".to_vec(), value.clone()]));
+        }
+    }
+    let [whole, cut, long] = probes();
+    // the first fault in the order of the arguments, wherever others stand
+    for t in [&whole, &cut, &long] {
+        for name in [&b"x"[..], b"", b"9", b"x-", &[b'x'; 24], &[b'x'; 25], &[b'x'; 5000]] {
+            for value in [&whole, &cut, &long] {
+                listed_cases.push(Case::new(call, vec![t.clone(), name.to_vec(), value.clone()]));
+            }
+        }
+    }
+    for mut case in lent_lengths(call, &probes()) {
+        case.inputs.extend([b"y".to_vec(), vec![2]]);
+        listed_cases.push(case);
+    }
+    Ok(listed("Substitute in every term to 3 nodes, and bad arguments", &listed_cases)?
+        + random("Substitute in random terms", 100_000, |index| {
+            let mut rng = Rng::new(0x7375_6273, index);
+            let style = terms::Style::random(&mut rng);
+            let (nodes, size) = (rng.size(L.nodes), rng.size(200));
+            let (whole, value) = (style.of_nodes(&mut rng, nodes), style.of_nodes(&mut rng, size));
+            let mut inputs = vec![term_bytes(&whole), rng.pick(&style.pool).clone().into_bytes(), term_bytes(&value)];
+            if rng.one_in(8) {
+                inputs[1] = names::of_length(&mut rng, 3).into_bytes();
+            }
+            if rng.one_in(4) {
+                let at = rng.below(3);
+                damage(&mut rng, &mut inputs[at]);
+            }
+            Case::new(call, inputs).lent_by(&mut rng)
+        })?)
+}
+
+fn children(small: &[Vec<u8>]) -> Verdict {
+    let child = |bytes: Vec<u8>, number| Case { number, ..Case::new(Call::Child, vec![bytes]) };
+    let mut cases: Vec<Case> = small.iter().flat_map(|bytes| (0..=3).map(|k| child(bytes.clone(), k))).collect();
+    cases.extend([4, 255, 256, u32::MAX as u64, u64::MAX].map(|k| child(probes()[0].clone(), k)));
+    cases.extend(bad_inputs(&TERMS).into_iter().map(|bytes| child(bytes, 0)));
+    Ok(listed("Child of every term to 4 nodes, and of bad inputs", &cases)?
+        + random("Child of random terms", 50_000, |index| {
+            let mut rng = Rng::new(0x6368_696c, index);
+            let bytes = term(&mut rng);
+            let bytes = if rng.one_in(2) { bytes } else { mostly_damaged(&mut rng, bytes) };
+            child(bytes, rng.below(4) as u64)
+        })?)
+}

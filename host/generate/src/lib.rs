@@ -1,0 +1,11 @@
+//! Inputs for differential runs and benchmarks: formulas, terms, proofs, stored files, and damaged copies. All from fixed seeds.
+
+pub mod damage;
+pub mod files;
+pub mod formulas;
+pub mod names;
+pub mod proofs;
+pub mod rng;
+pub mod terms;
+
+pub use rng::Rng;

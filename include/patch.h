@@ -1,0 +1,65 @@
+/* The engine's entry points for C and C++; link target/staticlib/libentry.a (`rt staticlib entry`).
+ *
+ * Terms, formulas and proofs are the byte forms of the rules. Every call ends, whatever bytes it is handed.
+ *
+ * Each function takes its inputs, then the buffers that it is lent, then `answer`. An input or a buffer is a pointer and a length. A pointer is
+ * never null, not even for length 0; it is good for its length during the call, and no lent buffer overlaps another argument. `answer` points to
+ * PATCH_ANSWER numbers, which the call writes all:
+ *
+ *   answer[PATCH_NUMBER]  0 if the call succeeded, else the number of the refusal
+ *   answer[PATCH_PLACE]   the place of the refusal, else 0
+ *   answer[PATCH_INPUT]   the input that it is about, 1 for the first; 0 if it is about none
+ *   answer[PATCH_VALUE]   the values of the call, as listed at it; zeros behind them
+ *
+ * After success a lent output holds the answer and then zeros to its end; a refusal leaves it as it was.
+ */
+#ifndef PATCH_H
+#define PATCH_H
+
+#include <stddef.h>
+#include <stdint.h>
+
+#ifdef __cplusplus
+extern "C" {
+#endif
+
+#define PATCH_ANSWER 16
+
+#define PATCH_NUMBER 0
+#define PATCH_PLACE 1
+#define PATCH_INPUT 2
+#define PATCH_VALUE 3
+
+/* The least length of a lent output, by what goes there. */
+#define PATCH_FORMULA_TEXT_ROOM 11264
+
+/* The refusals. */
+enum patch_refusal {
+    PATCH_SHORT_BUFFER = 1,
+    PATCH_INPUT_TOO_LONG = 2,
+    PATCH_ENDS_INSIDE = 3,
+    PATCH_NOT_LISTED = 4,
+    PATCH_BAD_NAME = 5,
+    PATCH_ONE_TOO_MANY = 6,
+    PATCH_LEFT_OVER = 7,
+    PATCH_OUTGROWS = 8,
+    PATCH_COUNTER_OVER = 9,
+    PATCH_STORED_LENGTH = 10,
+    PATCH_BLOCK_CHECK = 11,
+    PATCH_BLOCK_HEAD = 12,
+    PATCH_UNUSED_NOT_ZERO = 13,
+    PATCH_NO_SUCH_CHILD = 14
+};
+
+/* Whether a formula, or a term, is legal. Value: its nodes. */
+void patch_check_formula(const uint8_t *formula, size_t formula_length, uint64_t answer[PATCH_ANSWER]);
+void patch_check_term(const uint8_t *term, size_t term_length, uint64_t answer[PATCH_ANSWER]);
+
+/* The printed text of a formula, to an output of at least PATCH_FORMULA_TEXT_ROOM bytes. Value: its length. */
+void patch_formula_text(const uint8_t *formula, size_t formula_length, uint8_t *out, size_t out_length, uint64_t answer[PATCH_ANSWER]);
+
+#ifdef __cplusplus
+}
+#endif
+
+#endif
