@@ -1,0 +1,34 @@
+-- The places where a name is free in a term, and the two bytes in which each is kept. Assumes nothing: these are definitions.
+use Prim.Native.Nat.{ℕ, _+_, _/_}
+use mathlib.Core.Bool.{_||_}
+use mathlib.Core.List.{List, [], _∷_}
+use Rattle.rules.specs.Basic.{Bytes, if_then_else_, _‥_, low-high}
+use Rattle.rules.specs.Name.{Name, same}
+use Rattle.rules.specs.Term.{Term, var, leaf, one, two, abs, both, branch, size}
+use Rattle.rules.specs.Step.{nameBytes}
+use Rattle.walk.specs.Node.{hidden}
+
+-- of a term that starts at `at`, from the left
+unfoldable pub places : Name → Term → (at : ℕ) → List ℕ
+places x (var y) at = if same x y then at ∷ [] else []
+places x (leaf k) at = []
+places x (one k e) at = places x e (at + 1)
+places x (two k a b) at = places x a (at + 1) ‥ places x b (at + 1 + size a)
+places x (abs y e) at = if same x y then [] else places x e (at + 1 + nameBytes y)
+places x (both k y z e b) at =
+    places x e (at + 1 + nameBytes y + nameBytes z)
+    ‥ (if same x y || same x z then [] else places x b (at + 1 + nameBytes y + nameBytes z + size e))
+places x (branch y z e l r) at =
+    places x e (at + 1 + nameBytes y + nameBytes z)
+    ‥ (if same x y then [] else places x l (at + 1 + nameBytes y + nameBytes z + size e))
+    ‥ (if same x z then [] else places x r (at + 1 + nameBytes y + nameBytes z + size e + size l))
+
+-- of terms in a row, but for those that the mask hides
+abbrev pub placesAll : Name → (mask : ℕ) → List Term → (at : ℕ) → List ℕ
+placesAll x m [] at = []
+placesAll x m (t ∷ ts) at = (if hidden m then [] else places x t at) ‥ placesAll x (m / 2) ts (at + size t)
+
+-- two bytes each, low byte first
+abbrev pub kept : List ℕ → Bytes
+kept [] = []
+kept (p ∷ ps) = low-high p ‥ kept ps

@@ -1,0 +1,93 @@
+// Where a name is free in a term: a walk that keeps the places, two bytes each.
+ghost use mathlib.Core.Path.{_≡_};
+ghost use mathlib.Core.List.{List};
+ghost use Prim.Native.Nat.{_+_, _-_, _≤_, _<_};
+ghost use lib.ListN.{length};
+ghost use Rattle.rules.specs.Basic.{low-high};
+ghost use Rattle.rules.specs.Term.{Term, encode};
+ghost use Rattle.runs.specs.Wrote.{Wrote};
+ghost use Rattle.walk.specs.Node.{encodeAll};
+ghost use Rattle.walk.specs.Place.{TermsAt};
+ghost use Rattle.substitution.specs.Places.{places as placesOf, placesAll, kept};
+
+// Keeps a place, low byte first.
+fn keep(places: &mut [u8], to: usize, place: usize) -> usize
+    requires { ⌜ (to + 2 ≤ length (now places)) × (place < 65536) ⌝ }
+    ensures { λ r. ⌜ Wrote (now (places .entry)) to (low-high place) (now (places .exit)) r ⌝ }
+{
+    places[to] = (place % 256) as u8;
+    let second = to + 1;
+    places[second] = (place / 256) as u8;
+    to + 2
+}
+
+// The place after the terms, and after what was kept.
+pub struct Found {
+    pub next: usize,
+    pub to: usize,
+}
+
+// Keeps from `to` on where `name` is free in the n terms at `at`, but for those that the mask hides.
+// It calls itself on the parts of each term; those of the last take that term's place in the row.
+fn find(
+    s: &[u8],
+    at: usize,
+    n: usize,
+    mask: usize,
+    name: &[u8],
+    places: &mut [u8],
+    to: usize,
+) -> Found
+    requires { ⌜ ((ts : List Term) × TermsAt (now s) at n ts) ⌝ }
+    requires { ⌜ (length (now s) ≤ 65536) × (to + (length (now s) - at) ≤ length (now places)) ⌝ }
+    ensures { λ r. ⌜ ((ts : List Term) → TermsAt (now (s .entry)) at n ts → (r .next ≡ at + length (encodeAll ts)) × Wrote (now (places .entry)) to (kept (placesAll (now (name .entry)) mask ts at)) (now (places .exit)) (r .to)) ⌝ }
+{
+    let mut i = at;
+    let mut left = n;
+    let mut hide = mask;
+    let mut o = to;
+    while 0 < left {
+        if hide % 2 == 1 {
+            i = walk::skip(s, i, 1);
+            left -= 1;
+            hide = hide / 2;
+            continue;
+        }
+        let node = walk::look(s, i, name);
+        if node.is {
+            o = keep(places, o, i);
+            i = node.start;
+            left -= 1;
+            hide = hide / 2;
+            continue;
+        }
+        if node.parts == 0 {
+            i = node.start;
+            left -= 1;
+            hide = hide / 2;
+            continue;
+        }
+        if left == 1 {
+            i = node.start;
+            left = node.parts;
+            hide = node.hides;
+            continue;
+        }
+        let f = find(s, node.start, node.parts, node.hides, name, places, o);
+        i = f.next;
+        o = f.to;
+        left -= 1;
+        hide = hide / 2;
+    }
+    Found { next: i, to: o }
+}
+
+// Keeps where `name` is free in the term s, and returns how many bytes that took.
+pub fn free_places(s: &[u8], name: &[u8], places: &mut [u8]) -> usize
+    requires { ⌜ ((t : Term) × (now s ≡ encode t)) ⌝ }
+    requires { ⌜ (length (now s) ≤ 65536) × (length (now s) ≤ length (now places)) ⌝ }
+    ensures { λ r. ⌜ ((t : Term) → now (s .entry) ≡ encode t → Wrote (now (places .entry)) 0 (kept (placesOf (now (name .entry)) t 0)) (now (places .exit)) r) ⌝ }
+{
+    let f = find(s, 0, 1, 0, name, places, 0);
+    f.to
+}
