@@ -1,2 +1,4 @@
 pub mod Spot
 pub mod Around
+pub mod Measured
+pub mod Searched

@@ -1,1 +1,3 @@
-// One step of reduction.
+// One step of a term: the first redex from the left is found, and contracted where it stands.
+pub mod search;
+pub mod spans;

@@ -17,14 +17,14 @@ const NAMES: usize = 34360264196;
 
 const PARTS: usize = 44380808832;
 
-fn names_of(tag: usize) -> usize
+pub fn names_of(tag: usize) -> usize
     requires { ⌜ tag < 32 ⌝ }
     ensures { λ r. ⌜ r ≡ namesAfter tag ⌝ }
 {
     (NAMES >> (tag * 2)) % 4
 }
 
-fn parts_of(tag: usize) -> usize
+pub fn parts_of(tag: usize) -> usize
     requires { ⌜ tag < 32 ⌝ }
     ensures { λ r. ⌜ r ≡ partsAfter tag ⌝ }
 {

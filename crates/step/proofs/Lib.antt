@@ -1,0 +1,5 @@
+-- What the proofs of several functions use, here and in the crates above.
+pub mod Extents
+pub mod Firsts
+pub mod Seeks
+mod Searching
