@@ -22,3 +22,4 @@ pub mod Parts
 pub mod SubstLegal
 pub mod StepLegal
 pub mod Fits
+pub mod Numbers

@@ -4,3 +4,6 @@ pub mod Shapes
 pub mod Splices
 pub mod Finds
 mod Splicing
+pub mod Growths
+mod Works
+mod Answers

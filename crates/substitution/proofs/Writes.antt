@@ -4,8 +4,8 @@ use mathlib.Core.Path.{_≡_, refl, sym, ap, _∙_}
 use mathlib.Core.List.{List, [], _∷_, _++_, append-nil, append-assoc}
 use native.Mathlib.Nat.{add-zero, zero-add, suc-add, le-of-suc-le-suc, not-suc-le-zero}
 use native.Mathlib.Omega.{arith}
-use lib.ListN.{length, drop, take, set, length-append}
-use lib.Seq.{sets, length-sets, slice, take-append-seam, take-nil}
+use lib.ListN.{length, drop, take, set, replicate, length-append, length-replicate, drop-of-length-le}
+use lib.Seq.{sets, sets-eq, length-sets, slice, take-at, take-append-seam, take-nil}
 use Rattle.runs.specs.Wrote.{Wrote}
 
 pub slice-split : (i j k : ℕ) (s : List ℕ) → i ≤ j → j ≤ k → slice i k s ≡ slice i j s ++ slice j k s
@@ -41,3 +41,20 @@ wrote-none out to = record { holds = refl; ends = omega arith }
 
 pub wrote-length : {out out₁ xs : List ℕ} {to o : ℕ} → Wrote out to xs out₁ o → length out₁ ≡ length out
 wrote-length {out} {out₁} {xs} {to} {o} w = ap (λ (z : List ℕ). length z) (w .holds) ∙ length-sets out to xs
+
+-- a write that fills the list
+pub sets-all : (l zs : List ℕ) → length zs ≡ length l → sets l 0 zs ≡ zs
+sets-all l zs e =
+    sets-eq zs l 0 (omega arith)
+    ∙ ap (λ (z : List ℕ). zs ++ z) (drop-of-length-le l {i = 0 + length zs} (omega arith))
+    ∙ append-nil zs
+
+-- what was written from the start, as the part up to where it ends
+pub wrote-part : {out out₁ xs : List ℕ} {k : ℕ} → Wrote out 0 xs out₁ k → k ≤ length out → take (k - 0) out₁ ≡ xs
+wrote-part {out} {out₁} {xs} {k} w h =
+    ap (λ (z : List ℕ). take (k - 0) z) (w .holds ∙ sets-eq xs out 0 (omega (arith, w .ends))) ∙ take-at xs (drop (0 + length xs) out) (k - 0) (omega (arith, w .ends))
+
+pub zeros : (l : List ℕ) (n : ℕ) → length l ≡ n → sets l 0 (replicate (length l - 0) 0) ≡ replicate n 0
+zeros l n e =
+    let d : length l - 0 ≡ n = omega arith in
+    ap {B = List ℕ} (λ (k : ℕ). sets l 0 (replicate k 0)) d ∙ sets-all l (replicate n 0) (length-replicate {A = ℕ} n 0 ∙ sym e)

@@ -1,2 +1,4 @@
 pub mod Places
 pub mod Spliced
+pub mod Work
+pub mod Sizes

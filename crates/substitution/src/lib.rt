@@ -1,3 +1,98 @@
 // Substitution: the places of the name are found in one walk, and the value is spliced in at them.
+ghost use mathlib.Core.Path.{_≡_};
+ghost use Rattle.rules.specs.Limits.{limits};
+ghost use Rattle.rules.specs.Refusal.{refuse, answered};
+ghost use Rattle.rules.specs.Term.{Term};
+ghost use Rattle.rules.specs.Reading.{readTerm, readName};
+ghost use Rattle.rules.specs.Calls.{substituteCall};
+ghost use Rattle.substitution.specs.Work.{inputs, Job, Done};
+use rules::Answer;
+use rules::OUTPUT_ROOM;
+use rules::Refusal;
+use rules::SCRATCH_ROOM;
+
 pub mod places;
+pub mod sizes;
 pub mod splice;
+
+// The inputs of a substitution: how many nodes the term has, and the value; or a refusal.
+pub enum Inputs {
+    Read { nodes: usize, added: usize },
+    Refused(Refusal),
+}
+
+// Reads the inputs, in the order of the arguments.
+fn read_inputs(term: &[u8], name: &[u8], value: &[u8]) -> Inputs
+    ensures { λ r. ⌜ r ≡ inputs (readTerm limits 1 (now (term .entry))) (readName 2 (now (name .entry))) (readTerm limits 3 (now (value .entry))) ⌝ }
+{
+    match reader::term_input(term, 1) {
+        Answer::Refused(r) => Inputs::Refused(r),
+        Answer::Good(nodes) => match reader::name_input(name, 2) {
+            Answer::Refused(r) => Inputs::Refused(r),
+            Answer::Good(_) => match reader::term_input(value, 3) {
+                Answer::Refused(r) => Inputs::Refused(r),
+                Answer::Good(added) => Inputs::Read { nodes, added },
+            },
+        },
+    }
+}
+
+// The answer of a call that is refused whatever its inputs are: by 1 or by 8.
+fn refused(number: u8) -> Answer
+    ensures { λ r. ⌜ r ≡ answered (refuse number 0 0) ⌝ }
+{
+    Answer::Refused(Refusal {
+        number,
+        place: 0,
+        input: 0,
+    })
+}
+
+// The sizes of the result are known before anything is written; then the runs between the places and the value go out in turn.
+fn replace(
+    term: &[u8],
+    nodes: usize,
+    name: &[u8],
+    value: &[u8],
+    added: usize,
+    out: &mut [u8],
+    scratch: &mut [u8],
+) -> Answer
+    requires { ⌜ ((t : Term) × (v : Term) × Job (now term) (now name) (now value) (now out) (now scratch) nodes added t v) ⌝ }
+    ensures { λ r. ⌜ ((t : Term) → (v : Term) → Job (now (term .entry)) (now (name .entry)) (now (value .entry)) (now (out .entry)) (now (scratch .entry)) nodes added t v → Done (now (name .entry)) t v (now (out .entry)) (now (scratch .entry)) r (now (out .exit)) (now (scratch .exit))) ⌝ }
+{
+    let kept = places::free_places(term, name, scratch);
+    let gap = 2 + name.len();
+    if sizes::stays(term.len(), nodes, kept / 2, gap, value.len(), added) {
+        let end = splice::splice(term, &scratch[0..kept], gap, value, out, 0);
+        runs::clear(out, end);
+        runs::clear(scratch, 0);
+        return Answer::Good(end);
+    }
+    runs::clear(scratch, 0);
+    refused(8)
+}
+
+// The term with the value for the name, written to out, with zeros behind it.
+pub fn substitute(
+    term: &[u8],
+    name: &[u8],
+    value: &[u8],
+    out: &mut [u8],
+    scratch: &mut [u8],
+) -> Answer
+    ensures { λ r. ⌜ r ≡ answered (substituteCall limits (now (term .entry)) (now (name .entry)) (now (value .entry)) (now (out .entry)) (now (scratch .entry)) .answer) ⌝ }
+    ensures { λ _. ⌜ now (out .exit) ≡ substituteCall limits (now (term .entry)) (now (name .entry)) (now (value .entry)) (now (out .entry)) (now (scratch .entry)) .output ⌝ }
+    ensures { λ _. ⌜ now (scratch .exit) ≡ substituteCall limits (now (term .entry)) (now (name .entry)) (now (value .entry)) (now (out .entry)) (now (scratch .entry)) .scratch ⌝ }
+{
+    if out.len() < OUTPUT_ROOM {
+        return refused(1);
+    }
+    if scratch.len() < SCRATCH_ROOM {
+        return refused(1);
+    }
+    match read_inputs(term, name, value) {
+        Inputs::Refused(r) => Answer::Refused(r),
+        Inputs::Read { nodes, added } => { replace(term, nodes, name, value, added, out, scratch) }
+    }
+}

@@ -2,3 +2,4 @@
 pub mod Names
 pub mod Terms
 mod Looks
+mod Children

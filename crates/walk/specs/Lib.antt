@@ -1,3 +1,4 @@
 pub mod Node
 pub mod Place
 pub mod Seen
+pub mod Child

@@ -7,10 +7,12 @@ ghost use Prim.Native.Nat.{_+_, _<_};
 ghost use lib.ListN.{length};
 ghost use Rattle.rules.specs.Basic.{if_then_else_, _==_};
 ghost use Rattle.rules.specs.Name.{Name, same as sameName, encodeNames};
-ghost use Rattle.rules.specs.Term.{Term};
-ghost use Rattle.walk.specs.Node.{namesAfter, partsAfter, encodeAll};
+ghost use Rattle.rules.specs.Term.{Term, parts};
+ghost use Rattle.walk.specs.Node.{head, namesAfter, partsAfter, encodeAll};
 ghost use Rattle.walk.specs.Place.{TermAt, TermsAt, NameAt, NamesAt};
 ghost use Rattle.walk.specs.Seen.{Seen};
+
+pub mod child;
 
 // How many names and how many parts follow each tag: two bits a tag.
 const NAMES: usize = 34360264196;
@@ -59,6 +61,22 @@ pub fn skip(s: &[u8], at: usize, n: usize) -> usize
         i = after_names(s, i + 1, names_of(tag));
     }
     i
+}
+
+// The parts of a node: where they start, and how many there are.
+pub struct Row {
+    pub start: usize,
+    pub parts: usize,
+}
+
+pub fn parts_at(s: &[u8], at: usize) -> Row
+    requires { ⌜ ((t : Term) × TermAt (now s) at t) ⌝ }
+    ensures { λ r. ⌜ ((t : Term) → TermAt (now (s .entry)) at t → (r .start ≡ at + length (head t)) × (r .parts ≡ length (parts t))) ⌝ }
+{
+    let tag = s[at] as usize;
+    let parts = parts_of(tag);
+    let start = after_names(s, at + 1, names_of(tag));
+    Row { start, parts }
 }
 
 // Whether the name at `at` is `name`.

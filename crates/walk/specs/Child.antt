@@ -1,0 +1,24 @@
+-- Where a child stands in the caller's bytes, and what the second call tells. Assumes nothing: these are definitions.
+use Prim.Native.Nat.{ℕ, _-_, _≤_}
+use mathlib.Core.Path.{_≡_}
+use mathlib.Core.Option.{Option, none, some}
+use lib.ListN.{length, take, drop}
+use Rattle.rules.specs.Basic.{Bytes}
+use Rattle.rules.specs.Limits.{limits}
+use Rattle.rules.specs.declared.Refusal.{Refusal}
+use Rattle.rules.specs.Refusal.{good, refused}
+use Rattle.rules.specs.Calls.{childOf}
+use Rattle.walk.specs.declared.child.Piece.{Piece}
+use Rattle.walk.specs.declared.child.Piece.the-variants.{Part, Missing}
+use Rattle.walk.specs.declared.child.Fault.{Fault}
+use Rattle.walk.specs.declared.child.Fault.the-variants.{Nothing, Refused}
+
+-- child k of s is this part of it, or is refused so
+abbrev pub Located : Bytes → ℕ → Piece → Type 0
+Located s k (Part a b) = (a ≤ b) × (b ≤ length s) × (childOf limits s k ≡ good (take (b - a) (drop a s)))
+Located s k (Missing r) = childOf limits s k ≡ refused r
+
+-- nothing is wrong, or a refusal by its number and place
+abbrev pub told : Option Refusal → Fault
+told none = Nothing
+told (some r) = Refused r
