@@ -4,13 +4,14 @@ use mathlib.Core.Path.{_≡_, refl, sym, ap, _∙_}
 use mathlib.Core.List.{List, [], _∷_, _++_, append-nil}
 use native.Mathlib.Omega.{arith}
 use lib.ListN.{length, getD, length-append}
+use Rattle.rules.specs.Name.{Name}
 use Rattle.rules.specs.Term.{Term, var, leaf, one, two, abs, both, branch, encode, nodes, size, parts}
 use Rattle.walk.specs.Node.{head, encodeAll, namesAfter, partsAfter}
-use Rattle.walk.specs.Place.{TermAt, TermsAt}
-use Rattle.walk.proofs.Names.{AfterIs}
-use Rattle.walk.proofs.Terms.{Some, apart-size, encodeAll-append, at-count-parts, first, unrolled, starts, alone}
+use Rattle.walk.specs.Place.{TermAt, TermsAt, NameAt, NamesAt}
+use Rattle.walk.proofs.Names.{AfterIs, first-name, other-names, name-end}
+use Rattle.walk.proofs.Terms.{Some, apart-size, encodeAll-append, at-count-parts, first, others, unrolled, starts, alone}
 use Rattle.step.specs.declared.spans.Extent.{Extent}
-use Rattle.step.specs.Measured.{Measured}
+use Rattle.step.specs.Measured.{Measured, MeasuredTwo, MeasuredThree, Named}
 
 abbrev nodesAll : List Term → ℕ
 nodesAll [] = 0
@@ -89,3 +90,45 @@ module _ (s : List ℕ) (at i n count q p h : ℕ) (g : Going s at i n count) (l
         past = omega (arith, g .past, ahead (g .some));
         rest = λ r m f ts w. let e = g .rest r (1 + m) (so-rest r m f) ts w in (e .0, omega (arith, e .1));
       }
+
+-- ---- two terms in a row, and three
+
+-- what `span` ensures
+abbrev pub ExtentIs : List ℕ → ℕ → Extent → Type 0
+ExtentIs s i r = (t : Term) → TermAt s i t → Measured i t r
+
+module _ (s : List ℕ) (i : ℕ) (ra : Extent) (fa : ExtentIs s i ra) where
+  pub row-later : (n : ℕ) (a : Term) (ts : List Term) → TermsAt s i n (a ∷ ts) → TermsAt s (ra .next) (n - 1) ts
+  row-later n a ts w = others s i n a ts w (ra .next) (fa a (first s i n a ts w) .next)
+
+  pub row-second : (n : ℕ) (a b : Term) (ts : List Term) → TermsAt s i n (a ∷ b ∷ ts) → TermAt s (ra .next) b
+  row-second n a b ts w = first s (ra .next) (n - 1) b ts (row-later n a (b ∷ ts) w)
+
+  module _ (rb : Extent) (fb : ExtentIs s (ra .next) rb) where
+    pub both-measured : (a b : Term) → TermsAt s i 2 (a ∷ b ∷ []) → MeasuredTwo i a b (record { second = ra .next; end = rb .next; a = ra .nodes; b = rb .nodes })
+    both-measured a b w =
+        let e = fa a (first s i 2 a (b ∷ []) w) in
+        let f = fb b (row-second 2 a b [] w) in
+        record { second = e .next; end = f .next; a-nodes = e .nodes; b-nodes = f .nodes }
+
+    pub row-third : (a b d : Term) → TermsAt s i 3 (a ∷ b ∷ d ∷ []) → TermAt s (rb .next) d
+    row-third a b d w =
+        let v = row-later 3 a (b ∷ d ∷ []) w in
+        first s (rb .next) 1 d [] (others s (ra .next) 2 b (d ∷ []) v (rb .next) (fb b (row-second 3 a b (d ∷ []) w) .next))
+
+    pub all-measured : (rd : Extent) → ExtentIs s (rb .next) rd → (a b d : Term) → TermsAt s i 3 (a ∷ b ∷ d ∷ [])
+        → MeasuredThree i a b d (record { second = ra .next; third = rb .next; end = rd .next; a = ra .nodes; b = rb .nodes; c = rd .nodes })
+    all-measured rd fd a b d w =
+        let e = fa a (first s i 3 a (b ∷ d ∷ []) w) in
+        let f = fb b (row-second 3 a b (d ∷ []) w) in
+        let g = fd d (row-third a b d w) in
+        record { second = e .next; third = f .next; end = g .next; a-nodes = e .nodes; b-nodes = f .nodes; c-nodes = g .nodes }
+
+-- ---- two names in a row
+
+module _ (s : List ℕ) (i j : ℕ) (f : AfterIs s i 1 j) where
+  pub second-name : (x y : Name) → NamesAt s i 2 (x ∷ y ∷ []) → NameAt s j y
+  second-name x y w = first-name s j 1 y [] (other-names s i 2 x (y ∷ []) w j (name-end s i j f x (first-name s i 2 x (y ∷ []) w)))
+
+  pub named : (h : ℕ) → AfterIs s j 1 h → (x y : Name) → NamesAt s i 2 (x ∷ y ∷ []) → Named i x y (record { second = j; end = h })
+  named h g x y w = record { second = name-end s i j f x (first-name s i 2 x (y ∷ []) w); end = name-end s j h g y (second-name x y w) }
