@@ -3,3 +3,4 @@ pub mod Extents
 pub mod Firsts
 pub mod Seeks
 mod Searching
+mod Puts

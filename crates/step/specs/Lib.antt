@@ -2,3 +2,4 @@ pub mod Spot
 pub mod Around
 pub mod Measured
 pub mod Searched
+pub mod Made
