@@ -4,3 +4,4 @@ pub mod Firsts
 pub mod Seeks
 mod Searching
 mod Puts
+mod Turning

@@ -6,8 +6,8 @@ use mathlib.Core.Bool.{Bool, true, false}
 use mathlib.Core.Option.{none}
 use mathlib.Core.List.{List, [], _∷_, _++_}
 use native.Mathlib.Omega.{arith}
-use lib.ListN.{length, take, drop, length-append}
-use lib.Seq.{sets, slice, take-length}
+use lib.ListN.{length, take, replicate, length-append, length-replicate}
+use lib.Seq.{sets, slice, length-slice}
 use borrow.Author.Tests.{leb-true, le-leb, lt-leb}
 use Rattle.rules.specs.Basic.{Bytes, if_then_else_, _≤?_}
 use Rattle.rules.specs.Limits.{limits}
@@ -27,6 +27,10 @@ use Rattle.substitution.proofs.Finds.{kept-length, kept-small}
 use Rattle.substitution.proofs.Growths.{product, nodes-go, bytes-go, count-small, nodes-after, bytes-after}
 use Rattle.step.specs.Made.{Between, Given, Keeping, Putting, Makes}
 use Rattle.step.specs.declared.into.Made.the-variants.{Whole, Outgrown}
+
+-- a local array
+pub array-room : 4096 ≤ length (replicate {A = ℕ} 4096 0)
+array-room = omega (arith, length-replicate {A = ℕ} 4096 0)
 
 -- ---- what breaks no limit
 
@@ -54,14 +58,21 @@ outgrown u out n = record { says = rw n; leaves = rw n }
 
 -- ---- three runs
 
-module _ {before after : Bytes} {others : ℕ} {f : Term → Term} (b : Between before after others f) (u : Term) where
-  whole-long : size (f u) ≡ length before + size u + length after
+module _ {src : Bytes} {place end others : ℕ} {f : Term → Term} (b : Between src place end others f) (u : Term) where
+  whole-long : size (f u) ≡ place + size u + (length src - end)
   whole-long =
-      ap (λ (z : Bytes). length z) (b .bytes u) ∙ omega (arith, length-append before (encode u ++ after), length-append (encode u) after)
+      ap (λ (z : Bytes). length z) (b .bytes u)
+      ∙ omega (
+        arith,
+        length-append (slice 0 place src) (encode u ++ slice end (length src) src),
+        length-append (encode u) (slice end (length src) src),
+        length-slice 0 place src (b .inside .0),
+        length-slice end (length src) src (omega arith),
+      )
 
-  module _ {out out₁ out₂ out₃ : Bytes} {o₁ o₂ o₃ : ℕ} (x : Wrote out 0 (slice 0 (length before) before) out₁ o₁) (y : Wrote out₁ o₁ (encode u) out₂ o₂) (z : Wrote out₂ o₂ (slice 0 (length after) after) out₃ o₃) where
+  module _ {out out₁ out₂ out₃ : Bytes} {o₁ o₂ o₃ : ℕ} (x : Wrote out 0 (slice 0 place src) out₁ o₁) (y : Wrote out₁ o₁ (encode u) out₂ o₂) (z : Wrote out₂ o₂ (slice end (length src) src) out₃ o₃) where
     runs : Wrote out 0 (encode (f u)) out₃ o₃
-    runs = rw (b .bytes u) (chain (rw (take-length before) at x) (chain y (rw (take-length after) at z)))
+    runs = rw (b .bytes u) (chain x (chain y z))
 
     pub runs-hold : out₃ ≡ sets out 0 (encode (f u))
     runs-hold = runs .holds
@@ -71,37 +82,36 @@ module _ {before after : Bytes} {others : ℕ} {f : Term → Term} (b : Between 
 
 -- ---- a part as it is
 
-module _ {before part after : Bytes} {others n : ℕ} {out : Bytes} {f : Term → Term} {u : Term} (j : Keeping before part after others n out f u) where
-  keep-small : (others ≤ 512) × (n ≤ 512)
-  keep-small = (j .between .few, omega (arith, j .part-is .count, within u (j .part-is .fits)))
+module _ {src : Bytes} {place end others from to n : ℕ} {out : Bytes} {f : Term → Term} {u : Term} (j : Keeping src place end others from to n out f u) where
+  part-long : to - from ≡ size u
+  part-long = sym (length-slice from to src (j .ordered .1)) ∙ ap (λ (z : Bytes). length z) (j .part-is .bytes)
 
-  keep-long : length before + length part + length after ≤ 4096
-  keep-long = omega (arith, whole-long (j .between) u, within (f u) (j .whole), ap (λ (z : Bytes). length z) (j .part-is .bytes))
-
-  pub keep-room : length before + length part + length after ≤ length out
-  keep-room = omega (arith, keep-long, j .room)
+  -- room for the three runs
+  pub keep-room : place + (to - from) + (length src - end) ≤ length out
+  keep-room = omega (arith, whole-long (j .between) u, within (f u) (j .whole), part-long, j .room)
 
   pub keep-nodes : others + n ≤ 1024
-  keep-nodes = omega (arith, keep-small)
+  keep-nodes = omega (arith, j .between .few, j .part-is .count, within u (j .part-is .fits))
 
-  module _ {out₁ : Bytes} {o₁ : ℕ} (x : Wrote out 0 (slice 0 (length before) before) out₁ o₁) where
-    pub second-room : o₁ + (length part - 0) ≤ length out₁
-    second-room = omega (arith, keep-room, (rw (take-length before) at x) .ends, wrote-length x)
+  module _ {out₁ : Bytes} {o₁ : ℕ} (x : Wrote out 0 (slice 0 place src) out₁ o₁) where
+    pub second-room : o₁ + (to - from) ≤ length out₁
+    second-room = omega (arith, keep-room, x .ends, length-slice 0 place src (j .between .inside .0), wrote-length x)
 
-    module _ {out₂ : Bytes} {o₂ : ℕ} (y : Wrote out₁ o₁ (slice 0 (length part) part) out₂ o₂) where
-      pub third-room : o₂ + (length after - 0) ≤ length out₂
-      third-room = omega (arith, keep-room, (rw (take-length before) at x) .ends, wrote-length x, (rw (take-length part) at y) .ends, wrote-length y)
+    module _ {out₂ : Bytes} {o₂ : ℕ} (y : Wrote out₁ o₁ (slice from to src) out₂ o₂) where
+      pub third-room : o₂ + (length src - end) ≤ length out₂
+      third-room =
+          omega (arith, keep-room, x .ends, length-slice 0 place src (j .between .inside .0), wrote-length x, y .ends, length-slice from to src (j .ordered .1), wrote-length y)
 
-      pub kept-whole : {out₃ : Bytes} {o₃ : ℕ} → Wrote out₂ o₂ (slice 0 (length after) after) out₃ o₃ → Makes none (f u) out out₃ (Whole o₃ (others + n))
+      pub kept-whole : {out₃ : Bytes} {o₃ : ℕ} → Wrote out₂ o₂ (slice end (length src) src) out₃ o₃ → Makes none (f u) out out₃ (Whole o₃ (others + n))
       kept-whole {out₃} {o₃} z =
-          let y′ : Wrote out₁ o₁ (encode u) out₂ o₂ = rw (take-length part ∙ j .part-is .bytes) at y in
+          let y′ : Wrote out₁ o₁ (encode u) out₂ o₂ = rw (j .part-is .bytes) at y in
           made (f u) out out₃ o₃ (others + n) (j .whole) (runs-end (j .between) u x y′ z)
           (ap (λ (k : ℕ). others + k) (j .part-is .count) ∙ sym (j .between .count u))
           (runs-hold (j .between) u x y′ z)
 
 -- ---- a body with a value for a name
 
-module _ {before body after : Bytes} {others n : ℕ} {value : Bytes} {m : ℕ} {out : Bytes} {f : Term → Term} {e v : Term} (j : Putting before body after others n value m out f e v) where
+module _ {src : Bytes} {place end others : ℕ} {body : Bytes} {n : ℕ} {value : Bytes} {m : ℕ} {out : Bytes} {f : Term → Term} {e v : Term} (j : Putting src place end others body n value m out f e v) where
   body-long : length body ≤ 4096
   body-long = omega (arith, ap (λ (z : Bytes). length z) (j .body-is .bytes), within e (j .body-is .fits))
 
@@ -145,25 +155,25 @@ module _ {before body after : Bytes} {others n : ℕ} {value : Bytes} {m : ℕ} 
       too-many l = outgrown (f (subst name v e)) out (fits-many (f (subst name v e)) (omega (arith, total)))
 
       module _ (few-enough : others + p ≤ 512) {q : ℕ} (eq : q ≡ length body - (k / 2) * (2 + length name) + (k / 2) * length value) where
-        pub long-small : length before + q + length after ≤ 4295100000
+        pub long-small : place + q + (length src - end) ≤ 4295100000
         long-small =
             omega (arith, eq, product (k / 2) (length value) (count-small growth) (growth .small .2), j .between .short, body-long)
 
-        long : length before + q + length after ≡ size (f (subst name v e))
+        long : place + q + (length src - end) ≡ size (f (subst name v e))
         long =
-            ap (λ (z : ℕ). length before + z + length after) (eq ∙ bytes-after growth) ∙ sym (whole-long (j .between) (subst name v e))
+            ap (λ (z : ℕ). place + z + (length src - end)) (eq ∙ bytes-after growth) ∙ sym (whole-long (j .between) (subst name v e))
 
-        pub too-long : 4096 < length before + q + length after → Makes none (f (subst name v e)) out out Outgrown
+        pub too-long : 4096 < place + q + (length src - end) → Makes none (f (subst name v e)) out out Outgrown
         too-long l = outgrown (f (subst name v e)) out (fits-long (f (subst name v e)) (omega (arith, total)) (omega (arith, long)))
 
-        module _ (short-enough : length before + q + length after ≤ 4096) where
-          pub first-room : length before ≤ length out
+        module _ (short-enough : place + q + (length src - end) ≤ 4096) where
+          pub first-room : place ≤ length out
           first-room = omega (arith, j .room)
 
           result : spliced body value (2 + length name) 0 (places name e 0) (length body) ≡ encode (subst name v e)
           result = rw (j .value-is .bytes) (spliced-term name v e body (j .body-is .bytes))
 
-          module _ {out₁ : Bytes} {o₁ : ℕ} (x : Wrote out 0 (slice 0 (length before) before) out₁ o₁) where
+          module _ {out₁ : Bytes} {o₁ : ℕ} (x : Wrote out 0 (slice 0 place src) out₁ o₁) where
             left : Left body (take (k - 0) places₁) (2 + length name) value 0 0 out₁ o₁ (places name e 0)
             left =
                 record {
@@ -174,7 +184,8 @@ module _ {before body after : Bytes} {others n : ℕ} {value : Bytes} {m : ℕ} 
                         arith,
                         ap (λ (z : Bytes). length z) result,
                         eq ∙ bytes-after growth,
-                        (rw (take-length before) at x) .ends,
+                        x .ends,
+                        length-slice 0 place src (j .between .inside .0),
                         wrote-length x,
                         j .room,
                       );
@@ -187,21 +198,22 @@ module _ {before body after : Bytes} {others n : ℕ} {value : Bytes} {m : ℕ} 
               middle : Wrote out₁ o₁ (encode (subst name v e)) out₂ o₂
               middle = rw result at (g (places name e 0) left)
 
-              pub last-room : o₂ + (length after - 0) ≤ length out₂
+              pub last-room : o₂ + (length src - end) ≤ length out₂
               last-room =
                   omega (
                     arith,
                     middle .ends,
                     eq ∙ bytes-after growth,
-                    (rw (take-length before) at x) .ends,
+                    x .ends,
+                    length-slice 0 place src (j .between .inside .0),
                     wrote-length x,
                     wrote-length middle,
                     j .room,
                   )
 
-              pub put-whole : {out₃ : Bytes} {o₃ : ℕ} → Wrote out₂ o₂ (slice 0 (length after) after) out₃ o₃
-                  → Makes none (f (subst name v e)) out out₃ (Whole (length before + q + length after) (others + p))
+              pub put-whole : {out₃ : Bytes} {o₃ : ℕ} → Wrote out₂ o₂ (slice end (length src) src) out₃ o₃
+                  → Makes none (f (subst name v e)) out out₃ (Whole (place + q + (length src - end)) (others + p))
               put-whole {out₃} z =
-                  made (f (subst name v e)) out out₃ (length before + q + length after) (others + p)
+                  made (f (subst name v e)) out out₃ (place + q + (length src - end)) (others + p)
                   (fits-yes (f (subst name v e)) (omega (arith, total)) (omega (arith, long)))
                   long total (runs-hold (j .between) (subst name v e) x middle z)

@@ -3,3 +3,4 @@ pub mod Around
 pub mod Measured
 pub mod Searched
 pub mod Made
+pub mod Redex
