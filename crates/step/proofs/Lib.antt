@@ -1,0 +1,7 @@
+-- What the proofs of several functions use, here and in the crates above.
+pub mod Extents
+pub mod Firsts
+pub mod Seeks
+mod Searching
+mod Puts
+mod Turning

@@ -1,0 +1,6 @@
+pub mod Spot
+pub mod Around
+pub mod Measured
+pub mod Searched
+pub mod Made
+pub mod Redex
