@@ -1,7 +1,6 @@
 -- `nodes::read_row` meets its contract: whatever the nodes that are still to be read come to, the whole comes to. Assumes nothing.
 use Prim.Native.Nat.{_+_, _-_, _*_, _≤_}
 use native.Mathlib.Omega.{arith}
-use borrow.Author.Needs.{needs}
 use mathlib.Core.Path.{_≡_, sym, _∙_}
 use lib.ListN.{drop}
 use Rattle.rules.specs.Reading.{times, node}
@@ -9,6 +8,7 @@ use Rattle.reader.specs.Form.{layoutOf}
 use Rattle.reader.specs.View.{view}
 use Rattle.reader.proofs.Rest.{Rest, rest-is, rest-none}
 use Rattle.reader.proofs.Turn.{turn-out, turn-full, turn-unknown, few-parts, turn-off, turn-on}
+use borrow.Author.Needs.{needs}
 use Rattle.reader.proofs.nodes.read_row.Statement.{statement}
 use Rattle.reader.proofs.nodes.read_row.Tie as tie
 
@@ -27,34 +27,42 @@ loop-holds c =
     let a = c .before .before .args in
     (omega arith, rest-is (layoutOf (a .form)) (a .most) (a .s .now) (a .n) (a .used) (a .at))
 
+bad-requires : tie.Need-bad-requires Inv-loop μ-loop
+bad-requires c κs = search needs
+
 returns : tie.Need-returns Inv-loop μ-loop
 returns c =
-    let a = c .before .before .before .before .before .args in
-    let l = c .before .before .loop in
-    sym (turn-out (a .form) (a .most) (a .s .now) (l .pending) (l .met) (l .next) (omega arith) (omega arith)) ∙ l .inv .1
-
-returns-2 : tie.Need-returns-2 Inv-loop μ-loop
-returns-2 c =
     let a = c .before .before .before .before .before .before .args in
     let l = c .before .before .before .loop in
-    sym (turn-full (a .form) (a .most) (a .s .now) (l .pending) (l .met) (l .next) (omega arith) (omega arith) (omega arith)) ∙ l .inv .1
+    c .bad .ensures ∙ sym (turn-out (a .form) (a .most) (a .s .now) (l .pending) (l .met) (l .next) (omega arith) (omega arith)) ∙ l .inv .1
+
+add-after : tie.Need-add-after Inv-loop μ-loop
+add-after c = omega arith
 
 shared-slice-read-code-of : tie.Need-shared-slice-read-code-of Inv-loop μ-loop
 shared-slice-read-code-of c = omega arith
 
 code-of-requires : tie.Need-code-of-requires Inv-loop μ-loop
-code-of-requires c κs = c .before .before .before .before .before .before .before .pre .0
+code-of-requires c κs = c .before .before .before .before .before .before .pre .0
+
+bad-requires-2 : tie.Need-bad-requires-2 Inv-loop μ-loop
+bad-requires-2 c κs = search needs
+
+returns-2 : tie.Need-returns-2 Inv-loop μ-loop
+returns-2 c =
+    let a = c .before .before .before .before .before .before .before .before .before .args in
+    let l = c .before .before .before .before .before .before .loop in
+    c .bad2 .ensures ∙ sym (turn-full (a .form) (a .most) (a .s .now) (l .pending) (l .met) (l .next) (omega arith) (omega arith) (omega arith)) ∙ l .inv .1
+
+bad-requires-3 : tie.Need-bad-requires-3 Inv-loop μ-loop
+bad-requires-3 c κs = search needs
 
 returns-3 : tie.Need-returns-3 Inv-loop μ-loop
 returns-3 c =
-    let a = c .before .before .before .before .before .before .before .before .before .args in
-    let l = c .before .before .before .before .before .before .loop in
-    sym (turn-unknown (a .form) (a .most) (a .s .now) (l .pending) (l .met) (l .next) (omega arith) (omega arith) (omega arith)
-    (c .before .code-of .result) (c .before .code-of .ensures) (c .if3 .taken))
-    ∙ l .inv .1
-
-add-skip-names : tie.Need-add-skip-names Inv-loop μ-loop
-add-skip-names c = omega arith
+    let a = c .before .before .before .before .before .before .before .before .before .before .args in
+    let l = c .before .before .before .before .before .before .before .loop in
+    let k = c .before .before .before .code-of in
+    c .bad3 .ensures ∙ sym (turn-unknown (a .form) (a .most) (a .s .now) (l .pending) (l .met) (l .next) (omega arith) (omega arith) (omega arith) (k .result) (k .ensures) (c .before .if3 .taken)) ∙ l .inv .1
 
 skip-names-requires : tie.Need-skip-names-requires Inv-loop μ-loop
 skip-names-requires c κs = (c .before .before .before .before .before .before .before .before .before .pre .0 .letters, omega arith)
@@ -65,14 +73,19 @@ enum-known-past c = search needs
 enum-known-number : tie.Need-enum-known-number Inv-loop μ-loop
 enum-known-number c = search needs
 
+bad-requires-4 : tie.Need-bad-requires-4 Inv-loop μ-loop
+bad-requires-4 c κs = search needs
+
 returns-4 : tie.Need-returns-4 Inv-loop μ-loop
 returns-4 c =
-    let a = c .before .before .before .before .before .before .before .before .before .before .before .before .before .args in
-    let l = c .before .before .before .before .before .before .before .before .before .before .loop in
-    sym (turn-off (a .form) (a .most) (a .s .now) (l .pending) (l .met) (l .next) (omega arith) (omega arith) (omega arith)
-    (c .before .before .before .before .before .code-of .result) (c .before .before .before .before .before .code-of .ensures) (c .before .before .before .before .if3 .left) (c .before .before .before .before .before .before .before .before .before .before .before .longest-name .result) (c .before .before .before .before .before .before .before .before .before .before .before .longest-name .ensures)
-    (c .before .before .before .skip-names .result) (c .before .before .before .skip-names .ensures)
-    _ _ (c .before .number .given .1))
+    let a = c .before .before .before .before .before .before .before .before .before .before .before .before .before .before .args in
+    let l = c .before .before .before .before .before .before .before .before .before .before .before .loop in
+    let k = c .before .before .before .before .before .before .before .code-of in
+    let long = c .before .before .before .before .before .before .before .before .before .before .before .before .longest-name in
+    let names = c .before .before .before .before .skip-names in
+    c .bad4 .ensures
+    ∙ sym (turn-off (a .form) (a .most) (a .s .now) (l .pending) (l .met) (l .next) (omega arith)
+    (omega arith) (omega arith) (k .result) (k .ensures) (c .before .before .before .before .before .if3 .left) (long .result) (long .ensures) (names .result) (names .ensures) _ _ (c .before .before .number .given .1))
     ∙ l .inv .1
 
 add-met : tie.Need-add-met Inv-loop μ-loop
@@ -85,14 +98,8 @@ add-pending : tie.Need-add-pending Inv-loop μ-loop
 add-pending c =
     let a = c .before .before .before .before .before .before .before .before .before .before .before .before .before .args in
     let l = c .before .before .before .before .before .before .before .before .before .before .loop in
-    omega (
-      arith,
-      few-parts (a .form) (a .most) (a .s .now) (l .pending) (l .met) (l .next) (omega arith) (omega arith) (omega arith)
-          (c .before .before .before .before .before .code-of .result) (c .before .before .before .before .before .code-of .ensures) (c .before .before .before .before .if3 .left) (c .before .before .before .before .before .before .before .before .before .before .before .longest-name .result) (c .before .before .before .before .before .before .before .before .before .before .before .longest-name .ensures)
-          (c .before .before .before .skip-names .result) (c .before .before .before .skip-names .ensures),
-      c .before .before .before .before .before .before .before .before .before .before .before .before .before .pre .1 .0,
-      c .before .before .before .before .before .before .before .before .before .before .before .before .before .pre .1 .1,
-    )
+    let k = c .before .before .before .before .before .before .code-of in
+    omega (arith, few-parts (a .form) (a .most) (a .s .now) (l .pending) (l .met) (l .next) (omega arith) (omega arith) (omega arith) (k .result) (k .ensures) (c .before .before .before .before .if3 .left), c .before .before .before .before .before .before .before .before .before .before .before .before .before .pre .1)
 
 loop-less : tie.Need-loop-less Inv-loop μ-loop
 loop-less c = omega arith
@@ -100,18 +107,13 @@ loop-less c = omega arith
 loop-again : tie.Need-loop-again Inv-loop μ-loop
 loop-again c =
     let a = c .before .before .before .before .before .before .before .before .before .before .before .before .before .args in
-    let l = c .before .before .before .before .before .before .before .before .before .before .loop in (
-      omega (
-        arith,
-        few-parts (a .form) (a .most) (a .s .now) (l .pending) (l .met) (l .next) (omega arith) (omega arith) (omega arith)
-            (c .before .before .before .before .before .code-of .result) (c .before .before .before .before .before .code-of .ensures) (c .before .before .before .before .if3 .left) (c .before .before .before .before .before .before .before .before .before .before .before .longest-name .result) (c .before .before .before .before .before .before .before .before .before .before .before .longest-name .ensures)
-            (c .before .before .before .skip-names .result) (c .before .before .before .skip-names .ensures),
-      ),
-      sym (turn-on (a .form) (a .most) (a .s .now) (l .pending) (l .met) (l .next) (omega arith) (omega arith) (omega arith)
-          (c .before .before .before .before .before .code-of .result) (c .before .before .before .before .before .code-of .ensures) (c .before .before .before .before .if3 .left) (c .before .before .before .before .before .before .before .before .before .before .before .longest-name .result) (c .before .before .before .before .before .before .before .before .before .before .before .longest-name .ensures)
-          (c .before .before .before .skip-names .result) (c .before .before .before .skip-names .ensures)
-          _ (c .before .past .given .1))
-          ∙ l .inv .1,
+    let l = c .before .before .before .before .before .before .before .before .before .before .loop in
+    let k = c .before .before .before .before .before .before .code-of in
+    let long = c .before .before .before .before .before .before .before .before .before .before .before .longest-name in
+    let names = c .before .before .before .skip-names in (
+      omega (arith, few-parts (a .form) (a .most) (a .s .now) (l .pending) (l .met) (l .next) (omega arith) (omega arith) (omega arith) (k .result) (k .ensures) (c .before .before .before .before .if3 .left)),
+      sym (turn-on (a .form) (a .most) (a .s .now) (l .pending) (l .met) (l .next) (omega arith)
+          (omega arith) (omega arith) (k .result) (k .ensures) (c .before .before .before .before .if3 .left) (long .result) (long .ensures) (names .result) (names .ensures) _ (c .before .past .given .1)) ∙ l .inv .1,
     )
 
 returns-5 : tie.Need-returns-5 Inv-loop μ-loop
@@ -128,15 +130,19 @@ read-row-spec =
     μ-loop
     longest-name-requires
     loop-holds
+    bad-requires
     returns
-    returns-2
+    add-after
     shared-slice-read-code-of
     code-of-requires
+    bad-requires-2
+    returns-2
+    bad-requires-3
     returns-3
-    add-skip-names
     skip-names-requires
     enum-known-past
     enum-known-number
+    bad-requires-4
     returns-4
     add-met
     sub-pending
