@@ -21,16 +21,23 @@ enum-known-number : tie.Need-enum-known-number
 enum-known-number c = search needs
 
 returns-2 : tie.Need-returns-2
-returns-2 c = let a = c .before .before .before .before .before .before .before .before .before .args in
-    λ L b m f. sym (whole-more (a .input) (a .s .now) L b m f (omega arith) (sym (c .before .before .before .before .before .read-rule .ensures (a .most .rules) (omega arith)) ∙ c .before .before .before .end .given .1) (omega arith))
+returns-2 c =
+    let a = c .before .before .before .before .before .before .before .before .before .args in
+    λ L b m f. sym (whole-more (a .input) (a .s .now) L b m f (omega arith)
+    (sym (c .before .before .before .before .before .read-rule .ensures (a .most .rules) (omega arith)) ∙ c .before .before .before .end .given .1) (omega arith))
 
 returns-3 : tie.Need-returns-3
-returns-3 c = let a = c .before .before .before .before .before .before .before .before .before .args in
-    λ L b m f. sym (whole-good (a .input) (a .s .now) L b m f (omega arith) (sym (c .before .before .before .before .before .read-rule .ensures (a .most .rules) (omega arith)) ∙ c .before .before .before .end .given .1) (octets (a .s .now) (λ i. c .before .before .before .before .before .before .before .before .shared-slice-known .given i .fits)) (omega arith))
+returns-3 c =
+    let a = c .before .before .before .before .before .before .before .before .before .args in
+    λ L b m f. sym (whole-good (a .input) (a .s .now) L b m f (omega arith)
+    (sym (c .before .before .before .before .before .read-rule .ensures (a .most .rules) (omega arith)) ∙ c .before .before .before .end .given .1)
+    (octets (a .s .now) (λ i. c .before .before .before .before .before .before .before .before .shared-slice-known .given i .fits)) (omega arith))
 
 returns-4 : tie.Need-returns-4
-returns-4 c = let a = c .before .before .before .before .before .before .before .args in
-    λ L b m f. sym (whole-bad (a .input) (a .s .now) L b m f (omega arith) (sym (c .before .before .before .read-rule .ensures (a .most .rules) (omega arith)) ∙ c .before .number .given .1))
+returns-4 c =
+    let a = c .before .before .before .before .before .before .before .args in
+    λ L b m f. sym (whole-bad (a .input) (a .s .now) L b m f (omega arith)
+    (sym (c .before .before .before .read-rule .ensures (a .most .rules) (omega arith)) ∙ c .before .number .given .1))
 
 pub check-within-spec : {M : Type 1} → statement M
 check-within-spec =

@@ -31,18 +31,26 @@ enum-known-number-2 : tie.Need-enum-known-number-2
 enum-known-number-2 c = search needs
 
 returns : tie.Need-returns
-returns c = let a = c .before .before .before .before .before .before .before .before .before .before .args in
-    let own = came (ownOf (within (a .most))) (steady-own (within (a .most))) (a .s .now) (a .from) (c .before .before .before .before .before .before .before .before .before .before .pre .1 .1) (sym (c .before .before .before .before .before .before .before .before .read-own .ensures) ∙ c .before .before .before .before .before .before .own .given .1) in
+returns c =
+    let a = c .before .before .before .before .before .before .before .before .before .before .args in
+    let own = came (ownOf (within (a .most))) (steady-own (within (a .most))) (a .s .now) (a .from)
+    (c .before .before .before .before .before .before .before .before .before .before .pre .1 .1)
+    (sym (c .before .before .before .before .before .before .before .before .read-own .ensures) ∙ c .before .before .before .before .before .before .own .given .1) in
     let linear = came (linearOf (within (a .most))) (steady-linear (within (a .most))) (a .s .now) _ (own .inside) (sym (c .before .before .before .before .read-linear .ensures) ∙ c .before .before .linear .given .1) in
     c .read-count .ensures ∙ sym (top-on (within (a .most)) (a .s .now) (a .from) own linear)
 
 returns-2 : tie.Need-returns-2
-returns-2 c = let a = c .before .before .before .before .before .before .before .before .before .args in
-    let own = came (ownOf (within (a .most))) (steady-own (within (a .most))) (a .s .now) (a .from) (c .before .before .before .before .before .before .before .before .before .pre .1 .1) (sym (c .before .before .before .before .before .before .before .read-own .ensures) ∙ c .before .before .before .before .before .own .given .1) in
+returns-2 c =
+    let a = c .before .before .before .before .before .before .before .before .before .args in
+    let own = came (ownOf (within (a .most))) (steady-own (within (a .most))) (a .s .now) (a .from)
+    (c .before .before .before .before .before .before .before .before .before .pre .1 .1)
+    (sym (c .before .before .before .before .before .before .before .read-own .ensures) ∙ c .before .before .before .before .before .own .given .1) in
     sym (top-no-linear (within (a .most)) (a .s .now) (a .from) own _ _ (sym (c .before .before .before .read-linear .ensures) ∙ c .before .number .given .1))
 
 returns-3 : tie.Need-returns-3
-returns-3 c = let a = c .before .before .before .before .before .args in sym (top-no-rule (within (a .most)) (a .s .now) (a .from) _ _ (sym (c .before .before .before .read-own .ensures) ∙ c .before .number2 .given .1))
+returns-3 c =
+    let a = c .before .before .before .before .before .args in
+    sym (top-no-rule (within (a .most)) (a .s .now) (a .from) _ _ (sym (c .before .before .before .read-own .ensures) ∙ c .before .number2 .given .1))
 
 pub read-conclusion-spec : {M : Type 1} → statement M
 read-conclusion-spec =

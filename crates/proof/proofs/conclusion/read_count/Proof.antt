@@ -21,10 +21,14 @@ past-byte-requires : tie.Need-past-byte-requires
 past-byte-requires c κs = search needs
 
 returns-2 : tie.Need-returns-2
-returns-2 c = let a = c .before .before .before .before .before .before .args in sym (count-over (a .s .now) (a .from) (omega arith) (omega arith))
+returns-2 c =
+    let a = c .before .before .before .before .before .before .args in
+    sym (count-over (a .s .now) (a .from) (omega arith) (omega arith))
 
 returns-3 : tie.Need-returns-3
-returns-3 c = let a = c .before .before .before .before .before .before .args in ap (λ q. Before q (getD (a .s .now) (a .from .next) 0)) (c .before .past-byte .ensures) ∙ sym (count-in (a .s .now) (a .from) (omega arith) (omega arith))
+returns-3 c =
+    let a = c .before .before .before .before .before .before .args in
+    ap (λ q. Before q (getD (a .s .now) (a .from .next) 0)) (c .before .past-byte .ensures) ∙ sym (count-in (a .s .now) (a .from) (omega arith) (omega arith))
 
 pub read-count-spec : {M : Type 1} → statement M
 read-count-spec =

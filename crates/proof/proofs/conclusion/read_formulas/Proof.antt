@@ -18,10 +18,14 @@ enum-known-number : tie.Need-enum-known-number
 enum-known-number c = search needs
 
 returns-2 : tie.Need-returns-2
-returns-2 c = let a = c .before .before .before .before .before .before .args in sym (row-seen (a .s .now) (a .most) (a .from) (a .n) ∙ ap (afterRules (a .from .rules)) (sym (c .before .before .before .read-row .ensures) ∙ c .before .next .given .1))
+returns-2 c =
+    let a = c .before .before .before .before .before .before .args in
+    sym (row-seen (a .s .now) (a .most) (a .from) (a .n) ∙ ap (afterRules (a .from .rules)) (sym (c .before .before .before .read-row .ensures) ∙ c .before .next .given .1))
 
 returns-3 : tie.Need-returns-3
-returns-3 c = let a = c .before .before .before .before .before .before .args in sym (row-seen (a .s .now) (a .most) (a .from) (a .n) ∙ ap (afterRules (a .from .rules)) (sym (c .before .before .before .read-row .ensures) ∙ c .before .number .given .1))
+returns-3 c =
+    let a = c .before .before .before .before .before .before .args in
+    sym (row-seen (a .s .now) (a .most) (a .from) (a .n) ∙ ap (afterRules (a .from .rules)) (sym (c .before .before .before .read-row .ensures) ∙ c .before .number .given .1))
 
 pub read-formulas-spec : {M : Type 1} → statement M
 read-formulas-spec =

@@ -14,7 +14,8 @@ past-byte-requires : tie.Need-past-byte-requires
 past-byte-requires c κs = search needs
 
 returns-2 : tie.Need-returns-2
-returns-2 c = let a = c .before .before .before .before .before .before .args in
+returns-2 c =
+    let a = c .before .before .before .before .before .before .args in
     let e = ap (λ q. q .next) (c .before .before .past-byte .ensures) in
     ap (λ p. Fault 3 p) e ∙ sym (index-cut (a .s .now) (a .from) (omega arith) (omega arith))
 
@@ -22,7 +23,8 @@ past-byte-requires-2 : tie.Need-past-byte-requires-2
 past-byte-requires-2 c κs = search needs
 
 returns-3 : tie.Need-returns-3
-returns-3 c = let a = c .before .before .before .before .before .before .before .args in
+returns-3 c =
+    let a = c .before .before .before .before .before .before .before .args in
     let e = ap (λ q. q .next) (c .before .before .before .past-byte .ensures) in
     ap To (c .past-byte2 .ensures ∙ ap pastByte (c .before .before .before .past-byte .ensures)) ∙ sym (index-in (a .s .now) (a .from) (omega arith) (omega arith))
 

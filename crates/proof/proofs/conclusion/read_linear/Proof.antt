@@ -22,10 +22,13 @@ cast-read-formulas : tie.Need-cast-read-formulas
 cast-read-formulas c = omega (arith, c .shared-slice-known2 .given (c .before .before .before .before .before .args .from .next))
 
 read-formulas-requires : tie.Need-read-formulas-requires
-read-formulas-requires c κs = (c .before .before .before .before .before .pre .0, (c .before .before .before .before .before .pre .1, omega (arith, c .shared-slice-known2 .given (c .before .before .before .before .before .args .from .next))))
+read-formulas-requires c κs =
+    let b = c .before .before .before .before .before in
+    (b .pre .0, (b .pre .1, omega (arith, c .shared-slice-known2 .given (b .args .from .next))))
 
 returns-2 : tie.Need-returns-2
-returns-2 c = let a = c .before .before .before .before .before .before .args in
+returns-2 c =
+    let a = c .before .before .before .before .before .before .args in
     c .read-formulas .ensures
     ∙ ap (λ q. seen (found (rowOf (within (a .most)) (getD (a .s .now) (a .from .next) 0)) (a .s .now) q)) (c .before .before .past-byte .ensures)
     ∙ sym (linear-in (a .s .now) (a .from) (within (a .most)) (omega arith))

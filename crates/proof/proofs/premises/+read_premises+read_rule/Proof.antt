@@ -1,13 +1,12 @@
 -- `premises::read_rule` and `premises::read_premises`, which call each other, meet their contracts: what is left of the bytes falls.
 -- In the row's loop, whatever the premises that are still to be read come to, the row comes to. Assumes nothing.
-use Prim.Native.Nat.{_+_, _-_, _*_}
+use Prim.Native.Nat.{ℕ, _+_, _-_, _*_, _<_}
 use native.Mathlib.Omega.{arith}
 use borrow.Author.Needs.{needs}
 use mathlib.Core.Path.{sym, _∙_}
 use lib.ListN.{length}
 use Rattle.proof.specs.Seen.{within}
 use Rattle.proof.proofs.Above.{topped, rule-off, rule-on, Going, going-start, going-done, going-off, going-on}
-use Prim.Native.Nat.{ℕ, _<_}
 use borrow.Fn.Kinds.{In}
 use borrow.Fn.PlainCycle.{Measures, is, falls, and}
 use Rattle.proof.proofs.premises.read_premises.Reads as read-premises
@@ -58,10 +57,14 @@ abbrev read-rule-claims : ℕ → read-rule-lts.Claims
 read-rule-claims t = (read-conclusion-reads.Asked, read-conclusion-reads.Learnt, read-premises-below t, read-premises.Post)
 
 read-premises-loop-holds : (t : ℕ) → read-premises-lts.Need-loop-holds (read-premises-claims t) (read-premises-at t) read-premises.Post read-premises-Inv-loop read-premises-μ-loop
-read-premises-loop-holds t c = let a = c .before .args in going-start (within (a .most)) (a .s .now) (a .n) (a .from) (c .before .pre .1 .1 .1)
+read-premises-loop-holds t c =
+    let a = c .before .args in
+    going-start (within (a .most)) (a .s .now) (a .n) (a .from) (c .before .pre .1 .1 .1)
 
 read-premises-read-rule-requires : (t : ℕ) → read-premises-lts.Need-read-rule-requires (read-premises-claims t) (read-premises-at t) read-premises.Post read-premises-Inv-loop read-premises-μ-loop
-read-premises-read-rule-requires t c κs = (omega (arith, c .before .before .before .pre .0, c .before .loop .inv .onward), (c .before .before .before .pre .1 .0, (c .before .before .before .pre .1 .1 .0, c .before .loop .inv .inside)))
+read-premises-read-rule-requires t c κs =
+    let b = c .before .before .before in
+    (omega (arith, b .pre .0, c .before .loop .inv .onward), (b .pre .1 .0, (b .pre .1 .1 .0, c .before .loop .inv .inside)))
 
 read-premises-enum-known-past : (t : ℕ) → read-premises-lts.Need-enum-known-past (read-premises-claims t) (read-premises-at t) read-premises.Post read-premises-Inv-loop read-premises-μ-loop
 read-premises-enum-known-past t c = search needs
@@ -70,7 +73,10 @@ read-premises-enum-known-number : (t : ℕ) → read-premises-lts.Need-enum-know
 read-premises-enum-known-number t c = search needs
 
 read-premises-returns : (t : ℕ) → read-premises-lts.Need-returns (read-premises-claims t) (read-premises-at t) read-premises.Post read-premises-Inv-loop read-premises-μ-loop
-read-premises-returns t c = let a = c .before .before .before .before .before .before .before .args in going-off (within (a .most)) (a .s .now) (a .n) (a .from) (c .before .before .before .before .before .loop .inv) (omega arith) (c .before .before .before .read-rule .result) (c .before .before .before .read-rule .ensures) (c .before .number .given .1)
+read-premises-returns t c =
+    let a = c .before .before .before .before .before .before .before .args in
+    going-off (within (a .most)) (a .s .now) (a .n) (a .from)
+    (c .before .before .before .before .before .loop .inv) (omega arith) (c .before .before .before .read-rule .result) (c .before .before .before .read-rule .ensures) (c .before .number .given .1)
 
 read-premises-sub-left : (t : ℕ) → read-premises-lts.Need-sub-left (read-premises-claims t) (read-premises-at t) read-premises.Post read-premises-Inv-loop read-premises-μ-loop
 read-premises-sub-left t c = omega arith
@@ -79,10 +85,15 @@ read-premises-loop-less : (t : ℕ) → read-premises-lts.Need-loop-less (read-p
 read-premises-loop-less t c = omega arith
 
 read-premises-loop-again : (t : ℕ) → read-premises-lts.Need-loop-again (read-premises-claims t) (read-premises-at t) read-premises.Post read-premises-Inv-loop read-premises-μ-loop
-read-premises-loop-again t c = let a = c .before .before .before .before .before .before .before .args in going-on (within (a .most)) (a .s .now) (a .n) (a .from) (c .before .before .before .before .before .loop .inv) (omega arith) (c .before .before .before .read-rule .result) (c .before .before .before .read-rule .ensures) (c .before .past .given .1)
+read-premises-loop-again t c =
+    let a = c .before .before .before .before .before .before .before .args in
+    going-on (within (a .most)) (a .s .now) (a .n) (a .from)
+    (c .before .before .before .before .before .loop .inv) (omega arith) (c .before .before .before .read-rule .result) (c .before .before .before .read-rule .ensures) (c .before .past .given .1)
 
 read-premises-returns-2 : (t : ℕ) → read-premises-lts.Need-returns-2 (read-premises-claims t) (read-premises-at t) read-premises.Post read-premises-Inv-loop read-premises-μ-loop
-read-premises-returns-2 t c = let a = c .before .before .before .args in going-done (within (a .most)) (a .s .now) (a .n) (a .from) (c .before .loop .inv) (omega arith)
+read-premises-returns-2 t c =
+    let a = c .before .before .before .args in
+    going-done (within (a .most)) (a .s .now) (a .n) (a .from) (c .before .loop .inv) (omega arith)
 
 read-rule-read-conclusion-requires : (t : ℕ) → read-rule-lts.Need-read-conclusion-requires (read-rule-claims t) (read-rule-at t) read-rule.Post
 read-rule-read-conclusion-requires t c κs = c .before .pre .1
@@ -91,20 +102,25 @@ read-rule-enum-known-reached : (t : ℕ) → read-rule-lts.Need-enum-known-reach
 read-rule-enum-known-reached t c = search needs
 
 read-rule-read-premises-requires : (t : ℕ) → read-rule-lts.Need-read-premises-requires (read-rule-claims t) (read-rule-at t) read-rule.Post
-read-rule-read-premises-requires t c κs = let a = c .before .before .before .before .before .args in
-    let w = topped (within (a .most)) (a .s .now) (a .from) (c .before .before .before .before .before .pre .1 .1 .1) (sym (c .before .before .before .read-conclusion .ensures) ∙ c .before .reached .given .1) in
+read-rule-read-premises-requires t c κs =
+    let a = c .before .before .before .before .before .args in
+    let w = topped (within (a .most)) (a .s .now) (a .from) (c .before .before .before .before .before .pre .1 .1 .1)
+    (sym (c .before .before .before .read-conclusion .ensures) ∙ c .before .reached .given .1) in
     (omega (arith, c .before .before .before .before .before .pre .0, w .ruled .further, w .inside), (c .before .before .before .before .before .pre .1 .0, (c .before .before .before .before .before .pre .1 .1 .0, w .inside)))
 
 read-rule-enum-known-number : (t : ℕ) → read-rule-lts.Need-enum-known-number (read-rule-claims t) (read-rule-at t) read-rule.Post
 read-rule-enum-known-number t c = search needs
 
 read-rule-returns : (t : ℕ) → read-rule-lts.Need-returns (read-rule-claims t) (read-rule-at t) read-rule.Post
-read-rule-returns t c = let a = c .before .before .before .before .before .before .args in
-    let w = topped (within (a .most)) (a .s .now) (a .from) (c .before .before .before .before .before .before .pre .1 .1 .1) (sym (c .before .before .before .before .read-conclusion .ensures) ∙ c .before .before .reached .given .1) in
+read-rule-returns t c =
+    let a = c .before .before .before .before .before .before .args in
+    let w = topped (within (a .most)) (a .s .now) (a .from) (c .before .before .before .before .before .before .pre .1 .1 .1)
+    (sym (c .before .before .before .before .read-conclusion .ensures) ∙ c .before .before .reached .given .1) in
     λ d h. rule-on (within (a .most)) (a .s .now) (a .from) d h w (c .read-premises .result) (c .read-premises .ensures)
 
 read-rule-returns-2 : (t : ℕ) → read-rule-lts.Need-returns-2 (read-rule-claims t) (read-rule-at t) read-rule.Post
-read-rule-returns-2 t c = let a = c .before .before .before .before .before .args in
+read-rule-returns-2 t c =
+    let a = c .before .before .before .before .before .args in
     λ d h. sym (rule-off (within (a .most)) (a .s .now) (a .from) d h (sym (c .before .before .before .read-conclusion .ensures) ∙ c .before .number .given .1))
 
 pub +read-premises+read-rule-spec : {M : Type 1} → statement M
