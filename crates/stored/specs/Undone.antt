@@ -6,23 +6,24 @@ use mathlib.Core.List.{[], _∷_, _++_, append-assoc}
 use native.Mathlib.Nat.{add-zero, zero-add}
 use native.Mathlib.Omega.{arith}
 use lib.ListN.{length, getD, take, drop, replicate, length-append, length-drop, drop-of-length-le, take-append-drop}
-use lib.Seq.{take-at, drop-at, getD-append-add, drop-append-add, drop-drop, length-take-le}
+use lib.Seq.{take-append-seam, take-at, drop-at, getD-append-add, drop-append-add, drop-drop, length-take-le}
 use lib.Dec.{ltb}
 use Rattle.rules.specs.Basic.{Bytes, if_then_else_, low-high}
-use Rattle.rules.specs.Limits.{Limits, blocksFor, outputRoom}
+use Rattle.rules.specs.Limits.{Limits, blocksFor, outputRoom, storedRoom}
 use Rattle.rules.specs.Refusal.{Outcome, good, refused, mapped}
 use Rattle.rules.specs.Term.{terms}
 use Rattle.rules.specs.Reading.{Got, bad, Met, byte, tag, tooMany, node, proofAt, ended, whole, readTerm, readProof}
 use Rattle.rules.specs.declared.Refusal.{Refusal}
 use Rattle.rules.specs.declared.Kind.{Kind}
 use Rattle.rules.specs.declared.Kind.the-variants.{Term, Proof}
-use Rattle.rules.specs.Calls.{loadCall}
+use Rattle.rules.specs.Buffers.{Wrote}
+use Rattle.rules.specs.Calls.{storeCall, loadCall}
 use Rattle.rules.specs.Stored.{kindByte, check, blockBody, block, blocks, stored, blockAt, two-bytes, lengthIn, usedIn, allZero, headWrong, openBlock, openBlocks, opened, readKind}
 use Rattle.stored.specs.Weights.{are-zeros}
 use Rattle.stored.specs.Heads.{right-head}
 use Rattle.stored.specs.Opening.{contentIn, opens-good}
 use Rattle.stored.specs.Blocks.{used-in, take-used, padded-used, length-block, length-blockBody, length-stored}
-use Rattle.stored.specs.Storing.{put, sizeWrong, right-size, read-short, load-good}
+use Rattle.stored.specs.Storing.{put, sizeWrong, right-size, read-short, store-good, load-good}
 use Rattle.stored.specs.Gathering.{joined, openBlocks-suc}
 
 -- block j of a run of blocks
@@ -177,3 +178,11 @@ module _ (L : Limits) (k : Kind) (s : Bytes) (read : readKind L k 1 s ≡ good t
 
   pub load-stored : (o : Bytes) → outputRoom L ≤ length o → loadCall L k (stored k s) o ≡ put o s
   load-stored o room = load-good L k (stored k s) o room stored-size s (stored-blocks L k s (read-some L k 1 s read) (read-short L k 1 s read)) read
+
+  -- so of the calls: what store wrote, loaded, is the content
+  pub load-undoes-store : (o o′ : Bytes) → storedRoom L ≤ length o → outputRoom L ≤ length o′
+      → loadCall L k (take (length (stored k s)) (storeCall L k s o .output)) o′ ≡ put o′ s
+  load-undoes-store o o′ room room′ =
+      ap (λ (w : Wrote ℕ). loadCall L k (take (length (stored k s)) (w .output)) o′) (store-good L k s o room read)
+      ∙ ap (λ (f : Bytes). loadCall L k f o′) (take-append-seam (stored k s) (replicate (length o - length (stored k s)) 0))
+      ∙ load-stored o′ room′
