@@ -7,7 +7,8 @@ ghost use Rattle.rules.specs.Proof.{rules as ruleCount};
 ghost use Rattle.rules.specs.Reading.{readProof};
 ghost use Rattle.rules.specs.Calls.{checkProofCall};
 use premises::read_rule;
-use reader::classes::FORMULA_CLASSES;
+use reader::Form;
+use reader::classes::table_of;
 use rules::Answer;
 use rules::MOST_BYTES;
 use rules::MOST_FORMULA_NODES;
@@ -55,7 +56,8 @@ fn check_within(s: &[u8], bytes: usize, most: Most, input: u8) -> Answer
         rules: 0,
         formulas: 0,
     };
-    match read_rule(s, &FORMULA_CLASSES, most, start) {
+    let t = table_of(Form::Formula);
+    match read_rule(s, &t, most, start) {
         Reading::To(end) => {
             if end.next < s.len() {
                 Answer::Refused(Refusal {

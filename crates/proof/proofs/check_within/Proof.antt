@@ -1,7 +1,6 @@
 -- `check_within` meets its contract: each return is a case of what a whole input is. Assumes nothing.
 use native.Mathlib.Omega.{arith}
 use mathlib.Core.Path.{sym, _∙_}
-use Rattle.reader.specs.Tables.{formula-classes}
 use Rattle.laws.specs.Octets.{octets}
 use Rattle.proof.proofs.Whole.{whole-long, whole-bad, whole-more, whole-good}
 use borrow.Author.Needs.{needs}
@@ -11,8 +10,11 @@ use Rattle.proof.proofs.check_within.Tie as tie
 returns : tie.Need-returns
 returns c = let a = c .before .before .args in λ L b m f. sym (whole-long (a .input) (a .s .now) L b m f (c .if1 .taken))
 
+table-of-requires : tie.Need-table-of-requires
+table-of-requires c κs = search needs
+
 read-rule-requires : tie.Need-read-rule-requires
-read-rule-requires c κs = (formula-classes, (c .before .before .before .pre, omega arith))
+read-rule-requires c κs = (c .before .table-of .ensures, (c .before .before .before .before .pre, omega arith))
 
 enum-known-end : tie.Need-enum-known-end
 enum-known-end c = search needs
@@ -21,21 +23,18 @@ enum-known-number : tie.Need-enum-known-number
 enum-known-number c = search needs
 
 returns-2 : tie.Need-returns-2
-returns-2 c =
-    let a = c .before .before .before .before .before .before .before .before .before .args in
+returns-2 c = let a = c .before .before .before .before .before .before .before .before .before .before .args in
     λ L b m f. sym (whole-more (a .input) (a .s .now) L b m f (omega arith)
     (sym (c .before .before .before .before .before .read-rule .ensures (a .most .rules) (omega arith)) ∙ c .before .before .before .end .given .1) (omega arith))
 
 returns-3 : tie.Need-returns-3
-returns-3 c =
-    let a = c .before .before .before .before .before .before .before .before .before .args in
+returns-3 c = let a = c .before .before .before .before .before .before .before .before .before .before .args in
     λ L b m f. sym (whole-good (a .input) (a .s .now) L b m f (omega arith)
     (sym (c .before .before .before .before .before .read-rule .ensures (a .most .rules) (omega arith)) ∙ c .before .before .before .end .given .1)
-    (octets (a .s .now) (λ i. c .before .before .before .before .before .before .before .before .shared-slice-known .given i .fits)) (omega arith))
+    (octets (a .s .now) (λ i. c .before .before .before .before .before .before .before .before .before .shared-slice-known .given i .fits)) (omega arith))
 
 returns-4 : tie.Need-returns-4
-returns-4 c =
-    let a = c .before .before .before .before .before .before .before .args in
+returns-4 c = let a = c .before .before .before .before .before .before .before .before .args in
     λ L b m f. sym (whole-bad (a .input) (a .s .now) L b m f (omega arith)
     (sym (c .before .before .before .read-rule .ensures (a .most .rules) (omega arith)) ∙ c .before .number .given .1))
 
@@ -44,6 +43,7 @@ check-within-spec =
     tie.close
     (tie.spec
     returns
+    table-of-requires
     read-rule-requires
     enum-known-end
     enum-known-number
