@@ -4,7 +4,7 @@
 ghost use mathlib.Core.Path.{_≡_};
 ghost use Rattle.rules.specs.Limits.{limits};
 ghost use Rattle.rules.specs.Refusal.{answered};
-ghost use Rattle.rules.specs.Calls.{checkTermCall, checkFormulaCall, formulaTextCall};
+ghost use Rattle.rules.specs.Calls.{checkTermCall, checkFormulaCall, formulaTextCall, freeVarsCall, substituteCall};
 ghost use Rattle.entry.specs.Told.{toldAnswer};
 use rules::Answer;
 
@@ -45,4 +45,31 @@ pub extern "C" fn patch_formula_text(formula: &[u8], out: &mut [u8], answer: &mu
     ensures { λ _. ⌜ now (out .exit) ≡ formulaTextCall limits (now (formula .entry)) (now (out .entry)) .output ⌝ }
 {
     tell(formula_text::pretty(formula, out), answer);
+}
+
+#[no_mangle]
+pub extern "C" fn patch_free_vars(term: &[u8], out: &mut [u8], answer: &mut [u64; 16])
+    ensures { λ _. ⌜ now (answer .exit) ≡ toldAnswer (answered (freeVarsCall limits (now (term .entry)) (now (out .entry)) .answer)) ⌝ }
+    ensures { λ _. ⌜ now (out .exit) ≡ freeVarsCall limits (now (term .entry)) (now (out .entry)) .output ⌝ }
+{
+    tell(free::free_vars(term, out), answer);
+}
+
+#[no_mangle]
+pub extern "C" fn patch_substitute(
+    term: &[u8],
+    name: &[u8],
+    value: &[u8],
+    out: &mut [u8],
+    scratch: &mut [u8],
+    answer: &mut [u64; 16],
+)
+    ensures { λ _. ⌜ now (answer .exit) ≡ toldAnswer (answered (substituteCall limits (now (term .entry)) (now (name .entry)) (now (value .entry)) (now (out .entry)) (now (scratch .entry)) .answer)) ⌝ }
+    ensures { λ _. ⌜ now (out .exit) ≡ substituteCall limits (now (term .entry)) (now (name .entry)) (now (value .entry)) (now (out .entry)) (now (scratch .entry)) .output ⌝ }
+    ensures { λ _. ⌜ now (scratch .exit) ≡ substituteCall limits (now (term .entry)) (now (name .entry)) (now (value .entry)) (now (out .entry)) (now (scratch .entry)) .scratch ⌝ }
+{
+    tell(
+        substitution::substitute(term, name, value, out, scratch),
+        answer,
+    );
 }

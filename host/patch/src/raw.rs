@@ -23,3 +23,5 @@ macro_rules! entry {
 entry!(check_formula = patch_check_formula(formula));
 entry!(check_term = patch_check_term(term));
 entry!(formula_text = patch_formula_text(formula) lent(out));
+entry!(free_vars = patch_free_vars(term) lent(out));
+entry!(substitute = patch_substitute(term, name, value) lent(out, scratch));
