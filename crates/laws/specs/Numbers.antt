@@ -1,8 +1,8 @@
 -- A reading is refused by no number over 7, so that the scratch is spared: by one walk through the ways in which readings are put together.
 -- Assumes nothing.
 use Prim.Native.Nat.{ℕ, zero, suc, _-_, _≤_}
-use mathlib.Core.Path.{_≡_, refl}
-use mathlib.Core.Bool.{Bool, true, false, _||_}
+use mathlib.Core.Path.{_≡_}
+use mathlib.Core.Bool.{Bool, true, false}
 use mathlib.Core.List.{[], _∷_}
 use mathlib.Core.Option.{Option, none, some}
 use native.Mathlib.Omega.{arith}
@@ -11,11 +11,11 @@ use borrow.Author.Tests.{le-leb}
 use Rattle.rules.specs.Basic.{Bytes, if_then_else_, _<?_, _≤?_, between}
 use Rattle.rules.specs.Limits.{Limits}
 use Rattle.rules.specs.declared.Refusal.{Refusal}
-use Rattle.rules.specs.Refusal.{Outcome, good, refused, refuse, sparesScratch}
-use Rattle.rules.specs.Name.{Name, nameMost, leads, follows}
+use Rattle.rules.specs.Refusal.{Outcome, good, refused, sparesScratch}
+use Rattle.rules.specs.Name.{nameMost, leads, follows}
 use Rattle.rules.specs.Layout.{Layout, headAt}
 use Rattle.rules.specs.Formula.{Formula, formulas}
-use Rattle.rules.specs.Term.{Term, terms}
+use Rattle.rules.specs.Term.{terms}
 use Rattle.rules.specs.Proof.{Proof, RuleHead, aPlain, aCut, aFocus, ruleHeads}
 use Rattle.rules.specs.Reading.{Got, got, bad, Reader, andThen, times, many, byte, byteFor, room, letters, name, tag, listed, tooMany, node, Met, ruleGot, formulaGot, countingRules, countingFormulas, ruleOf, proofAt, ended, whole, readTerm, readFormula, readProof, readName}
 

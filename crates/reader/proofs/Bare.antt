@@ -5,15 +5,15 @@ use native.Mathlib.Nat.{sub-zero}
 use native.Mathlib.Omega.{arith}
 use mathlib.Core.Path.{_≡_, refl, sym, ap, _∙_}
 use mathlib.Core.Bool.{Bool, true, false}
-use mathlib.Core.List.{[], _∷_, _++_}
+use mathlib.Core.List.{[], _∷_}
 use lib.ListN.{length, length-append}
 use borrow.Author.Tests.{le-leb, lt-leb}
 use Rattle.rules.specs.Basic.{Bytes, if_then_else_}
 use Rattle.rules.specs.Refusal.{refuse, mapped, answered}
-use Rattle.rules.specs.Name.{Name, nameMost, leads, follows}
-use Rattle.rules.specs.Reading.{Got, got, bad, Reader, andThen, pure, many, byte, byteFor, letters, ended, readName}
+use Rattle.rules.specs.Name.{nameMost, leads, follows}
+use Rattle.rules.specs.Reading.{Got, got, bad, Reader, andThen, many, byte, byteFor, letters, ended, readName}
 use Rattle.rules.specs.declared.Answer.{Answer}
-use Rattle.rules.specs.declared.Answer.the-variants.{Good, Refused}
+use Rattle.rules.specs.declared.Answer.the-variants.{Good}
 use Rattle.laws.specs.Holds.{told}
 use Rattle.laws.specs.Names.{Item, letters-sound}
 use Rattle.reader.specs.View.{Read, Whole, Bad, view}

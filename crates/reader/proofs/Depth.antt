@@ -1,14 +1,14 @@
 -- Two depths that suffice read the same: where no node may follow, both say so, and each node that was read leaves one less to follow.
 -- Assumes nothing.
-use Prim.Native.Nat.{ℕ, zero, suc, _+_, _<_, _≤_}
+use Prim.Native.Nat.{ℕ, zero, suc, _+_, _≤_}
 use native.Mathlib.Omega.{arith}
 use mathlib.Core.Path.{_≡_, refl, sym, ap, _∙_}
 use mathlib.Core.Bool.{Bool, true, false}
-use mathlib.Core.List.{List, [], _∷_}
+use mathlib.Core.List.{[], _∷_}
 use mathlib.Core.Option.{Option, none, some}
 use borrow.Author.Tests.{le-ltb}
 use Rattle.rules.specs.Basic.{Bytes, if_then_else_, _<?_}
-use Rattle.rules.specs.Layout.{Layout, Tuple, headAt}
+use Rattle.rules.specs.Layout.{Layout, headAt}
 use Rattle.rules.specs.Reading.{Got, got, bad, Reader, andThen, pure, times, byte, name, listed, tag, tooMany, node}
 use Rattle.laws.specs.Steady.{names-level, node-upward}
 

@@ -1,16 +1,16 @@
 -- What reading a name finds, by the tests that the code makes.
 -- Assumes nothing.
-use Prim.Native.Nat.{ℕ, zero, suc, _+_, _-_, _<_, _≤_}
+use Prim.Native.Nat.{ℕ, _+_, _-_, _<_, _≤_}
 use native.Mathlib.Omega.{arith}
-use mathlib.Core.Path.{_≡_, refl, sym, ap, _∙_}
-use mathlib.Core.Bool.{Bool, true, false}
-use mathlib.Core.List.{List, [], _∷_}
+use mathlib.Core.Path.{_≡_, sym, ap}
+use mathlib.Core.Bool.{true, false}
+use mathlib.Core.List.{_∷_}
 use lib.ListN.{length, getD, drop, length-drop}
 use borrow.Author.Tests.{le-leb, lt-leb}
-use Rattle.rules.specs.Basic.{Bytes, between}
+use Rattle.rules.specs.Basic.{Bytes}
 use Rattle.rules.specs.Name.{leads, follows}
-use Rattle.rules.specs.Reading.{Got, got, bad, Reader, andThen, times, many, byte, byteFor, room, letters, name}
-use Rattle.reader.specs.View.{Read, Whole, Bad, view}
+use Rattle.rules.specs.Reading.{many, byte, byteFor, room, letters, name}
+use Rattle.reader.specs.View.{Bad, view}
 use Rattle.reader.proofs.Views.{rest-in, rest-out, view-made, letter-on, letter-off}
 
 -- Its letters, up to `end`.

@@ -11,7 +11,7 @@ use Rattle.laws.specs.Steady.{steady-name, steady-times}
 use Rattle.reader.specs.Form.{Form, layoutOf}
 use Rattle.reader.specs.Classes.{codeAt}
 use Rattle.reader.specs.View.{Skip, To, Fault, Bad, view, skipped}
-use Rattle.reader.specs.Viewed.{view-bad, Passed, passed}
+use Rattle.reader.specs.Viewed.{view-bad, passed}
 use Rattle.reader.proofs.Coded.{code-none, Coded, coded}
 use Rattle.reader.proofs.Node.{node-out, node-full, node-unknown, node-off}
 use Rattle.reader.proofs.Rest.{Rest, rest-bad, rest-step}
@@ -29,14 +29,17 @@ module _ (f : Form) (most : ℕ) (s : Bytes) (c u at : ℕ) (waits : 0 < c) wher
         rest-bad (layoutOf f) most s c u at 4 at waits
         (node-unknown (layoutOf f) most s u at inside room (code-none f (headAt (layoutOf f .heads) (getD s at 0)) (sym is ∙ e)))
 
+    known : (code ≡ 0 → ⊥) → Coded f (headAt (layoutOf f .heads) (getD s at 0)) code
+    known ne = coded f (headAt (layoutOf f .heads) (getD s at 0)) code is ne
+
+    pub few-parts : (code ≡ 0 → ⊥) → code / 8 ≤ 3
+    few-parts ne = known ne .few
+
     -- a tag that is listed, and what was said of its names
     module _ (ne : code ≡ 0 → ⊥) (longest : ℕ) (long : longest ≡ layoutOf f .longest) (r : Skip)
         (says : (v : ℕ) → skipped v r ≡ view (times (name longest) (code / 2 % 4) v (at + 1) (drop (at + 1) s))) where
       k : Coded f (headAt (layoutOf f .heads) (getD s at 0)) code
-      k = coded f (headAt (layoutOf f .heads) (getD s at 0)) code is ne
-
-      pub few-parts : code / 8 ≤ 3
-      few-parts = k .few
+      k = known ne
 
       names-said : (r′ : Skip) → r ≡ r′ → view (times (name (layoutOf f .longest)) (layoutOf f .names (k .head)) (u + 1) (at + 1) (drop (at + 1) s)) ≡ skipped (u + 1) r′
       names-said r′ e =

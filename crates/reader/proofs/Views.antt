@@ -1,16 +1,15 @@
 -- What the code's answer says of a reading: it tells all but the value read and the rest. A rule for each way in which readings are put together.
 -- Assumes nothing.
-use Prim.Native.Nat.{ℕ, zero, suc, _+_, _-_, _<_, _≤_}
+use Prim.Native.Nat.{ℕ, suc, _+_, _<_, _≤_}
 use native.Mathlib.Numerals.{add-one}
-use native.Mathlib.Omega.{arith}
-use mathlib.Core.Path.{_≡_, refl, sym, ap, _∙_}
+use mathlib.Core.Path.{_≡_, refl}
 use mathlib.Core.Bool.{Bool, true, false}
-use mathlib.Core.List.{List, [], _∷_}
+use mathlib.Core.List.{[], _∷_}
 use lib.ListN.{length, getD, drop, drop-of-length-le}
 use lib.Seq.{drop-cons}
 use Rattle.rules.specs.Basic.{Bytes}
 use Rattle.rules.specs.Reading.{Got, got, bad, Reader, andThen, times, many, byte, byteFor}
-use Rattle.reader.specs.View.{Read, Whole, Bad, view}
+use Rattle.reader.specs.View.{Whole, Bad, view}
 
 -- The bytes that are left at a place.
 module _ (s : Bytes) (at : ℕ) where

@@ -2,26 +2,25 @@
 -- Assumes nothing.
 use Prim.Native.Nat.{ℕ, _+_, _<_, _≤_}
 use native.Mathlib.Omega.{arith}
-use mathlib.Core.Path.{_≡_, refl, sym, ap, _∙_}
-use mathlib.Core.List.{[], _∷_}
-use lib.ListN.{length, drop}
+use mathlib.Core.Path.{_≡_, refl, ap, _∙_}
+use lib.ListN.{length}
 use borrow.Author.Tests.{lt-ltb, le-ltb}
 use Rattle.rules.specs.Basic.{Bytes}
 use Rattle.rules.specs.Limits.{Limits}
-use Rattle.rules.specs.Refusal.{Outcome, refuse, mapped, answered}
-use Rattle.rules.specs.Reading.{Got, got, bad, node, ended, whole, readTerm, readFormula}
+use Rattle.rules.specs.Refusal.{refuse, mapped, answered}
+use Rattle.rules.specs.Reading.{got, node, ended, whole, readTerm, readFormula}
 use Rattle.rules.specs.Term.{terms, encode, nodes}
 use Rattle.rules.specs.Formula.{formulas, encodeFormula, formulaNodes}
 use Rattle.rules.specs.Legal.{Legal, LegalFormula}
 use Rattle.rules.specs.declared.Answer.{Answer}
-use Rattle.rules.specs.declared.Answer.the-variants.{Good, Refused}
+use Rattle.rules.specs.declared.Answer.the-variants.{Good}
 use Rattle.laws.specs.Holds.{told}
 use Rattle.laws.specs.WrittenTerm.{written-terms}
 use Rattle.laws.specs.WrittenFormula.{written-formulas}
 use Rattle.laws.specs.Sound.{node-sound}
 use Rattle.laws.specs.Steady.{steady-node}
 use Rattle.reader.specs.Form.{Form, Term, Formula, ItemOf, layoutOf, countOf, mostOf, readOf}
-use Rattle.reader.specs.View.{Read, Whole, Bad, view}
+use Rattle.reader.specs.View.{Whole, Bad, view}
 use Rattle.reader.specs.Viewed.{view-bad, Passed, passed}
 use Rattle.reader.proofs.Views.{rest-in, rest-out}
 

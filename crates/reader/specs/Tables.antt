@@ -4,7 +4,7 @@ use Prim.Native.Nat.{ℕ, zero, suc, _+_, _/_, _%_, _<_}
 use native.Mathlib.Nat.{add-zero, zero-add, add-suc, suc-add, le-of-suc-le-suc, not-suc-le-zero}
 use mathlib.Core.Path.{_≡_, refl, sym, ap, _∙_}
 use mathlib.Core.Bool.{Bool, true, false, not, _&&_}
-use mathlib.Core.List.{List, [], _∷_}
+use mathlib.Core.List.{[], _∷_}
 use lib.ListN.{length, getD, replicate}
 use lib.Seq.{sets}
 use borrow.Author.Tests.{eqb-true}
@@ -14,7 +14,7 @@ use Rattle.rules.specs.Layout.{Layout, headAt}
 use Rattle.rules.specs.Term.{terms}
 use Rattle.rules.specs.Formula.{formulas}
 use Rattle.laws.specs.Same.{both-true}
-use Rattle.reader.specs.Form.{Form, layoutOf, Term, Formula}
+use Rattle.reader.specs.Form.{layoutOf, Term, Formula}
 use Rattle.reader.specs.Classes.{Letters, Classes, codeAt}
 
 -- digits, letters and `_`

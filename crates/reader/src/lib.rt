@@ -1,15 +1,14 @@
 // Reads encoded terms, formulas and bare names: accepted with a count, or refused by number and place.
 ghost use mathlib.Core.Path.{_≡_};
-ghost use Prim.Native.Nat.{ℕ, _≤_};
+ghost use Prim.Native.Nat.{_≤_};
 ghost use lib.ListN.{length};
 ghost use Rattle.rules.specs.Limits.{Limits, limits};
 ghost use Rattle.rules.specs.Refusal.{refuse, mapped, answered};
 ghost use Rattle.rules.specs.Term.{nodes as nodeCount};
 ghost use Rattle.rules.specs.Formula.{formulaNodes};
-ghost use Rattle.rules.specs.Reading.{node, readTerm, readFormula, readName};
+ghost use Rattle.rules.specs.Reading.{readTerm, readFormula, readName};
 ghost use Rattle.rules.specs.Calls.{checkTermCall, checkFormulaCall};
-ghost use Rattle.reader.specs.Form.{layoutOf, countOf, mostOf, readOf};
-ghost use Rattle.reader.specs.View.{view};
+ghost use Rattle.reader.specs.Form.{countOf, mostOf, readOf};
 use classes::letter_table;
 use classes::table_of;
 use names::Skip;

@@ -3,7 +3,6 @@ use Prim.Native.Nat.{ℕ, zero, suc, _+_, _-_, _*_, _/_, _%_, _≤_, _<_}
 use mathlib.Core.Path.{_≡_, refl, sym, ap, _∙_}
 use mathlib.Core.Bool.{Bool, true, false}
 use mathlib.Core.List.{[], _∷_, _++_, append-assoc, append-nil}
-use native.Mathlib.Nat.{add-zero}
 use native.Mathlib.Numerals.{add-one}
 use native.Mathlib.Omega.{arith}
 use lib.Dec.{ltb}
@@ -14,19 +13,12 @@ use Rattle.rules.specs.Basic.{Bytes, if_then_else_, low-high}
 use Rattle.rules.specs.Limits.{blocksFor}
 use Rattle.rules.specs.declared.Kind.{Kind}
 use Rattle.rules.specs.Stored.{kindByte, usedIn, padded, allZero, check, blockBody, block, blocks, stored}
-use Rattle.runs.specs.Wrote.{Wrote}
+use Rattle.runs.specs.Writing.{sets-app}
 use Rattle.stored.specs.Weights.{are-zeros}
 use Rattle.stored.specs.Opening.{used-le}
 use Rattle.stored.specs.Writing.{PutBody}
 
--- one run of bytes after the other
-pub sets-append : (l : Bytes) (i : ℕ) (xs ys : Bytes) → sets l i (xs ++ ys) ≡ sets (sets l i xs) (i + length xs) ys
-sets-append l i [] ys = ap (λ (k : ℕ). sets l k ys) (sym (add-zero i))
-sets-append l i (x ∷ xs) ys =
-    let e : suc i + length xs ≡ i + suc (length xs) = omega arith in
-    sets-append (set l i x) (suc i) xs ys ∙ ap (λ (k : ℕ). sets (sets (set l i x) (suc i) xs) k ys) e
-
--- all of it
+-- all of a list is written
 pub sets-whole : (l vs : Bytes) → length vs ≡ length l → sets l 0 vs ≡ vs
 sets-whole l vs h =
     sets-eq vs l 0 (omega arith)
@@ -82,9 +74,9 @@ module _ (head xs b : Bytes) (four : length head ≡ 4) (few : length xs ≤ 506
       let z : zs ≡ replicate (506 - u) 0 ++ (0 ∷ 0 ∷ []) = ap {B = Bytes} (λ (k : ℕ). replicate k 0) n ∙ sym (replicate-append-replicate (506 - u) 2 0) in
       let l : length (head ++ (xs ++ zs)) ≡ length b = simp (length-append, length-replicate) (omega arith) in
       sym
-      (sets-append b 0 head (xs ++ zs)
+      (sets-app head (xs ++ zs) b 0
       ∙ ap (λ (k : ℕ). sets (sets b 0 head) (0 + k) (xs ++ zs)) four
-      ∙ sets-append (sets b 0 head) 4 xs zs)
+      ∙ sets-app xs zs (sets b 0 head) 4)
       ∙ sets-whole b (head ++ (xs ++ zs)) l
       ∙ ap (λ (r : Bytes). head ++ (xs ++ r)) z
       ∙ ap (λ (r : Bytes). head ++ r) (sym (append-assoc xs (replicate (506 - u) 0) (0 ∷ 0 ∷ [])))
@@ -199,20 +191,6 @@ module _ (k : Kind) (s out ys all : Bytes) (i many at : ℕ) (more : i < many) (
       ap (λ (r : Bytes). sets r (at + 512) (blocks k (i + 1) (many - (i + 1)) s)) (middle-is ∙ ap (sets out at) new)
       ∙ ap (λ (n : ℕ). sets (sets out at (block k i s)) (at + 512) (blocks k n (many - (i + 1)) s)) (add-one i)
       ∙ ap (λ (n : ℕ). sets (sets out at (block k i s)) (at + n) (blocks k (suc i) (many - (i + 1)) s)) (sym (length-block k i s))
-      ∙ sym (sets-append out at (block k i s) (blocks k (suc i) (many - (i + 1)) s))
+      ∙ sym (sets-app (block k i s) (blocks k (suc i) (many - (i + 1)) s) out at)
       ∙ sym (ap (λ (n : ℕ). sets out at (blocks k i n s)) q)
       ∙ e
-
--- bytes at the start of a buffer, then zeros
-pub filled-by : {out s out₁ out₂ : Bytes} {past : ℕ} → Wrote out 0 s out₁ past → length s ≤ length out → out₂ ≡ sets out₁ past (replicate (length out₁ - past) 0)
-    → out₂ ≡ s ++ replicate (length out - length s) 0
-filled-by {out} {s} {out₁} {out₂} {past} w h e =
-    let l : length out₁ ≡ length out = ap length (w .holds) ∙ length-sets out 0 s in
-    let p : length out₁ - past ≡ length out - length s = omega (arith, w .ends) in
-    let zs : Bytes = replicate (length out - length s) 0 in
-    e
-    ∙ ap (λ (n : ℕ). sets out₁ past (replicate n 0)) p
-    ∙ ap (λ (n : ℕ). sets out₁ n zs) (w .ends)
-    ∙ ap (λ (b : Bytes). sets b (0 + length s) zs) (w .holds)
-    ∙ sym (sets-append out 0 s zs)
-    ∙ sets-whole out (s ++ zs) (simp (length-append, length-replicate) (omega arith))

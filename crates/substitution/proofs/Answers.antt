@@ -1,6 +1,6 @@
 -- The public call by its tests: short buffers, the readers in their order, then the work. Assumes nothing.
 use Prim.Native.Nat.{ℕ, _≤_, _<_}
-use mathlib.Core.Path.{_≡_, refl, sym, ap, _∙_}
+use mathlib.Core.Path.{_≡_, refl, ap, _∙_}
 use mathlib.Core.Bool.{Bool, true, false}
 use native.Mathlib.Omega.{arith}
 use lib.ListN.{length, replicate}
@@ -10,9 +10,9 @@ use Rattle.rules.specs.Limits.{limits}
 use Rattle.rules.specs.declared.Refusal.{Refusal}
 use Rattle.rules.specs.Refusal.{Outcome, good, refused, refuse, answered, sparesScratch}
 use Rattle.rules.specs.declared.Answer.{Answer}
-use Rattle.rules.specs.declared.Answer.the-variants.{Good, Refused}
+use Rattle.rules.specs.declared.Answer.the-variants.{Refused}
 use Rattle.rules.specs.Name.{Name, nameMost}
-use Rattle.rules.specs.Term.{Term, encode, nodes, fits}
+use Rattle.rules.specs.Term.{Term, fits}
 use Rattle.rules.specs.Substitution.{subst}
 use Rattle.rules.specs.Reading.{readTerm, readName}
 use Rattle.rules.specs.Buffers.{bytesOr, cleared}
@@ -20,7 +20,6 @@ use Rattle.rules.specs.Calls.{grown, substituted, substituteCall}
 use Rattle.laws.specs.Names.{name-long}
 use Rattle.laws.specs.Decoding.{term-sound, bare-name-sound}
 use Rattle.laws.specs.Numbers.{term-spares, name-spares}
-use Rattle.substitution.specs.declared.Inputs.{Inputs}
 use Rattle.substitution.specs.declared.Inputs.the-variants.{Read, Refused as Bad}
 use Rattle.substitution.specs.Work.{inputs, Job, Done}
 

@@ -1,9 +1,9 @@
 -- A turn of the walk that keeps places: the first term of the row is hidden, is the variable, has no parts, is the last, or is gone into.
 -- Assumes nothing.
-use Prim.Native.Nat.{ℕ, zero, suc, _+_, _-_, _*_, _/_, _%_, _<_, _≤_}
+use Prim.Native.Nat.{ℕ, _+_, _-_, _*_, _/_, _%_, _<_, _≤_}
 use mathlib.Core.Path.{_≡_, refl, sym, ap, _∙_}
 use mathlib.Core.Bool.{Bool, true, false}
-use mathlib.Core.List.{List, [], _∷_, _++_, append-nil, append-assoc}
+use mathlib.Core.List.{List, [], _∷_, _++_, append-nil}
 use native.Mathlib.Nat.{mul-add}
 use native.Mathlib.Omega.{arith}
 use lib.ListN.{length, length-append}
@@ -14,7 +14,7 @@ use Rattle.rules.specs.Term.{Term, encode, size, parts}
 use Rattle.rules.specs.Free.{occurrences}
 use Rattle.laws.specs.SubstSize.{occurrences-bytes}
 use Rattle.runs.specs.Wrote.{Wrote}
-use Rattle.walk.specs.Node.{head, encodeAll, isVar, hides, hidden}
+use Rattle.walk.specs.Node.{head, encodeAll, hides, hidden}
 use Rattle.walk.specs.Place.{TermAt, TermsAt}
 use Rattle.walk.specs.Seen.{Seen}
 use Rattle.walk.specs.declared.Node.{Node}
@@ -63,7 +63,7 @@ pub record Going (s : Bytes) (at n mask : ℕ) (x : Name) (out₀ : Bytes) (to :
 pub begin : (s : Bytes) (at n mask : ℕ) (x : Name) (out : Bytes) (to : ℕ) → Some s at n → to + (length s - at) ≤ length out → Going s at n mask x out to out at n mask to
 begin s at n mask x out to a h = record { some = a; past = omega arith; room = h; same = refl; rest = λ next past out′ f. f }
 
-module _ (s : Bytes) (at n mask : ℕ) (x : Name) (out₀ : Bytes) (to : ℕ) (out : Bytes) (i left hide o : ℕ) (g : Going s at n mask x out₀ to out i left hide o) where
+module _ {s : Bytes} {at n mask : ℕ} {x : Name} {out₀ : Bytes} {to : ℕ} {out : Bytes} {i left hide o : ℕ} (g : Going s at n mask x out₀ to out i left hide o) where
   pub done : left ≡ 0 → FindIs s at n mask x out₀ to i o out
   done z = g .rest i o out (find-none s i left hide x out o z)
 

@@ -1,10 +1,9 @@
 -- Substitution and places by head and parts: a node that is not the variable keeps its head, and what is covered of its parts.
 -- Assumes nothing.
-use Prim.Native.Nat.{ℕ, _+_, _/_, _%_}
+use Prim.Native.Nat.{ℕ, _+_, _/_}
 use mathlib.Core.Path.{_≡_, refl, sym, ap, _∙_}
 use mathlib.Core.Bool.{Bool, true, false, _||_}
 use mathlib.Core.List.{List, [], _∷_, _++_, append-nil}
-use native.Mathlib.Nat.{add-zero}
 use native.Mathlib.Omega.{arith}
 use lib.ListN.{length, length-append}
 use Rattle.rules.specs.Basic.{Bytes, if_then_else_}
@@ -14,7 +13,7 @@ use Rattle.rules.specs.Substitution.{subst}
 use Rattle.rules.specs.Free.{occurrences}
 use Rattle.laws.specs.Same.{same-equal}
 use Rattle.walk.specs.Node.{head, encodeAll, isVar, hides, hidden}
-use Rattle.walk.proofs.Terms.{apart, apart-size}
+use Rattle.walk.proofs.Terms.{apart}
 use Rattle.substitution.specs.Places.{places, placesAll}
 
 never : false ≡ true → ⊥

@@ -4,7 +4,6 @@ use Prim.Native.Nat.{ℕ, _+_, _-_, _/_, _≤_}
 use mathlib.Core.Path.{_≡_, refl, sym, ap, _∙_}
 use mathlib.Core.Bool.{Bool, true, false}
 use mathlib.Core.List.{List, [], _∷_, _++_, append-nil, append-assoc}
-use native.Mathlib.Nat.{add-zero}
 use native.Mathlib.Omega.{arith}
 use lib.ListN.{length, drop, length-append}
 use lib.Seq.{slice, slice-empty}
@@ -14,7 +13,7 @@ use Rattle.rules.specs.Term.{Term, var, leaf, one, two, abs, both, branch, enco
 use Rattle.rules.specs.Substitution.{subst}
 use Rattle.walk.specs.Node.{head, encodeAll, isVar, hides, hidden}
 use Rattle.walk.specs.Place.{TermAt, TermsAt}
-use Rattle.walk.proofs.Terms.{apart, apart-size, at-parts, first, others, whole}
+use Rattle.walk.proofs.Terms.{apart, at-parts, first, others, whole}
 use Rattle.substitution.specs.Places.{places, placesAll}
 use Rattle.substitution.specs.Spliced.{spliced, Spaced}
 use Rattle.substitution.proofs.Writes.{slice-split, slice-is}

@@ -1,9 +1,9 @@
 -- A turn of the loop that splices: a run of bytes, then the value. Assumes nothing.
-use Prim.Native.Nat.{ℕ, zero, suc, _+_, _-_, _*_, _/_, _%_, _<_, _≤_}
+use Prim.Native.Nat.{ℕ, _+_, _-_, _*_, _/_, _%_, _<_, _≤_}
 use mathlib.Core.Path.{_≡_, refl, sym, ap, _∙_}
 use mathlib.Core.List.{List, [], _∷_, _++_}
 use native.Mathlib.Omega.{arith}
-use lib.ListN.{length, drop, getD, length-append}
+use lib.ListN.{length, getD, length-append}
 use lib.Seq.{slice, length-slice, take-length}
 use Rattle.rules.specs.Basic.{Bytes, low-high}
 use Rattle.runs.specs.Wrote.{Wrote}
@@ -58,7 +58,7 @@ module _ (s kps : Bytes) (gap : ℕ) (v : Bytes) (k i : ℕ) (out : Bytes) (o : 
         room = omega (arith, w .room, length-append (slice i p s) (v ++ spliced s v gap (p + gap) ps (length s)), length-append v (spliced s v gap (p + gap) ps (length s)), length-slice i p s (omega (arith, e)));
       }
 
-module _ (s kps : Bytes) (gap : ℕ) (v out₀ : Bytes) (to : ℕ) (out : Bytes) (i k o : ℕ) (g : Going s kps gap v out₀ to out i k o) where
+module _ {s kps : Bytes} {gap : ℕ} {v out₀ : Bytes} {to : ℕ} {out : Bytes} {i k o : ℕ} (g : Going s kps gap v out₀ to out i k o) where
   module _ (l : k < length kps) (q : ℕ) (eq : q ≡ getD kps k 0 + 256 * getD kps (k + 1) 0) where
     -- bounds of the turn
     pub record Bounds : Type 0 where

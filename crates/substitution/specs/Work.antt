@@ -3,13 +3,13 @@ use Prim.Native.Nat.{ℕ, _≤_}
 use mathlib.Core.Path.{_≡_}
 use lib.ListN.{length, replicate}
 use Rattle.rules.specs.Basic.{Bytes}
-use Rattle.rules.specs.Limits.{Limits, limits, outputRoom}
+use Rattle.rules.specs.Limits.{limits, outputRoom}
 use Rattle.rules.specs.Refusal.{Outcome, good, refused, answered}
 use Rattle.rules.specs.declared.Answer.{Answer}
 use Rattle.rules.specs.Name.{Name, nameMost}
 use Rattle.rules.specs.Term.{Term, encode, nodes}
 use Rattle.rules.specs.Substitution.{subst}
-use Rattle.rules.specs.Buffers.{Ending, bytesOr, filled}
+use Rattle.rules.specs.Buffers.{bytesOr, filled}
 use Rattle.rules.specs.Calls.{grown}
 use Rattle.laws.specs.Decoding.{TermIn}
 use Rattle.substitution.specs.declared.Inputs.{Inputs}

@@ -37,7 +37,7 @@ fn read_inputs(term: &[u8], name: &[u8], value: &[u8]) -> Inputs
     }
 }
 
-// The answer of a call that is refused whatever its inputs are: by 1 or by 8.
+// A refusal that is about no one input: 1 or 8.
 fn refused(number: u8) -> Answer
     ensures { λ r. ⌜ r ≡ answered (refuse number 0 0) ⌝ }
 {

@@ -28,7 +28,7 @@ pub struct Found {
 }
 
 // Keeps from `to` on where `name` is free in the n terms at `at`, but for those that the mask hides.
-// It calls itself on the parts of each term; those of the last take that term's place in the row.
+// It calls itself on the parts of each term; the last term's call would be its last act, so its parts take the row's place instead.
 fn find(
     s: &[u8],
     at: usize,
@@ -47,27 +47,24 @@ fn find(
     let mut hide = mask;
     let mut o = to;
     while 0 < left {
-        if hide % 2 == 1 {
+        let hidden = hide % 2;
+        left -= 1;
+        hide = hide / 2;
+        if hidden == 1 {
             i = walk::skip(s, i, 1);
-            left -= 1;
-            hide = hide / 2;
             continue;
         }
         let node = walk::look(s, i, name);
         if node.is {
             o = keep(places, o, i);
             i = node.start;
-            left -= 1;
-            hide = hide / 2;
             continue;
         }
         if node.parts == 0 {
             i = node.start;
-            left -= 1;
-            hide = hide / 2;
             continue;
         }
-        if left == 1 {
+        if left == 0 {
             i = node.start;
             left = node.parts;
             hide = node.hides;
@@ -76,8 +73,6 @@ fn find(
         let f = find(s, node.start, node.parts, node.hides, name, places, o);
         i = f.next;
         o = f.to;
-        left -= 1;
-        hide = hide / 2;
     }
     Found { next: i, to: o }
 }

@@ -1,15 +1,14 @@
 -- What a look at a node is to tell, by how many names and parts the tag has: each count leaves one or two shapes of terms.
 -- Assumes nothing.
-use Prim.Native.Nat.{ℕ, suc, _+_, _-_, _<_, _≤_}
+use Prim.Native.Nat.{ℕ, suc, _+_, _-_}
 use mathlib.Core.Path.{_≡_, refl, sym, ap, _∙_}
-use mathlib.Core.Bool.{Bool, true, false, _||_}
-use mathlib.Core.List.{List, [], _∷_, _++_, append-nil}
+use mathlib.Core.Bool.{Bool, false, _||_}
+use mathlib.Core.List.{List, [], _∷_}
 use native.Mathlib.Omega.{arith}
-use lib.ListN.{length, getD, drop, length-append}
+use lib.ListN.{length, getD, length-append}
 use Rattle.rules.specs.Basic.{if_then_else_, _==_}
 use Rattle.rules.specs.Name.{Name, same, encodeName, encodeNames}
 use Rattle.rules.specs.Term.{Term, var, leaf, one, two, abs, both, branch, parts}
-use Rattle.walk.specs.declared.Node.{Node}
 use Rattle.walk.specs.Node.{names, head, isVar, hides, namesAfter, partsAfter}
 use Rattle.walk.specs.Place.{TermAt, NameAt, NamesAt}
 use Rattle.walk.specs.Seen.{Seen}

@@ -1,13 +1,14 @@
 -- Eight bytes that are stored, of which the first n count: what stands before them is kept, and printing goes on after the n.
 -- Assumes nothing.
 use Prim.Native.Nat.{ℕ, suc, _+_, _-_, _≤_}
-use mathlib.Core.Path.{_≡_, sym, ap, _∙_}
+use mathlib.Core.Path.{_≡_, refl, sym, ap, _∙_}
 use mathlib.Core.List.{List, [], _∷_, _++_, append-assoc}
 use native.Mathlib.Nat.{add-zero}
 use native.Mathlib.Omega.{arith}
-use lib.ListN.{length, getD, take, drop, set, length-drop}
+use lib.ListN.{length, getD, take, drop, set, length-append, length-drop}
 use lib.Seq.{sets, sets-eq, length-sets, length-take-le, take-append-add, take-append-le, take-add, take-take, take-length, drop-cons, drop-drop, drop-at, slice, length-slice}
 use Rattle.runs.specs.Wrote.{Wrote}
+use Rattle.words.specs.Steps.{chain}
 use Rattle.words.specs.Prints.{Prints}
 
 pub stores : (out : List ℕ) (to a b c d e f g h : ℕ)
@@ -108,3 +109,23 @@ exact s out out′ i to n past fits room w =
     let p = prints out (slice i (i + n) s) to n (omega arith) (omega arith) out′ (w .holds) in
     let q : to + n ≡ past = omega (arith, w .ends) in
     rw (← q) (rw (ap (λ (m : ℕ). take m (slice i (i + n) s)) (sym k) ∙ take-length (slice i (i + n) s) ∙ e) at p)
+
+-- fewer of what was printed
+pub fewer : {out : List ℕ} {to : ℕ} {xs o : List ℕ} {p : ℕ} (n : ℕ) → n ≤ length xs → to ≤ length out → Prints out to xs o p → Prints out to (take n xs) o (to + n)
+fewer {out} {to} {xs} {o} {p} n h room a =
+    let k : length (take to out) ≡ to = length-take-le to out room in
+    record {
+      long = a .long;
+      ends = ap (λ (m : ℕ). to + m) (sym (length-take-le n xs h));
+      holds =
+          sym (take-take (to + n) p o (omega (arith, a .ends))) ∙ ap (take (to + n)) (a .holds)
+          ∙ ap (λ (m : ℕ). take (m + n) (take to out ++ xs)) (sym k) ∙ take-append-add (take to out) xs n;
+    }
+
+-- eight bytes and a space
+pub with-space : (out xs o : List ℕ) (to p n : ℕ) → length xs ≡ 8 → n ≤ 9 → to + 9 ≤ length out → Prints out to xs o p → Prints out to (take n (xs ++ 32 ∷ [])) (set o (to + 8) 32) (to + n)
+with-space out xs o to p n l h room a =
+    let q : p ≡ to + 8 = omega (arith, a .ends) in
+    let b : Prints o p (32 ∷ []) (set o p 32) (p + 1) = prints o (32 ∷ []) p 1 (omega arith) (omega (arith, a .long)) (set o p 32) refl in
+    let c : Prints out to (xs ++ 32 ∷ []) (set o p 32) (p + 1) = chain a b in
+    rw (← q) (fewer n (omega (arith, length-append xs (32 ∷ []))) (omega arith) c)

@@ -2,3 +2,4 @@ pub mod Prints
 pub mod Task
 pub mod Steps
 pub mod Ends
+pub mod Call

@@ -109,6 +109,13 @@ no-more {e = e} t = rw (append-nil e) t
 pub no-more-done : {at : ℕ} {out : List ℕ} {to : ℕ} (e : List ℕ) {x o : List ℕ} {r : ℕ} → Done at out to (e ++ []) x o r → Done at out to e x o r
 no-more-done e d = rw (append-nil e) at d
 
+-- the same text
+pub told : {s : List ℕ} {at : ℕ} {out : List ℕ} {to : ℕ} {e x x′ : List ℕ} → x ≡ x′ → Task s at out to e x → Task s at out to e x′
+told q t = rw (← q) t
+
+pub told-done : {at : ℕ} {out : List ℕ} {to : ℕ} {e x x′ o : List ℕ} {r : ℕ} → x ≡ x′ → Done at out to e x o r → Done at out to e x′ o r
+told-done q d = rw (← q) d
+
 -- The name x stands in s at `at`, as its length and itself.
 pub record Named (s : List ℕ) (at : ℕ) (x : Name) : Type 0 where
   pub long : getD s at 0 ≡ length x

@@ -1,6 +1,6 @@
 // Bytes written to the output: words and names, eight bytes at a time. What is written too much is written over by what follows.
 ghost use mathlib.Core.Path.{_≡_};
-ghost use mathlib.Core.List.{[], _∷_};
+ghost use mathlib.Core.List.{[], _∷_, _++_};
 ghost use Prim.Native.Nat.{_+_, _-_, _≤_, _<_};
 ghost use lib.ListN.{length, getD, take, drop};
 ghost use lib.Seq.{sets};
@@ -81,6 +81,35 @@ pub fn name(s: &[u8], at: usize, out: &mut [u8], to: usize) -> usize
         return to + n;
     }
     runs::copy(s, from, from + n, out, to)
+}
+
+// A name, then the first n bytes of a word.
+pub fn named(s: &[u8], at: usize, out: &mut [u8], to: usize, w: &[u8; 8], n: usize) -> usize
+    requires { ⌜ (getD (now s) at 0 ≤ 24) × (at + 1 + getD (now s) at 0 ≤ length (now s)) × (to + 24 ≤ length (now out)) ⌝ }
+    requires { ⌜ (n ≤ 8) × (to + getD (now s) at 0 + 8 ≤ length (now out)) × (length (now w) ≡ 8) ⌝ }
+    ensures { λ r. ⌜ Prints (now (out .entry)) to (take (getD (now (s .entry)) at 0) (drop (at + 1) (now (s .entry))) ++ take n (now (w .entry))) (now (out .exit)) r ⌝ }
+{
+    let o = name(s, at, out, to);
+    word(out, o, w, n)
+}
+
+// The place after a name.
+pub fn past(s: &[u8], at: usize) -> usize
+    requires { ⌜ at + 1 + getD (now s) at 0 ≤ length (now s) ⌝ }
+    ensures { λ r. ⌜ r ≡ at + 1 + getD (now (s .entry)) at 0 ⌝ }
+{
+    let n = s[at] as usize;
+    at + 1 + n
+}
+
+// The first n of the eight bytes of a number and a space.
+pub fn spaced(out: &mut [u8], to: usize, w: u64, n: usize) -> usize
+    requires { ⌜ (n ≤ 9) × (to + 9 ≤ length (now out)) ⌝ }
+    ensures { λ r. ⌜ Prints (now (out .entry)) to (take n (eight w ++ 32 ∷ [])) (now (out .exit)) r ⌝ }
+{
+    number(out, to, w, 8);
+    out[to + 8] = 32;
+    to + n
 }
 
 pub fn byte(out: &mut [u8], to: usize, b: u8) -> usize

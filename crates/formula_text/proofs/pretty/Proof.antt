@@ -4,7 +4,7 @@ use native.Mathlib.Omega.{arith}
 use denote.Ref.{now}
 use Rattle.rules.specs.declared.Answer.the-variants.{Good}
 use Rattle.words.specs.Ends.{whole-long, whole-room, whole}
-use Rattle.formula_text.proofs.Whole.{short, no-formula, good-formula, read, few, size, task}
+use Rattle.formula_text.proofs.Whole.{short, not-read, was-read, read, few, size, task}
 use borrow.Author.Needs.{needs}
 use Rattle.formula_text.proofs.pretty.Statement.{statement}
 use Rattle.formula_text.proofs.pretty.Tie as tie
@@ -48,11 +48,11 @@ returns-2 c =
     let f = read s o h (sym (c .before .before .before .before .before .before .before .before .before .before .check-formula .ensures) ∙ c .before .before .before .before .before .before .before .before .enum-told .given .1) in
     let d = c .before .before .before .before .before .before .node .ensures (f .value) (task s o h (f .value) (f .is)) in
     let z = size s o h (f .value) (f .is) in
-    let g = good-formula s o h (f .value) (f .is) in
+    let g = was-read s o h (f .value) (f .is) in
     (ap Good (whole-long d z) ∙ g .0, whole d z (omega (arith, few s o h (f .value) (f .is))) (c .before .before .clear .ensures) ∙ g .1)
 
 returns-3 : tie.Need-returns-3
-returns-3 c = no-formula (now (c .before .before .before .before .before .before .before .args .formula)) (now (c .before .before .before .before .before .before .before .args .out)) (c .before .before .before .before .if1 .left) _ (sym (c .before .before .before .check-formula .ensures) ∙ c .before .r .given .1)
+returns-3 c = not-read (now (c .before .before .before .before .before .before .before .args .formula)) (now (c .before .before .before .before .before .before .before .args .out)) (c .before .before .before .before .if1 .left) _ (sym (c .before .before .before .check-formula .ensures) ∙ c .before .r .given .1)
 
 pub pretty-spec : {M : Type 1} → statement M
 pretty-spec =

@@ -5,7 +5,7 @@ use native.Mathlib.Omega.{arith}
 use lib.Seq.{length-take-le}
 use denote.Ref.{now}
 use Rattle.rules.specs.declared.Answer.the-variants.{Good}
-use Rattle.stored.specs.Blocks.{filled-by}
+use Rattle.runs.specs.Writing.{filled-up}
 use borrow.Author.Needs.{needs}
 use Rattle.stored.proofs.put_first.Statement.{statement}
 use Rattle.stored.proofs.put_first.Tie as tie
@@ -28,7 +28,7 @@ returns c =
     let w = c .before .before .before .before .before .before .copy .ensures in
     let n = length-take-le (s .args .size) (now (s .args .s)) (s .pre .0) in
     record {
-      output = filled-by w (omega (arith, n, s .pre)) (c .before .before .clear .ensures);
+      output = filled-up w (c .before .before .clear .ensures) (omega (arith, n, s .pre));
       answer = ap Good (w .ends ∙ zero-add _);
     }
 

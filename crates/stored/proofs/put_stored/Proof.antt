@@ -4,7 +4,8 @@ use native.Mathlib.Nat.{zero-add}
 use native.Mathlib.Omega.{arith}
 use denote.Ref.{now}
 use Rattle.rules.specs.declared.Answer.the-variants.{Good}
-use Rattle.stored.specs.Blocks.{length-stored, filled-by}
+use Rattle.stored.specs.Blocks.{length-stored}
+use Rattle.runs.specs.Writing.{filled-up}
 use borrow.Author.Needs.{needs}
 use Rattle.stored.proofs.put_stored.Statement.{statement}
 use Rattle.stored.proofs.put_stored.Tie as tie
@@ -27,7 +28,7 @@ returns c =
     let p = c .before .before .before .before .before .before .put-blocks in
     let l = length-stored (s .args .kind) (now (s .args .content)) in
     record {
-      output = filled-by (p .ensures) (omega (arith, l, s .pre)) (c .before .before .clear .ensures);
+      output = filled-up (p .ensures) (c .before .before .clear .ensures) (omega (arith, l, s .pre));
       answer = ap Good (p .ensures .ends ∙ zero-add _);
     }
 

@@ -1,5 +1,5 @@
 -- `substitution::read_inputs` meets its contract: each answer of a reader says what it read. Assumes nothing.
-use mathlib.Core.Path.{_≡_, refl, sym, _∙_}
+use mathlib.Core.Path.{sym, _∙_}
 use lib.ListN.{length}
 use denote.Ref.{now}
 use Rattle.rules.specs.Limits.{limits}

@@ -1,5 +1,4 @@
 -- `substitution::replace` meets its contract: the sizes are those of the result, and the splice is the result. Assumes nothing.
-use native.Mathlib.Omega.{arith}
 use Rattle.substitution.proofs.Works.{growth, kept-within, splice-left, end-within, done, outgrown}
 use borrow.Author.Needs.{needs}
 use Rattle.substitution.proofs.replace.Statement.{statement}

@@ -1,5 +1,5 @@
 -- `substitution::substitute` meets its contract, by its tests in the order of document 01. Assumes nothing.
-use mathlib.Core.Path.{_≡_, sym, _∙_}
+use mathlib.Core.Path.{sym, _∙_}
 use denote.Ref.{now}
 use Rattle.substitution.proofs.Answers.{short-out, short-scratch, bad-inputs, ready, worked}
 use borrow.Author.Needs.{needs}

@@ -1,5 +1,4 @@
 -- `walk::covered` meets its contract, way by way. Assumes nothing.
-use mathlib.Core.Path.{_≡_, refl, sym}
 use borrow.Author.Tests.{eq-eqb, ne-eqb}
 use Rattle.walk.proofs.covered.Statement.{statement}
 use Rattle.walk.proofs.covered.Tie as tie

@@ -1,5 +1,5 @@
 -- `walk::look` meets its contract: what a tag's counts leave open of a node, its names settle. Assumes nothing.
-use mathlib.Core.Path.{_≡_, sym, ap, _∙_}
+use mathlib.Core.Path.{sym, ap}
 use mathlib.Core.Bool.{Bool}
 use native.Mathlib.Omega.{arith}
 use denote.Ref.{now}

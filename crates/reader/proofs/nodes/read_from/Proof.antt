@@ -66,7 +66,8 @@ returns-3 : tie.Need-returns-3 Inv-loop μ-loop
 returns-3 c =
     let a = c .before .before .before .before .before .before .before .before .before .before .args in
     let l = c .before .before .before .before .before .before .before .loop in
-    λ d h. c .bad3 .ensures ∙ sym (turn-unknown (a .form) (a .most) (a .s .now) (l .pending) (l .met) (l .next) (omega arith) (omega arith) (omega arith) (c .before .before .before .code-of .result) (c .before .before .before .code-of .ensures) (c .before .if3 .taken)) ∙ l .inv .1 d h
+    let k = c .before .before .before .code-of in
+    λ d h. c .bad3 .ensures ∙ sym (turn-unknown (a .form) (a .most) (a .s .now) (l .pending) (l .met) (l .next) (omega arith) (omega arith) (omega arith) (k .result) (k .ensures) (c .before .if3 .taken)) ∙ l .inv .1 d h
 
 skip-names-requires : tie.Need-skip-names-requires Inv-loop μ-loop
 skip-names-requires c κs = (c .before .before .before .before .before .before .before .before .before .pre .0 .letters, omega arith)
@@ -84,10 +85,13 @@ returns-4 : tie.Need-returns-4 Inv-loop μ-loop
 returns-4 c =
     let a = c .before .before .before .before .before .before .before .before .before .before .before .before .before .before .args in
     let l = c .before .before .before .before .before .before .before .before .before .before .before .loop in
+    let k = c .before .before .before .before .before .before .before .code-of in
+    let long = c .before .before .before .before .before .before .before .before .before .before .before .before .longest-name in
+    let names = c .before .before .before .before .skip-names in
     λ d h.
     c .bad4 .ensures
-    ∙ sym (turn-off (a .form) (a .most) (a .s .now) (l .pending) (l .met) (l .next) (omega arith) (omega arith) (omega arith)
-    (c .before .before .before .before .before .before .before .code-of .result) (c .before .before .before .before .before .before .before .code-of .ensures) (c .before .before .before .before .before .if3 .left) (c .before .before .before .before .before .before .before .before .before .before .before .before .longest-name .result) (c .before .before .before .before .before .before .before .before .before .before .before .before .longest-name .ensures) (c .before .before .before .before .skip-names .result) (c .before .before .before .before .skip-names .ensures) _ _ (c .before .before .number .given .1))
+    ∙ sym (turn-off (a .form) (a .most) (a .s .now) (l .pending) (l .met) (l .next) (omega arith)
+    (omega arith) (omega arith) (k .result) (k .ensures) (c .before .before .before .before .before .if3 .left) (long .result) (long .ensures) (names .result) (names .ensures) _ _ (c .before .before .number .given .1))
     ∙ l .inv .1 d h
 
 add-met : tie.Need-add-met Inv-loop μ-loop
@@ -100,12 +104,8 @@ add-pending : tie.Need-add-pending Inv-loop μ-loop
 add-pending c =
     let a = c .before .before .before .before .before .before .before .before .before .before .before .before .before .args in
     let l = c .before .before .before .before .before .before .before .before .before .before .loop in
-    omega (
-      arith,
-      few-parts (a .form) (a .most) (a .s .now) (l .pending) (l .met) (l .next) (omega arith) (omega arith) (omega arith)
-          (c .before .before .before .before .before .before .code-of .result) (c .before .before .before .before .before .before .code-of .ensures) (c .before .before .before .before .if3 .left) (c .before .before .before .before .before .before .before .before .before .before .before .longest-name .result) (c .before .before .before .before .before .before .before .before .before .before .before .longest-name .ensures) (c .before .before .before .skip-names .result) (c .before .before .before .skip-names .ensures),
-      c .before .before .before .before .before .before .before .before .before .before .before .before .before .pre .1,
-    )
+    let k = c .before .before .before .before .before .before .code-of in
+    omega (arith, few-parts (a .form) (a .most) (a .s .now) (l .pending) (l .met) (l .next) (omega arith) (omega arith) (omega arith) (k .result) (k .ensures) (c .before .before .before .before .if3 .left), c .before .before .before .before .before .before .before .before .before .before .before .before .before .pre .1)
 
 loop-less : tie.Need-loop-less Inv-loop μ-loop
 loop-less c = omega arith
@@ -113,14 +113,13 @@ loop-less c = omega arith
 loop-again : tie.Need-loop-again Inv-loop μ-loop
 loop-again c =
     let a = c .before .before .before .before .before .before .before .before .before .before .before .before .before .args in
-    let l = c .before .before .before .before .before .before .before .before .before .before .loop in (
-      omega (
-        arith,
-        few-parts (a .form) (a .most) (a .s .now) (l .pending) (l .met) (l .next) (omega arith) (omega arith) (omega arith)
-            (c .before .before .before .before .before .before .code-of .result) (c .before .before .before .before .before .before .code-of .ensures) (c .before .before .before .before .if3 .left) (c .before .before .before .before .before .before .before .before .before .before .before .longest-name .result) (c .before .before .before .before .before .before .before .before .before .before .before .longest-name .ensures) (c .before .before .before .skip-names .result) (c .before .before .before .skip-names .ensures),
-      ),
-      λ d h. sym (turn-on (a .form) (a .most) (a .s .now) (l .pending) (l .met) (l .next) (omega arith) (omega arith) (omega arith)
-          (c .before .before .before .before .before .before .code-of .result) (c .before .before .before .before .before .before .code-of .ensures) (c .before .before .before .before .if3 .left) (c .before .before .before .before .before .before .before .before .before .before .before .longest-name .result) (c .before .before .before .before .before .before .before .before .before .before .before .longest-name .ensures) (c .before .before .before .skip-names .result) (c .before .before .before .skip-names .ensures) _ (c .before .past .given .1)) ∙ l .inv .1 d h,
+    let l = c .before .before .before .before .before .before .before .before .before .before .loop in
+    let k = c .before .before .before .before .before .before .code-of in
+    let long = c .before .before .before .before .before .before .before .before .before .before .before .longest-name in
+    let names = c .before .before .before .skip-names in (
+      omega (arith, few-parts (a .form) (a .most) (a .s .now) (l .pending) (l .met) (l .next) (omega arith) (omega arith) (omega arith) (k .result) (k .ensures) (c .before .before .before .before .if3 .left)),
+      λ d h. sym (turn-on (a .form) (a .most) (a .s .now) (l .pending) (l .met) (l .next) (omega arith)
+          (omega arith) (omega arith) (k .result) (k .ensures) (c .before .before .before .before .if3 .left) (long .result) (long .ensures) (names .result) (names .ensures) _ (c .before .past .given .1)) ∙ l .inv .1 d h,
     )
 
 returns-5 : tie.Need-returns-5 Inv-loop μ-loop

@@ -1,5 +1,4 @@
 -- `substitution::sizes::stays` meets its contract, by the laws of bytes and nodes. Assumes nothing.
-use native.Mathlib.Omega.{arith}
 use Rattle.substitution.proofs.Growths.{nodes-go, bytes-go, count-small, too-many, few-enough}
 use Rattle.substitution.proofs.sizes.stays.Statement.{statement}
 use Rattle.substitution.proofs.sizes.stays.Tie as tie

@@ -1,0 +1,6 @@
+-- What the proofs of several functions use.
+mod Shapes
+mod Names
+mod Shaped
+mod Binders
+mod Whole

@@ -1,0 +1,24 @@
+-- What the tags of terms stand for, in numbers: the words that a tag chooses, and its shape. Assumes nothing: these are definitions.
+use Prim.Native.Nat.{ℕ, _*_, _/_, _%_, _^_}
+use mathlib.Core.List.{List, [], _∷_, _++_}
+use lib.ListN.{getD, take}
+use Rattle.words.specs.Prints.{eight}
+
+-- for each tag from 0 on, the first eight bytes of its word, low byte first; what is left of `derelict ` is a space
+abbrev pub words : List ℕ
+words =
+    0 ∷ 0 ∷ 0x2928 ∷ 0x202c ∷ 0 ∷ 0 ∷ 0x20 ∷ 0x206c6e69 ∷ 0x20726e69 ∷ 0 ∷ 0xa99fe2a89fe2 ∷ 0x20747366 ∷ 0x20646e73 ∷ 0x20647275736261 ∷ 0x21 ∷ 0x7463696c65726564 ∷ []
+
+abbrev pub wordOf : (tag : ℕ) → ℕ
+wordOf k = getD words (k % 16) 0
+
+-- how long the word of a tag is, four bits each
+abbrev pub longOf : (tag : ℕ) → ℕ
+longOf k = 10481079216882328064 / 2 ^ (k * 4) % 16
+
+abbrev pub signOf : (tag : ℕ) → List ℕ
+signOf k = take (longOf k) (eight (wordOf k) ++ 32 ∷ [])
+
+-- the shape of a tag, three bits each: 0 a variable, 1 a leaf, 2 one part, 3 a pair or an application, 4 discard, 5 an abstraction, 6 let or copy, 7 case
+abbrev pub shapeOf : (tag : ℕ) → ℕ
+shapeOf k = 14717119808595520 / 2 ^ (k * 3) % 8
