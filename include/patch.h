@@ -33,6 +33,7 @@ extern "C" {
 
 /* The least length of a lent output, by what goes there. */
 #define PATCH_OUTPUT_ROOM 4096
+#define PATCH_TEXT_ROOM 20480
 #define PATCH_FORMULA_TEXT_ROOM 11264
 
 /* The least length of a lent scratch. */
@@ -62,6 +63,12 @@ void patch_check_term(const uint8_t *term, size_t term_length, uint64_t answer[P
 
 /* The printed text of a formula, to an output of at least PATCH_FORMULA_TEXT_ROOM bytes. Value: its length. */
 void patch_formula_text(const uint8_t *formula, size_t formula_length, uint8_t *out, size_t out_length, uint64_t answer[PATCH_ANSWER]);
+
+/* The printed text of a term, to an output of at least PATCH_TEXT_ROOM bytes. Value: its length. */
+void patch_term_text(const uint8_t *term, size_t term_length, uint8_t *out, size_t out_length, uint64_t answer[PATCH_ANSWER]);
+
+/* Where child k of a term, counted from 0, stands in it. Values: the place of its first byte, its length. */
+void patch_child(const uint8_t *term, size_t term_length, size_t k, uint64_t answer[PATCH_ANSWER]);
 
 /* The free names of a term, each as its length and its bytes, ascending, to an output of at least PATCH_OUTPUT_ROOM bytes. Value: the length of all. */
 void patch_free_vars(const uint8_t *term, size_t term_length, uint8_t *out, size_t out_length, uint64_t answer[PATCH_ANSWER]);

@@ -7,8 +7,9 @@ mod refusal;
 
 pub use refusal::{Reason, Refusal};
 
-/// The least lengths of a lent output: for a term or a name list, and for printed formulas.
+/// The least lengths of a lent output: for a term or a name list, for printed terms and for printed formulas.
 pub const OUTPUT_ROOM: usize = 4096;
+pub const TEXT_ROOM: usize = 20480;
 pub const FORMULA_TEXT_ROOM: usize = 11264;
 
 /// The least length of a lent scratch.
@@ -57,6 +58,23 @@ pub fn formula_text_to(formula: &[u8], out: &mut [u8]) -> Answer {
 pub fn formula_text(formula: &[u8]) -> Result<String, Refusal> {
     let text = written(FORMULA_TEXT_ROOM, |out| formula_text_to(formula, out))?;
     Ok(String::from_utf8(text).expect("printed text is UTF-8"))
+}
+
+/// The printed text of a term, to an output of at least [`TEXT_ROOM`] bytes: its length.
+pub fn term_text_to(term: &[u8], out: &mut [u8]) -> Answer {
+    count(raw::term_text(term, out))
+}
+
+/// The printed text of a term.
+pub fn term_text(term: &[u8]) -> Result<String, Refusal> {
+    let text = written(TEXT_ROOM, |out| term_text_to(term, out))?;
+    Ok(String::from_utf8(text).expect("printed text is UTF-8"))
+}
+
+/// The part of a term that is its child k, counted from 0.
+pub fn child(term: &[u8], k: usize) -> Result<&[u8], Refusal> {
+    let [start, length, ..] = told(raw::child(term, k))?;
+    Ok(&term[start as usize..][..length as usize])
 }
 
 /// The free names of a term, each as its length and its bytes, ascending, to an output of at least [`OUTPUT_ROOM`] bytes: the length of all.
