@@ -11,7 +11,8 @@
  *   answer[PATCH_INPUT]   the input that it is about, 1 for the first; 0 if it is about none
  *   answer[PATCH_VALUE]   the values of the call, as listed at it; zeros behind them
  *
- * After success a lent output holds the answer and then zeros to its end; a refusal leaves it as it was.
+ * After success a lent output holds the answer and then zeros to its end; a refusal leaves it as it was. A lent scratch is all zeros after success,
+ * and after refusal 8; any other refusal leaves it as it was.
  */
 #ifndef PATCH_H
 #define PATCH_H
@@ -31,7 +32,12 @@ extern "C" {
 #define PATCH_VALUE 3
 
 /* The least length of a lent output, by what goes there. */
+#define PATCH_OUTPUT_ROOM 4096
+#define PATCH_TEXT_ROOM 20480
 #define PATCH_FORMULA_TEXT_ROOM 11264
+
+/* The least length of a lent scratch. */
+#define PATCH_SCRATCH_ROOM 8192
 
 /* The refusals. */
 enum patch_refusal {
@@ -57,6 +63,20 @@ void patch_check_term(const uint8_t *term, size_t term_length, uint64_t answer[P
 
 /* The printed text of a formula, to an output of at least PATCH_FORMULA_TEXT_ROOM bytes. Value: its length. */
 void patch_formula_text(const uint8_t *formula, size_t formula_length, uint8_t *out, size_t out_length, uint64_t answer[PATCH_ANSWER]);
+
+/* The printed text of a term, to an output of at least PATCH_TEXT_ROOM bytes. Value: its length. */
+void patch_term_text(const uint8_t *term, size_t term_length, uint8_t *out, size_t out_length, uint64_t answer[PATCH_ANSWER]);
+
+/* Where child k of a term, counted from 0, stands in it. Values: the place of its first byte, its length. */
+void patch_child(const uint8_t *term, size_t term_length, size_t k, uint64_t answer[PATCH_ANSWER]);
+
+/* The free names of a term, each as its length and its bytes, ascending, to an output of at least PATCH_OUTPUT_ROOM bytes. Value: the length of all. */
+void patch_free_vars(const uint8_t *term, size_t term_length, uint8_t *out, size_t out_length, uint64_t answer[PATCH_ANSWER]);
+
+/* The term with the value for the name, a bare name without a length byte, to an output of at least PATCH_OUTPUT_ROOM bytes, by way of a scratch of at
+ * least PATCH_SCRATCH_ROOM. Value: its length. */
+void patch_substitute(const uint8_t *term, size_t term_length, const uint8_t *name, size_t name_length, const uint8_t *value, size_t value_length,
+                      uint8_t *out, size_t out_length, uint8_t *scratch, size_t scratch_length, uint64_t answer[PATCH_ANSWER]);
 
 #ifdef __cplusplus
 }

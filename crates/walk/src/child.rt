@@ -9,12 +9,12 @@ use rules::Answer;
 use rules::Refusal;
 
 // Where a child stands, or why there is none.
-enum Piece {
+pub enum Piece {
     Part { from: usize, end: usize },
     Missing(Refusal),
 }
 
-fn locate(term: &[u8], k: usize) -> Piece
+pub fn locate(term: &[u8], k: usize) -> Piece
     ensures { λ r. ⌜ Located (now (term .entry)) k r ⌝ }
 {
     match reader::check_term(term) {

@@ -25,7 +25,7 @@ fn row<T: 'static>(
     inputs: Vec<(T, Vec<u8>)>,
     other_name: &'static str,
     other: impl Fn(&T, &[u8]) + 'static,
-    port: impl Fn(&[u8]) + 'static,
+    port: impl Fn(&T, &[u8]) + 'static,
 ) -> Row {
     let bytes = inputs.iter().map(|(_, bytes)| bytes.len()).sum();
     let count = inputs.len();
@@ -38,7 +38,7 @@ fn row<T: 'static>(
         inputs: count,
         other_name,
         other: Box::new(move || inputs.iter().for_each(|(value, bytes)| other(black_box(value), black_box(bytes)))),
-        port: Box::new(move || ours.iter().for_each(|(_, bytes)| port(black_box(bytes)))),
+        port: Box::new(move || ours.iter().for_each(|(value, bytes)| port(black_box(value), black_box(bytes)))),
     }
 }
 
@@ -57,7 +57,7 @@ pub fn rows() -> Vec<Row> {
             some_formulas(nodes),
             "Rust",
             |formula: &Formula, _| kept(formula.pretty()),
-            move |bytes| kept(patch::formula_text_to(bytes, &mut out.borrow_mut())),
+            move |_, bytes| kept(patch::formula_text_to(bytes, &mut out.borrow_mut()).unwrap()),
         ));
     }
     for nodes in [10, 100, 1024] {
@@ -67,7 +67,7 @@ pub fn rows() -> Vec<Row> {
             some_formulas(nodes),
             "byte loop",
             |_, bytes| kept(byte_loop(bytes)),
-            |bytes| kept(patch::check_formula(bytes)),
+            |_, bytes| kept(patch::check_formula(bytes).unwrap()),
         ));
     }
     for nodes in [10, 100, 512] {
@@ -77,7 +77,32 @@ pub fn rows() -> Vec<Row> {
             some_terms(nodes),
             "byte loop",
             |_, bytes| kept(byte_loop(bytes)),
-            |bytes| kept(patch::check_term(bytes)),
+            |_, bytes| kept(patch::check_term(bytes).unwrap()),
+        ));
+    }
+    for nodes in [10, 100, 512] {
+        let out = RefCell::new(vec![0; patch::OUTPUT_ROOM]);
+        rows.push(row(
+            "free names",
+            nodes,
+            some_terms(nodes),
+            "Rust",
+            |term: &Term, _| kept(term.free_vars()),
+            move |_, bytes| kept(patch::free_vars_to(bytes, &mut out.borrow_mut()).unwrap()),
+        ));
+    }
+    // an inner node, put in where the outcome still fits
+    let value = Term::Fst(Box::new(Term::Var("y".into())));
+    for nodes in [10, 100, 400] {
+        let (out, scratch) = (RefCell::new(vec![0; patch::OUTPUT_ROOM]), RefCell::new(vec![0; patch::SCRATCH_ROOM]));
+        let (ours, theirs) = (term_bytes(&value), value.clone());
+        rows.push(row(
+            "substitution",
+            nodes,
+            some_terms(nodes),
+            "Rust",
+            move |term: &Term, _| kept(term.substitute("x", &theirs)),
+            move |_, bytes| kept(patch::substitute_to(bytes, b"x", &ours, &mut out.borrow_mut(), &mut scratch.borrow_mut()).unwrap()),
         ));
     }
     rows

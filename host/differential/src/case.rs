@@ -178,11 +178,19 @@ impl Case {
     }
 
     fn ask_port<'a>(&self, lent: &mut dyn FnMut() -> &'a mut [u8]) -> Option<Vec<u64>> {
-        let first = &self.inputs[0];
+        let input = &self.inputs;
+        let first = &input[0];
         Some(match self.call {
             Call::CheckFormula => count(plain(patch::check_formula(first))),
             Call::CheckTerm => count(plain(patch::check_term(first))),
             Call::FormulaText => count(plain(patch::formula_text_to(first, lent()))),
+            Call::TermText => count(plain(patch::term_text_to(first, lent()))),
+            Call::Child => numbers(plain(patch::child(first, self.number as usize)), |part| {
+                // by the addresses, since equal bytes may stand elsewhere too
+                vec![(part.as_ptr() as usize - first.as_ptr() as usize) as u64, part.len() as u64]
+            }),
+            Call::FreeVars => count(plain(patch::free_vars_to(first, lent()))),
+            Call::Substitute => count(plain(patch::substitute_to(first, &input[1], &input[2], lent(), lent()))),
             _ => return None,
         })
     }

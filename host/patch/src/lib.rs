@@ -7,8 +7,13 @@ mod refusal;
 
 pub use refusal::{Reason, Refusal};
 
-/// The least length of a lent output for the text of a formula.
+/// The least lengths of a lent output: for a term or a name list, for printed terms and for printed formulas.
+pub const OUTPUT_ROOM: usize = 4096;
+pub const TEXT_ROOM: usize = 20480;
 pub const FORMULA_TEXT_ROOM: usize = 11264;
+
+/// The least length of a lent scratch.
+pub const SCRATCH_ROOM: usize = 8192;
 
 /// A count (the bytes written, or the nodes of what was read), or a refusal.
 pub type Answer = Result<usize, Refusal>;
@@ -53,4 +58,49 @@ pub fn formula_text_to(formula: &[u8], out: &mut [u8]) -> Answer {
 pub fn formula_text(formula: &[u8]) -> Result<String, Refusal> {
     let text = written(FORMULA_TEXT_ROOM, |out| formula_text_to(formula, out))?;
     Ok(String::from_utf8(text).expect("printed text is UTF-8"))
+}
+
+/// The printed text of a term, to an output of at least [`TEXT_ROOM`] bytes: its length.
+pub fn term_text_to(term: &[u8], out: &mut [u8]) -> Answer {
+    count(raw::term_text(term, out))
+}
+
+/// The printed text of a term.
+pub fn term_text(term: &[u8]) -> Result<String, Refusal> {
+    let text = written(TEXT_ROOM, |out| term_text_to(term, out))?;
+    Ok(String::from_utf8(text).expect("printed text is UTF-8"))
+}
+
+/// The part of a term that is its child k, counted from 0.
+pub fn child(term: &[u8], k: usize) -> Result<&[u8], Refusal> {
+    let [start, length, ..] = told(raw::child(term, k))?;
+    Ok(&term[start as usize..][..length as usize])
+}
+
+/// The free names of a term, each as its length and its bytes, ascending, to an output of at least [`OUTPUT_ROOM`] bytes: the length of all.
+pub fn free_vars_to(term: &[u8], out: &mut [u8]) -> Answer {
+    count(raw::free_vars(term, out))
+}
+
+/// The free names of a term, ascending.
+pub fn free_vars(term: &[u8]) -> Result<Vec<String>, Refusal> {
+    let list = written(OUTPUT_ROOM, |out| free_vars_to(term, out))?;
+    let mut names = Vec::new();
+    let mut rest = list.as_slice();
+    while let [length, after @ ..] = rest {
+        let (name, next) = after.split_at(*length as usize);
+        names.push(String::from_utf8(name.to_vec()).expect("a name is ASCII"));
+        rest = next;
+    }
+    Ok(names)
+}
+
+/// The term with the value for the name, to an output of at least [`OUTPUT_ROOM`] bytes, by way of a scratch of at least [`SCRATCH_ROOM`].
+pub fn substitute_to(term: &[u8], name: &[u8], value: &[u8], out: &mut [u8], scratch: &mut [u8]) -> Answer {
+    count(raw::substitute(term, name, value, out, scratch))
+}
+
+/// The term with the value for the name.
+pub fn substitute(term: &[u8], name: &[u8], value: &[u8]) -> Result<Vec<u8>, Refusal> {
+    written(OUTPUT_ROOM, |out| substitute_to(term, name, value, out, &mut [0; SCRATCH_ROOM]))
 }

@@ -23,3 +23,7 @@ macro_rules! entry {
 entry!(check_formula = patch_check_formula(formula));
 entry!(check_term = patch_check_term(term));
 entry!(formula_text = patch_formula_text(formula) lent(out));
+entry!(term_text = patch_term_text(term) lent(out));
+entry!(child = patch_child(term) with(k: usize));
+entry!(free_vars = patch_free_vars(term) lent(out));
+entry!(substitute = patch_substitute(term, name, value) lent(out, scratch));

@@ -1,5 +1,5 @@
 -- `entry::tell` meets its contract: in each arm the numbers are those of the constructor that the match found. Assumes nothing.
-use mathlib.Core.Path.{sym, ap}
+use mathlib.Core.Path.{sym, ap, _∙_}
 use borrow.Author.Needs.{needs}
 use Rattle.entry.specs.Told.{toldAnswer}
 use Rattle.entry.proofs.tell.Statement.{statement}
@@ -11,11 +11,8 @@ enum-known-answer c = search needs
 enum-known-answer-2 : tie.Need-enum-known-answer-2
 enum-known-answer-2 c = search needs
 
-cast-number : tie.Need-cast-number
-cast-number c = search needs
-
-cast-input : tie.Need-cast-input
-cast-input c = search needs
+tell-refusal-requires : tie.Need-tell-refusal-requires
+tell-refusal-requires c κs = search needs
 
 returns : tie.Need-returns
 unfolding toldAnswer
@@ -23,7 +20,7 @@ returns c = sym (ap toldAnswer (c .before .before .answer .given .1))
 
 returns-2 : tie.Need-returns-2
 unfolding toldAnswer
-returns-2 c = sym (ap toldAnswer (c .before .before .before .before .answer2 .given .1))
+returns-2 c = c .tell-refusal .ensures ∙ sym (ap toldAnswer (c .before .before .before .answer2 .given .1))
 
 pub tell-spec : {M : Type 1} → statement M
-tell-spec = tie.close (tie.spec enum-known-answer enum-known-answer-2 cast-number cast-input returns returns-2)
+tell-spec = tie.close (tie.spec enum-known-answer enum-known-answer-2 tell-refusal-requires returns returns-2)

@@ -1,0 +1,26 @@
+-- `entry::patch_child` meets its contract: what it tells is the piece that was located. Assumes nothing.
+use Prim.Native.Nat.{ℕ}
+use borrow.Author.Needs.{needs}
+use Rattle.rules.specs.Basic.{Bytes}
+use Rattle.walk.specs.Child.{Located}
+use Rattle.walk.specs.declared.child.Piece.{Piece}
+use Rattle.walk.specs.declared.child.Piece.the-variants.{Part, Missing}
+use Rattle.entry.specs.Child.{ordered}
+use Rattle.entry.proofs.patch_child.Statement.{statement}
+use Rattle.entry.proofs.patch_child.Tie as tie
+
+in-order : (s : Bytes) (k : ℕ) (p : Piece) → Located s k p → ordered p
+in-order s k (Part a b) h = h .0
+in-order s k (Missing r) h = tt
+
+locate-requires : tie.Need-locate-requires
+locate-requires c κs = search needs
+
+tell-piece-requires : tie.Need-tell-piece-requires
+tell-piece-requires c κs = in-order _ _ (c .before .locate .result) (c .before .locate .ensures)
+
+returns : tie.Need-returns
+returns c = search needs
+
+pub patch-child-spec : {M : Type 1} → statement M
+patch-child-spec = tie.close (tie.spec locate-requires tell-piece-requires returns)

@@ -1,0 +1,19 @@
+-- `entry::patch_term_text` meets its contract: what it tells is the public call's answer, and the output is the call's. Assumes nothing.
+use borrow.Author.Needs.{needs}
+use Rattle.entry.proofs.patch_term_text.Statement.{statement}
+use Rattle.entry.proofs.patch_term_text.Tie as tie
+
+pretty-requires : tie.Need-pretty-requires
+pretty-requires c κs = search needs
+
+tell-requires : tie.Need-tell-requires
+tell-requires c κs = search needs
+
+same-length : tie.Need-same-length
+same-length c = search needs
+
+returns : tie.Need-returns
+returns c = (cc, cc)
+
+pub patch-term-text-spec : {M : Type 1} → statement M
+patch-term-text-spec = tie.close (tie.spec pretty-requires tell-requires same-length returns)
