@@ -5,3 +5,5 @@ pub mod Seeks
 mod Searching
 mod Puts
 mod Turning
+mod Standing
+mod Layouts
