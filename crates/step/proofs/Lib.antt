@@ -7,3 +7,6 @@ mod Puts
 mod Turning
 mod Standing
 mod Layouts
+mod Forms
+mod Takings
+mod Spots

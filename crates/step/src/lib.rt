@@ -3,3 +3,4 @@ pub mod into;
 pub mod redexes;
 pub mod search;
 pub mod spans;
+pub mod taking;

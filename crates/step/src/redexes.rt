@@ -19,7 +19,7 @@ use crate::spans::span_three;
 use crate::spans::span_two;
 
 // App of Abs: argument for x.
-fn apply(src: &[u8], nodes: usize, place: usize, out: &mut [u8]) -> Made
+pub fn apply(src: &[u8], nodes: usize, place: usize, out: &mut [u8]) -> Made
     requires { ⌜ ((f : Term → Term) × (x : Name) × (e : Term) × (a : Term) × Redex (now src) nodes place (now out) f (two app (abs x e) a)) ⌝ }
     ensures { λ r. ⌜ ((f : Term → Term) → (x : Name) → (e : Term) → (a : Term) → Redex (now (src .entry)) nodes place (now (out .entry)) f (two app (abs x e) a) → Makes none (f (subst x a e)) (now (out .entry)) (now (out .exit)) r) ⌝ }
 {
@@ -43,7 +43,7 @@ fn apply(src: &[u8], nodes: usize, place: usize, out: &mut [u8]) -> Made
 }
 
 // LetPair of Pair: a for x, then b for y in all that results.
-fn let_pair(src: &[u8], nodes: usize, place: usize, out: &mut [u8]) -> Made
+pub fn let_pair(src: &[u8], nodes: usize, place: usize, out: &mut [u8]) -> Made
     requires { ⌜ ((f : Term → Term) × (x : Name) × (y : Name) × (a : Term) × (b : Term) × (e : Term) × Redex (now src) nodes place (now out) f (both letPair x y (two pair a b) e)) ⌝ }
     ensures { λ r. ⌜ ((f : Term → Term) → (x : Name) → (y : Name) → (a : Term) → (b : Term) → (e : Term) → Redex (now (src .entry)) nodes place (now (out .entry)) f (both letPair x y (two pair a b) e) → Makes (some (subst x a e)) (f (subst y b (subst x a e))) (now (out .entry)) (now (out .exit)) r) ⌝ }
 {
@@ -75,7 +75,7 @@ fn let_pair(src: &[u8], nodes: usize, place: usize, out: &mut [u8]) -> Made
 }
 
 // Case of Inl or Inr: that branch, with the injected part for the branch's name.
-fn branch(src: &[u8], nodes: usize, place: usize, out: &mut [u8]) -> Made
+pub fn branch(src: &[u8], nodes: usize, place: usize, out: &mut [u8]) -> Made
     requires { ⌜ ((f : Term → Term) × (x : Name) × (y : Name) × (d : Bool) × (v : Term) × (l : Term) × (r : Term) × Redex (now src) nodes place (now out) f (aBranch x y (one (side d) v) l r)) ⌝ }
     ensures { λ m. ⌜ ((f : Term → Term) → (x : Name) → (y : Name) → (d : Bool) → (v : Term) → (l : Term) → (r : Term) → Redex (now (src .entry)) nodes place (now (out .entry)) f (aBranch x y (one (side d) v) l r) → Makes none (f (if d then subst x v l else subst y v r)) (now (out .entry)) (now (out .exit)) m) ⌝ }
 {
@@ -119,7 +119,7 @@ fn branch(src: &[u8], nodes: usize, place: usize, out: &mut [u8]) -> Made
 }
 
 // Fst of Pair.
-fn first(src: &[u8], nodes: usize, place: usize, out: &mut [u8]) -> Made
+pub fn first(src: &[u8], nodes: usize, place: usize, out: &mut [u8]) -> Made
     requires { ⌜ ((f : Term → Term) × (a : Term) × (b : Term) × Redex (now src) nodes place (now out) f (one fst (two pair a b))) ⌝ }
     ensures { λ r. ⌜ ((f : Term → Term) → (a : Term) → (b : Term) → Redex (now (src .entry)) nodes place (now (out .entry)) f (one fst (two pair a b)) → Makes none (f a) (now (out .entry)) (now (out .exit)) r) ⌝ }
 {
@@ -131,7 +131,7 @@ fn first(src: &[u8], nodes: usize, place: usize, out: &mut [u8]) -> Made
 }
 
 // Snd of Pair.
-fn second(src: &[u8], nodes: usize, place: usize, out: &mut [u8]) -> Made
+pub fn second(src: &[u8], nodes: usize, place: usize, out: &mut [u8]) -> Made
     requires { ⌜ ((f : Term → Term) × (a : Term) × (b : Term) × Redex (now src) nodes place (now out) f (one snd (two pair a b))) ⌝ }
     ensures { λ r. ⌜ ((f : Term → Term) → (a : Term) → (b : Term) → Redex (now (src .entry)) nodes place (now (out .entry)) f (one snd (two pair a b)) → Makes none (f b) (now (out .entry)) (now (out .exit)) r) ⌝ }
 {
@@ -151,7 +151,7 @@ fn second(src: &[u8], nodes: usize, place: usize, out: &mut [u8]) -> Made
 }
 
 // Derelict of Promote.
-fn derelict(src: &[u8], nodes: usize, place: usize, out: &mut [u8]) -> Made
+pub fn derelict(src: &[u8], nodes: usize, place: usize, out: &mut [u8]) -> Made
     requires { ⌜ ((f : Term → Term) × (v : Term) × Redex (now src) nodes place (now out) f (one aDerelict (one promote v))) ⌝ }
     ensures { λ r. ⌜ ((f : Term → Term) → (v : Term) → Redex (now (src .entry)) nodes place (now (out .entry)) f (one aDerelict (one promote v)) → Makes none (f v) (now (out .entry)) (now (out .exit)) r) ⌝ }
 {
@@ -171,7 +171,7 @@ fn derelict(src: &[u8], nodes: usize, place: usize, out: &mut [u8]) -> Made
 }
 
 // Copy of Promote: the whole Promote for x, then for y.
-fn copy(src: &[u8], nodes: usize, place: usize, out: &mut [u8]) -> Made
+pub fn copy(src: &[u8], nodes: usize, place: usize, out: &mut [u8]) -> Made
     requires { ⌜ ((f : Term → Term) × (x : Name) × (y : Name) × (v : Term) × (e : Term) × Redex (now src) nodes place (now out) f (both aCopy x y (one promote v) e)) ⌝ }
     ensures { λ r. ⌜ ((f : Term → Term) → (x : Name) → (y : Name) → (v : Term) → (e : Term) → Redex (now (src .entry)) nodes place (now (out .entry)) f (both aCopy x y (one promote v) e) → Makes (some (subst x (one promote v) e)) (f (subst y (one promote v) (subst x (one promote v) e))) (now (out .entry)) (now (out .exit)) r) ⌝ }
 {
@@ -201,7 +201,7 @@ fn copy(src: &[u8], nodes: usize, place: usize, out: &mut [u8]) -> Made
 }
 
 // Discard of Promote: body.
-fn discard(src: &[u8], nodes: usize, place: usize, out: &mut [u8]) -> Made
+pub fn discard(src: &[u8], nodes: usize, place: usize, out: &mut [u8]) -> Made
     requires { ⌜ ((f : Term → Term) × (v : Term) × (e : Term) × Redex (now src) nodes place (now out) f (two aDiscard (one promote v) e)) ⌝ }
     ensures { λ r. ⌜ ((f : Term → Term) → (v : Term) → (e : Term) → Redex (now (src .entry)) nodes place (now (out .entry)) f (two aDiscard (one promote v) e) → Makes none (f e) (now (out .entry)) (now (out .exit)) r) ⌝ }
 {
