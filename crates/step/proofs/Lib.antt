@@ -5,3 +5,8 @@ pub mod Seeks
 mod Searching
 mod Puts
 mod Turning
+mod Standing
+mod Layouts
+mod Forms
+mod Takings
+mod Spots

@@ -59,7 +59,7 @@ outgrown u out n = record { says = rw n; leaves = rw n }
 -- ---- three runs
 
 module _ {src : Bytes} {place end others : ℕ} {f : Term → Term} (b : Between src place end others f) (u : Term) where
-  whole-long : size (f u) ≡ place + size u + (length src - end)
+  pub whole-long : size (f u) ≡ place + size u + (length src - end)
   whole-long =
       ap (λ (z : Bytes). length z) (b .bytes u)
       ∙ omega (

@@ -4,3 +4,4 @@ pub mod Measured
 pub mod Searched
 pub mod Made
 pub mod Redex
+pub mod Taken
