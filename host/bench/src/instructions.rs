@@ -15,7 +15,7 @@ pub fn table(rows: &[Row]) -> ExitCode {
             return ExitCode::FAILURE;
         };
         let bytes = row.bytes / row.inputs;
-        println!("{:<20} {:>6} {:>6}  {:<10} {:>10.2} {:>10.2}", row.name, row.nodes, bytes, row.other_name, other, port);
+        println!("{:<26} {:>6} {:>6}  {:<10} {:>10.2} {:>10.2}", row.name, row.nodes, bytes, row.other_name, other, port);
     }
     println!("instructions for each byte of input");
     ExitCode::SUCCESS

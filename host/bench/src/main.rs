@@ -3,6 +3,7 @@
 //!   bench                 medians of interleaved runs
 //!   bench instructions    instructions for each byte of input, counted by valgrind
 
+mod families;
 mod instructions;
 mod rows;
 mod timing;

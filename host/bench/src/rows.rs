@@ -1,5 +1,6 @@
 //! What is compared: for each row the port, and beside it the ported Rust or a plain loop, over the same inputs.
 
+use crate::families;
 use lolli_core::{Formula, Term};
 use patch_generate::{formulas, terms, Rng};
 use patch_model::form::{formula_bytes, term_bytes};
@@ -7,7 +8,7 @@ use std::cell::RefCell;
 use std::hint::black_box;
 
 pub struct Row {
-    pub name: &'static str,
+    pub name: String,
     pub nodes: usize,
     /// of all inputs together
     pub bytes: usize,
@@ -20,7 +21,7 @@ pub struct Row {
 const INPUTS: u64 = 8;
 
 fn row<T: 'static>(
-    name: &'static str,
+    name: impl Into<String>,
     nodes: usize,
     inputs: Vec<(T, Vec<u8>)>,
     other_name: &'static str,
@@ -32,7 +33,7 @@ fn row<T: 'static>(
     let inputs = std::rc::Rc::new(inputs);
     let ours = inputs.clone();
     Row {
-        name,
+        name: name.into(),
         nodes,
         bytes,
         inputs: count,
@@ -105,7 +106,52 @@ pub fn rows() -> Vec<Row> {
             move |_, bytes| kept(patch::substitute_to(bytes, b"x", &ours, &mut out.borrow_mut(), &mut scratch.borrow_mut()).unwrap()),
         ));
     }
+    for family in families::NAMES {
+        for nodes in [10, 100, 512] {
+            rows.extend(of_family(family, nodes));
+        }
+    }
     rows
+}
+
+/// The four calls on terms that take no step.
+fn of_family(family: &str, nodes: usize) -> Vec<Row> {
+    let (list, text) = (RefCell::new(vec![0; patch::OUTPUT_ROOM]), RefCell::new(vec![0; patch::TEXT_ROOM]));
+    let (out, scratch) = (RefCell::new(vec![0; patch::OUTPUT_ROOM]), RefCell::new(vec![0; patch::SCRATCH_ROOM]));
+    vec![
+        row(
+            format!("check, {family}"),
+            nodes,
+            families::input(family, nodes),
+            "byte loop",
+            |_, bytes| kept(byte_loop(bytes)),
+            |_, bytes| kept(patch::check_term(bytes).unwrap()),
+        ),
+        row(
+            format!("free names, {family}"),
+            nodes,
+            families::input(family, nodes),
+            "Rust",
+            |term: &Term, _| kept(term.free_vars()),
+            move |_, bytes| kept(patch::free_vars_to(bytes, &mut list.borrow_mut()).unwrap()),
+        ),
+        row(
+            format!("substitution, {family}"),
+            nodes,
+            families::input(family, nodes),
+            "Rust",
+            |term: &Term, _| kept(term.substitute("x", &Term::Unit)),
+            move |_, bytes| kept(patch::substitute_to(bytes, b"x", &[2], &mut out.borrow_mut(), &mut scratch.borrow_mut()).unwrap()),
+        ),
+        row(
+            format!("text, {family}"),
+            nodes,
+            families::input(family, nodes),
+            "Rust",
+            |term: &Term, _| kept(term.pretty()),
+            move |_, bytes| kept(patch::term_text_to(bytes, &mut text.borrow_mut()).unwrap()),
+        ),
+    ]
 }
 
 /// The least that a reader does: each byte is looked up once.

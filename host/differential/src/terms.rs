@@ -11,6 +11,8 @@ use patch_model::Limits;
 const L: Limits = Limits::BASE;
 const ONE_INPUT: [Call; 4] = [Call::TermText, Call::FreeVars, Call::IsNormal, Call::IsStraight];
 
+const NAMES: [&str; 3] = ["x", "y", "z"];
+
 /// `\x. (x y)`, the same without its end, and too many bytes.
 pub fn probes() -> [Vec<u8>; 3] {
     let whole = vec![5, 1, b'x', 6, 1, 1, b'x', 1, 1, b'y'];
@@ -19,16 +21,16 @@ pub fn probes() -> [Vec<u8>; 3] {
 }
 
 pub fn all() -> Verdict {
-    let small: Vec<Vec<u8>> = (1..=4).flat_map(|nodes| terms::all(nodes, &["x", "y"])).map(|t| term_bytes(&t)).collect();
+    let small: Vec<Vec<u8>> = (1..=4).flat_map(|nodes| terms::all(nodes, &NAMES)).map(|t| term_bytes(&t)).collect();
     let mut cases = 0;
     for call in ONE_INPUT {
         let one = |bytes: Vec<u8>| Case::new(call, vec![bytes]);
         let all: Vec<Case> = small.iter().cloned().map(one).collect();
-        cases += listed(&format!("{call:?} of every term to 4 nodes over two names"), &all)?;
+        cases += listed(&format!("{call:?} of every term to 4 nodes over three names"), &all)?;
         let mut bad: Vec<Case> = bad_inputs(&TERMS).into_iter().map(one).collect();
         bad.extend(lent_lengths(call, &probes()));
         cases += listed(&format!("{call:?} of bad inputs"), &bad)?;
-        cases += random(&format!("{call:?} of random terms"), 50_000, |index| {
+        cases += random(&format!("{call:?} of random terms"), 200_000, |index| {
             let mut rng = Rng::new(0x7465_7800 + call as u64, index);
             let mut bytes = if call == Call::IsStraight { nearly_straight(&mut rng) } else { term(&mut rng) };
             if rng.one_in(4) {
@@ -37,7 +39,7 @@ pub fn all() -> Verdict {
             one(bytes).lent_by(&mut rng)
         })?;
     }
-    Ok(cases + substitution()? + children(&small)?)
+    Ok(cases + substitution(&small)? + children(&small)?)
 }
 
 /// A straight term, or one with a name changed.
@@ -55,15 +57,14 @@ fn nearly_straight(rng: &mut Rng) -> Vec<u8> {
     bytes
 }
 
-fn substitution() -> Verdict {
+fn substitution(small: &[Vec<u8>]) -> Verdict {
     let call = Call::Substitute;
     let mut listed_cases = Vec::new();
-    let pieces: Vec<Vec<u8>> = (1..=2).flat_map(|nodes| terms::all(nodes, &["x", "y"])).map(|t| term_bytes(&t)).collect();
-    for t in (1..=3).flat_map(|nodes| terms::all(nodes, &["x", "y"])) {
-        for value in &pieces {
-            listed_cases.push(Case::new(call, vec![term_bytes(&t), b"x".to_vec(), value.clone()]));
-        }
-    }
+    let values: Vec<Vec<u8>> = (1..=2).flat_map(|nodes| terms::all(nodes, &NAMES)).map(|t| term_bytes(&t)).collect();
+    let every = random("Substitute in every term to 4 nodes over three names, every value to 2 nodes", small.len() as u64 * values.len() as u64, |index| {
+        let (t, v) = (index as usize / values.len(), index as usize % values.len());
+        Case::new(call, vec![small[t].clone(), b"x".to_vec(), values[v].clone()])
+    })?;
     let [whole, cut, long] = probes();
     // the first fault in the order of the arguments, wherever others stand
     for t in [&whole, &cut, &long] {
@@ -77,8 +78,9 @@ fn substitution() -> Verdict {
         case.inputs.extend([b"y".to_vec(), vec![2]]);
         listed_cases.push(case);
     }
-    Ok(listed("Substitute in every term to 3 nodes, and bad arguments", &listed_cases)?
-        + random("Substitute in random terms", 100_000, |index| {
+    Ok(every
+        + listed("Substitute with bad arguments", &listed_cases)?
+        + random("Substitute in random terms", 200_000, |index| {
             let mut rng = Rng::new(0x7375_6273, index);
             let style = terms::Style::random(&mut rng);
             let (nodes, size) = (rng.size(L.nodes), rng.size(200));
