@@ -2,6 +2,7 @@
 use block::refused;
 use blocks::open_blocks;
 use blocks::put_blocks;
+use proof::proof_input;
 use reader::term_input;
 use rules::Answer;
 use rules::Kind;
@@ -66,4 +67,50 @@ fn short_buffer() -> Answer
         place: 0,
         input: 0,
     })
+}
+
+// What content must read as, by its kind.
+fn content_input(kind: Kind, content: &[u8]) -> Answer
+    ensures { λ r. ⌜ readKind limits kind 1 (now (content .entry)) ≡ accepted r ⌝ }
+{
+    match kind {
+        Kind::Term => term_input(content, 1),
+        Kind::Proof => proof_input(content, 1),
+    }
+}
+
+// Writes content of a kind in its stored form.
+pub fn store(kind: Kind, content: &[u8], out: &mut [u8]) -> Answer
+    ensures { λ r. ⌜ r ≡ answered (storeCall limits kind (now (content .entry)) (now (out .entry)) .answer) ⌝ }
+    ensures { λ _. ⌜ now (out .exit) ≡ storeCall limits kind (now (content .entry)) (now (out .entry)) .output ⌝ }
+{
+    if out.len() < STORED_ROOM {
+        return short_buffer();
+    }
+    match content_input(kind, content) {
+        Answer::Refused(r) => Answer::Refused(r),
+        Answer::Good(_) => put_stored(kind, content, out),
+    }
+}
+
+// Gives the content of a stored file. It is gathered in a buffer of its own, since a refusal leaves the output untouched.
+pub fn load(kind: Kind, file: &[u8], out: &mut [u8]) -> Answer
+    ensures { λ r. ⌜ r ≡ answered (loadCall limits kind (now (file .entry)) (now (out .entry)) .answer) ⌝ }
+    ensures { λ _. ⌜ now (out .exit) ≡ loadCall limits kind (now (file .entry)) (now (out .entry)) .output ⌝ }
+{
+    if out.len() < OUTPUT_ROOM {
+        return short_buffer();
+    }
+    if size_wrong(file.len()) {
+        return refused(10, 0);
+    }
+    // 9 blocks of 506
+    let mut content = [0u8; 4554];
+    match open_blocks(kind, file, &mut content) {
+        Answer::Refused(r) => Answer::Refused(r),
+        Answer::Good(size) => match content_input(kind, &content[..size]) {
+            Answer::Refused(r) => Answer::Refused(r),
+            Answer::Good(_) => put_first(&content, size, out),
+        },
+    }
 }
