@@ -35,6 +35,7 @@ extern "C" {
 #define PATCH_OUTPUT_ROOM 4096
 #define PATCH_TEXT_ROOM 20480
 #define PATCH_FORMULA_TEXT_ROOM 11264
+#define PATCH_STORED_ROOM 4608
 
 /* The least length of a lent scratch. */
 #define PATCH_SCRATCH_ROOM 8192
@@ -57,9 +58,10 @@ enum patch_refusal {
     PATCH_NO_SUCH_CHILD = 14
 };
 
-/* Whether a formula, or a term, is legal. Value: its nodes. */
+/* Whether a formula, a term or a proof is legal. Value: its nodes, of a proof its rules. */
 void patch_check_formula(const uint8_t *formula, size_t formula_length, uint64_t answer[PATCH_ANSWER]);
 void patch_check_term(const uint8_t *term, size_t term_length, uint64_t answer[PATCH_ANSWER]);
+void patch_check_proof(const uint8_t *proof, size_t proof_length, uint64_t answer[PATCH_ANSWER]);
 
 /* The printed text of a formula, to an output of at least PATCH_FORMULA_TEXT_ROOM bytes. Value: its length. */
 void patch_formula_text(const uint8_t *formula, size_t formula_length, uint8_t *out, size_t out_length, uint64_t answer[PATCH_ANSWER]);
@@ -77,6 +79,14 @@ void patch_free_vars(const uint8_t *term, size_t term_length, uint8_t *out, size
  * least PATCH_SCRATCH_ROOM. Value: its length. */
 void patch_substitute(const uint8_t *term, size_t term_length, const uint8_t *name, size_t name_length, const uint8_t *value, size_t value_length,
                       uint8_t *out, size_t out_length, uint8_t *scratch, size_t scratch_length, uint64_t answer[PATCH_ANSWER]);
+
+/* The stored form of a legal term or proof, to an output of at least PATCH_STORED_ROOM bytes. Value: its length. */
+void patch_store_term(const uint8_t *term, size_t term_length, uint8_t *out, size_t out_length, uint64_t answer[PATCH_ANSWER]);
+void patch_store_proof(const uint8_t *proof, size_t proof_length, uint8_t *out, size_t out_length, uint64_t answer[PATCH_ANSWER]);
+
+/* The term or proof in a stored file, to an output of at least PATCH_OUTPUT_ROOM bytes. Value: its length. */
+void patch_load_term(const uint8_t *file, size_t file_length, uint8_t *out, size_t out_length, uint64_t answer[PATCH_ANSWER]);
+void patch_load_proof(const uint8_t *file, size_t file_length, uint8_t *out, size_t out_length, uint64_t answer[PATCH_ANSWER]);
 
 #ifdef __cplusplus
 }

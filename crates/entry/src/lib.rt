@@ -4,12 +4,14 @@
 ghost use mathlib.Core.Path.{_≡_};
 ghost use Rattle.rules.specs.Limits.{limits};
 ghost use Rattle.rules.specs.Refusal.{answered};
-ghost use Rattle.rules.specs.Calls.{checkTermCall, checkFormulaCall, formulaTextCall, textCall, freeVarsCall, substituteCall};
+ghost use Rattle.rules.specs.Calls.{checkTermCall, checkFormulaCall, checkProofCall, formulaTextCall, textCall, freeVarsCall, substituteCall};
 ghost use Rattle.entry.specs.Told.{toldRefusal, toldAnswer};
 ghost use Rattle.entry.specs.Child.{ordered, toldPiece, ToldChild};
 use rules::Answer;
 use rules::Refusal;
 use walk::child::Piece;
+
+mod files;
 
 // A refusal, told as numbers.
 fn tell_refusal(r: Refusal, told: &mut [u64; 16])
@@ -22,7 +24,7 @@ fn tell_refusal(r: Refusal, told: &mut [u64; 16])
 }
 
 // A count or a refusal, told as numbers.
-fn tell(answer: Answer, told: &mut [u64; 16])
+pub fn tell(answer: Answer, told: &mut [u64; 16])
     ensures { λ _. ⌜ now (told .exit) ≡ toldAnswer answer ⌝ }
 {
     match answer {
@@ -64,6 +66,13 @@ pub extern "C" fn patch_check_term(term: &[u8], answer: &mut [u64; 16])
     ensures { λ _. ⌜ now (answer .exit) ≡ toldAnswer (answered (checkTermCall limits (now (term .entry)))) ⌝ }
 {
     tell(reader::check_term(term), answer);
+}
+
+#[no_mangle]
+pub extern "C" fn patch_check_proof(proof: &[u8], answer: &mut [u64; 16])
+    ensures { λ _. ⌜ now (answer .exit) ≡ toldAnswer (answered (checkProofCall limits (now (proof .entry)))) ⌝ }
+{
+    tell(proof::check_proof(proof), answer);
 }
 
 #[no_mangle]

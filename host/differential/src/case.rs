@@ -183,6 +183,7 @@ impl Case {
         Some(match self.call {
             Call::CheckFormula => count(plain(patch::check_formula(first))),
             Call::CheckTerm => count(plain(patch::check_term(first))),
+            Call::CheckProof => count(plain(patch::check_proof(first))),
             Call::FormulaText => count(plain(patch::formula_text_to(first, lent()))),
             Call::TermText => count(plain(patch::term_text_to(first, lent()))),
             Call::Child => numbers(plain(patch::child(first, self.number as usize)), |part| {
@@ -191,6 +192,10 @@ impl Case {
             }),
             Call::FreeVars => count(plain(patch::free_vars_to(first, lent()))),
             Call::Substitute => count(plain(patch::substitute_to(first, &input[1], &input[2], lent(), lent()))),
+            Call::StoreTerm => count(plain(patch::store_to(patch::Kind::Term, first, lent()))),
+            Call::StoreProof => count(plain(patch::store_to(patch::Kind::Proof, first, lent()))),
+            Call::LoadTerm => count(plain(patch::load_to(patch::Kind::Term, first, lent()))),
+            Call::LoadProof => count(plain(patch::load_to(patch::Kind::Proof, first, lent()))),
             _ => return None,
         })
     }

@@ -3,8 +3,8 @@
 use crate::case::{Call, Case};
 use crate::readers::{bad_inputs, lent_lengths, mostly_damaged, term, TERMS};
 use crate::run::{listed, random, Verdict};
-use patch_generate::{files, proofs, Rng};
-use patch_model::form::proof_bytes;
+use patch_generate::{files, proofs, terms, Rng};
+use patch_model::form::{proof_bytes, term_bytes};
 use patch_model::stored::{blocks, seal};
 use patch_model::Limits;
 
@@ -27,15 +27,22 @@ pub fn all() -> Verdict {
         cases.push(one(Call::LoadProof, blocks(2, &content)));
         cases.push(one(Call::LoadProof, blocks(1, &content)));
     }
-    // one block, each byte of it changed, with its check put right and not
+    // one block, each byte of it changed, with its check put right
     for at in 0..512 {
         let mut file = blocks(1, &[3, 2, 2]);
         file[at] ^= 1;
-        cases.push(one(Call::LoadTerm, file.clone()));
         seal(&mut file);
         cases.push(one(Call::LoadTerm, file));
     }
     Ok(listed("Store and Load at the edges", &cases)?
+        + random("Store of a term of each length", L.bytes as u64, |index| one(Call::StoreTerm, of_length(index as usize + 1)))?
+        + random("Load of a term of each length", L.bytes as u64, |index| one(Call::LoadTerm, blocks(1, &of_length(index as usize + 1))))?
+        + random("Load of one block with any byte changed to any other", 512 * 255, |index| {
+            one(Call::LoadTerm, changed(blocks(1, &[3, 2, 2]), (index / 255) as usize, (index % 255) as u8))
+        })?
+        + random("Load of nine blocks with any byte changed", L.stored_room as u64 * 4, |index| {
+            one(Call::LoadTerm, changed(blocks(1, &of_length(L.bytes)), (index / 4) as usize, (index.wrapping_mul(0x9e37_79b9) >> 7) as u8 % 255))
+        })?
         + random("Store of terms and proofs, some damaged", 40_000, |index| {
             let mut rng = Rng::new(0x7374_6f72, index);
             let (call, bytes) = content(&mut rng);
@@ -49,6 +56,20 @@ pub fn all() -> Verdict {
             let (call, kind) = if call == Call::StoreTerm { (Call::LoadTerm, 1) } else { (Call::LoadProof, 2) };
             one(call, files::damaged(&mut rng, kind, &bytes)).lent_by(&mut rng)
         })?)
+}
+
+/// A legal term of so many bytes.
+fn of_length(bytes: usize) -> Vec<u8> {
+    if bytes < 4 {
+        return [vec![TERMS.one; bytes - 1], vec![TERMS.leaf]].concat();
+    }
+    term_bytes(&terms::of_bytes(&mut Rng::new(0x6c65_6e67, bytes as u64), bytes, L.nodes))
+}
+
+/// The file with one byte changed, by one of the 255 ways.
+fn changed(mut file: Vec<u8>, at: usize, way: u8) -> Vec<u8> {
+    file[at] = file[at].wrapping_add(way + 1);
+    file
 }
 
 fn content(rng: &mut Rng) -> (Call, Vec<u8>) {

@@ -13,9 +13,9 @@ const L: Limits = Limits::BASE;
 /// What the list of bad inputs has to know of a form.
 pub struct Form {
     /// a node with one part, one with two, one without, one with a name
-    one: u8,
+    pub one: u8,
     two: u8,
-    leaf: u8,
+    pub leaf: u8,
     named: u8,
     nodes: usize,
     name_most: usize,

@@ -7,10 +7,12 @@ mod refusal;
 
 pub use refusal::{Reason, Refusal};
 
-/// The least lengths of a lent output: for a term or a name list, for printed terms and for printed formulas.
+/// The least lengths of a lent output: for a term, a name list or the content of a file, for printed terms, for printed
+/// formulas and for files.
 pub const OUTPUT_ROOM: usize = 4096;
 pub const TEXT_ROOM: usize = 20480;
 pub const FORMULA_TEXT_ROOM: usize = 11264;
+pub const STORED_ROOM: usize = 4608;
 
 /// The least length of a lent scratch.
 pub const SCRATCH_ROOM: usize = 8192;
@@ -47,6 +49,11 @@ pub fn check_formula(formula: &[u8]) -> Answer {
 /// Whether a term is legal: its nodes, or a refusal.
 pub fn check_term(term: &[u8]) -> Answer {
     count(raw::check_term(term))
+}
+
+/// Whether a proof is legal: its rules, or a refusal.
+pub fn check_proof(proof: &[u8]) -> Answer {
+    count(raw::check_proof(proof))
 }
 
 /// The printed text of a formula, to an output of at least [`FORMULA_TEXT_ROOM`] bytes: its length.
@@ -103,4 +110,37 @@ pub fn substitute_to(term: &[u8], name: &[u8], value: &[u8], out: &mut [u8], scr
 /// The term with the value for the name.
 pub fn substitute(term: &[u8], name: &[u8], value: &[u8]) -> Result<Vec<u8>, Refusal> {
     written(OUTPUT_ROOM, |out| substitute_to(term, name, value, out, &mut [0; SCRATCH_ROOM]))
+}
+
+/// What a stored file holds.
+#[derive(Clone, Copy, Debug, PartialEq, Eq)]
+pub enum Kind {
+    Term,
+    Proof,
+}
+
+/// The stored form of a legal term or proof, to an output of at least [`STORED_ROOM`] bytes: its length.
+pub fn store_to(kind: Kind, content: &[u8], out: &mut [u8]) -> Answer {
+    count(match kind {
+        Kind::Term => raw::store_term(content, out),
+        Kind::Proof => raw::store_proof(content, out),
+    })
+}
+
+/// The stored form of a legal term or proof.
+pub fn store(kind: Kind, content: &[u8]) -> Result<Vec<u8>, Refusal> {
+    written(STORED_ROOM, |out| store_to(kind, content, out))
+}
+
+/// The term or proof in a stored file, to an output of at least [`OUTPUT_ROOM`] bytes: its length.
+pub fn load_to(kind: Kind, file: &[u8], out: &mut [u8]) -> Answer {
+    count(match kind {
+        Kind::Term => raw::load_term(file, out),
+        Kind::Proof => raw::load_proof(file, out),
+    })
+}
+
+/// The term or proof in a stored file.
+pub fn load(kind: Kind, file: &[u8]) -> Result<Vec<u8>, Refusal> {
+    written(OUTPUT_ROOM, |out| load_to(kind, file, out))
 }

@@ -22,8 +22,13 @@ macro_rules! entry {
 
 entry!(check_formula = patch_check_formula(formula));
 entry!(check_term = patch_check_term(term));
+entry!(check_proof = patch_check_proof(proof));
 entry!(formula_text = patch_formula_text(formula) lent(out));
 entry!(term_text = patch_term_text(term) lent(out));
 entry!(child = patch_child(term) with(k: usize));
 entry!(free_vars = patch_free_vars(term) lent(out));
 entry!(substitute = patch_substitute(term, name, value) lent(out, scratch));
+entry!(store_term = patch_store_term(term) lent(out));
+entry!(store_proof = patch_store_proof(proof) lent(out));
+entry!(load_term = patch_load_term(file) lent(out));
+entry!(load_proof = patch_load_proof(file) lent(out));

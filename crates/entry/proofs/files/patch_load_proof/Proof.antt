@@ -1,0 +1,19 @@
+-- `entry::files::patch_load_proof` meets its contract: what it tells is the public call's answer, and the output is the call's. Assumes nothing.
+use borrow.Author.Needs.{needs}
+use Rattle.entry.proofs.files.patch_load_proof.Statement.{statement}
+use Rattle.entry.proofs.files.patch_load_proof.Tie as tie
+
+load-requires : tie.Need-load-requires
+load-requires c κs = search needs
+
+tell-requires : tie.Need-tell-requires
+tell-requires c κs = search needs
+
+same-length : tie.Need-same-length
+same-length c = search needs
+
+returns : tie.Need-returns
+returns c = (cc, cc)
+
+pub patch-load-proof-spec : {M : Type 1} → statement M
+patch-load-proof-spec = tie.close (tie.spec load-requires tell-requires same-length returns)

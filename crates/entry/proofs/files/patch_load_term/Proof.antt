@@ -1,0 +1,19 @@
+-- `entry::files::patch_load_term` meets its contract: what it tells is the public call's answer, and the output is the call's. Assumes nothing.
+use borrow.Author.Needs.{needs}
+use Rattle.entry.proofs.files.patch_load_term.Statement.{statement}
+use Rattle.entry.proofs.files.patch_load_term.Tie as tie
+
+load-requires : tie.Need-load-requires
+load-requires c κs = search needs
+
+tell-requires : tie.Need-tell-requires
+tell-requires c κs = search needs
+
+same-length : tie.Need-same-length
+same-length c = search needs
+
+returns : tie.Need-returns
+returns c = (cc, cc)
+
+pub patch-load-term-spec : {M : Type 1} → statement M
+patch-load-term-spec = tie.close (tie.spec load-requires tell-requires same-length returns)
