@@ -1,0 +1,113 @@
+// One step of a term, and whether there is one: the public calls.
+ghost use mathlib.Core.Path.{_≡_};
+ghost use Rattle.rules.specs.Limits.{limits};
+ghost use Rattle.rules.specs.Refusal.{refuse};
+ghost use Rattle.rules.specs.Term.{Term, encode};
+ghost use Rattle.rules.specs.Step.{step as stepOf, isNormal};
+ghost use Rattle.rules.specs.Calls.{stepCall, isNormalCall};
+ghost use Rattle.step.specs.Taken.{Reads};
+ghost use Rattle.stepping.specs.Answers.{stepAnswered, normalAnswered, Stepping};
+use rules::Answer;
+use rules::OUTPUT_ROOM;
+use rules::Refusal;
+use rules::Rule;
+use rules::SCRATCH_ROOM;
+use step::search::Sought;
+use step::search::find;
+use step::taking::Taken;
+use step::taking::take_step;
+
+// The rule, its place (the offset of the contracted node's tag in the given term), and the length of the next term.
+pub struct Found {
+    pub rule: Rule,
+    pub place: usize,
+    pub length: usize,
+}
+
+pub enum Stepped {
+    Normal,
+    Found(Found),
+    Refused(Refusal),
+}
+
+// Whether a term is normal.
+pub enum Normality {
+    Known(bool),
+    Refused(Refusal),
+}
+
+// A refusal that is about no one input: 1 or 8.
+fn refused(number: u8) -> Stepped
+    ensures { λ r. ⌜ r ≡ stepAnswered (refuse number 0 0) ⌝ }
+{
+    Stepped::Refused(Refusal {
+        number,
+        place: 0,
+        input: 0,
+    })
+}
+
+// A step of a term that was read: zeros behind the next term, and in the scratch.
+fn step_read(term: &[u8], nodes: usize, out: &mut [u8], scratch: &mut [u8]) -> Stepped
+    requires { ⌜ ((t : Term) × Reads (now term) nodes (now out) t) ⌝ }
+    ensures { λ r. ⌜ ((t : Term) → Reads (now (term .entry)) nodes (now (out .entry)) t → Stepping (stepOf t) (now (out .entry)) (now (scratch .entry)) r (now (out .exit)) (now (scratch .exit))) ⌝ }
+{
+    let taken = take_step(term, nodes, out);
+    runs::clear(scratch, 0);
+    match taken {
+        Taken::Normal => Stepped::Normal,
+        Taken::Outgrown => refused(8),
+        Taken::Found {
+            rule,
+            place,
+            length,
+            nodes: _,
+        } => {
+            runs::clear(out, length);
+            Stepped::Found(Found {
+                rule,
+                place,
+                length,
+            })
+        }
+    }
+}
+
+// The next term, written to out, with zeros behind it; or Normal, and out untouched.
+pub fn step(term: &[u8], out: &mut [u8], scratch: &mut [u8]) -> Stepped
+    ensures { λ r. ⌜ r ≡ stepAnswered (stepCall limits (now (term .entry)) (now (out .entry)) (now (scratch .entry)) .answer) ⌝ }
+    ensures { λ _. ⌜ now (out .exit) ≡ stepCall limits (now (term .entry)) (now (out .entry)) (now (scratch .entry)) .output ⌝ }
+    ensures { λ _. ⌜ now (scratch .exit) ≡ stepCall limits (now (term .entry)) (now (out .entry)) (now (scratch .entry)) .scratch ⌝ }
+{
+    if out.len() < OUTPUT_ROOM {
+        return refused(1);
+    }
+    if scratch.len() < SCRATCH_ROOM {
+        return refused(1);
+    }
+    match reader::term_input(term, 1) {
+        Answer::Refused(r) => Stepped::Refused(r),
+        Answer::Good(nodes) => step_read(term, nodes, out, scratch),
+    }
+}
+
+// Whether a term that was read has no redex.
+pub fn none_left(s: &[u8]) -> bool
+    requires { ⌜ ((t : Term) × (now s ≡ encode t)) ⌝ }
+    ensures { λ r. ⌜ ((t : Term) → now (s .entry) ≡ encode t → r ≡ isNormal (stepOf t)) ⌝ }
+{
+    match find(s, 0) {
+        Sought::After(_) => true,
+        Sought::Redex(_) => false,
+    }
+}
+
+// Whether step finds nothing.
+pub fn is_normal(term: &[u8]) -> Normality
+    ensures { λ r. ⌜ r ≡ normalAnswered (isNormalCall limits (now (term .entry))) ⌝ }
+{
+    match reader::term_input(term, 1) {
+        Answer::Refused(r) => Normality::Refused(r),
+        Answer::Good(_) => Normality::Known(none_left(term)),
+    }
+}
