@@ -1,0 +1,1 @@
+// What the program patchrun prints for a stored term.
