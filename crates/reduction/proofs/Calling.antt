@@ -1,0 +1,72 @@
+-- The call by its tests: short buffers, the reader, then the reduction. Assumes nothing.
+use Prim.Native.Nat.{ℕ, _≤_, _<_}
+use mathlib.Core.Path.{_≡_, refl, sym, ap, _∙_}
+use lib.ListN.{length, replicate}
+use borrow.Author.Tests.{le-leb, lt-leb}
+use Rattle.rules.specs.Basic.{Bytes}
+use Rattle.rules.specs.Limits.{limits}
+use Rattle.rules.specs.declared.Refusal.{Refusal}
+use Rattle.rules.specs.Refusal.{refuse, mapped, answered}
+use Rattle.rules.specs.declared.Answer.the-variants.{Good, Refused}
+use Rattle.rules.specs.Term.{Term, nodes}
+use Rattle.rules.specs.Reading.{readTerm}
+use Rattle.rules.specs.Reduction as rules
+use Rattle.rules.specs.Buffers.{cleared}
+use Rattle.rules.specs.Calls.{reduceEnding, reduceCall}
+use Rattle.laws.specs.Decoding.{term-sound}
+use Rattle.laws.specs.Fits.{accepted-fits}
+use Rattle.laws.specs.Numbers.{term-spares}
+use Rattle.reader.specs.Accepted.{Accepts, accepts, refuses}
+use Rattle.step.specs.Taken.{Reads}
+use Rattle.reduction.specs.Answers.{reducedBy, Reducing}
+use Rattle.reduction.specs.declared.Reduced.{Reduced}
+use Rattle.reduction.specs.declared.Reduced.the-variants.{Refused as IsRefused}
+
+module _ (term : Bytes) (limit : ℕ) (out scratch : Bytes) where
+  -- what the call ensures of its answer, its output and its scratch
+  abbrev pub Is : Reduced → Bytes → Bytes → Type 0
+  Is a out′ scratch′ =
+      (a ≡ reducedBy (reduceCall limits term limit out scratch .answer) (reduceCall limits term limit out scratch .length))
+      × ((out′ ≡ reduceCall limits term limit out scratch .output)
+      × (scratch′ ≡ reduceCall limits term limit out scratch .scratch))
+
+  pub short-out : (a : Reduced) → length out < 4096 → a ≡ reducedBy (refuse 1 0 0) 0 → Is a out scratch
+  unfolding reduceCall
+  short-out a h e = (rw (lt-leb 4096 (length out) h) e, (rw (lt-leb 4096 (length out) h), rw (lt-leb 4096 (length out) h)))
+
+  module _ (h : 4096 ≤ length out) where
+    pub short-scratch : (a : Reduced) → length scratch < 8192 → a ≡ reducedBy (refuse 1 0 0) 0 → Is a out scratch
+    unfolding reduceCall
+    short-scratch a k e =
+        let p = le-leb 4096 (length out) h in
+        let q = lt-leb 8192 (length scratch) k in
+        (rw (p, q) e, (rw (p, q), rw (p, q)))
+
+    module _ (k : 8192 ≤ length scratch) where
+      pub not-read : (r : Refusal) → answered (mapped nodes (readTerm limits 1 term)) ≡ Refused r → Is (IsRefused r 0) out scratch
+      unfolding reduceCall
+      not-read r e =
+          let p = le-leb 4096 (length out) h in
+          let q = le-leb 8192 (length scratch) k in
+          let f = refuses nodes (readTerm limits 1 term) e in
+          (rw (p, q, f), (rw (p, q, f), rw (p, q, f, term-spares limits 1 term r f)))
+
+      module _ (n : ℕ) (e : answered (mapped nodes (readTerm limits 1 term)) ≡ Good n) where
+        a : Accepts nodes (readTerm limits 1 term) n
+        a = accepts nodes (readTerm limits 1 term) e
+
+        pub read : (t : Term) × Reads term n out t
+        read =
+            let w = term-sound limits 1 term (a .value) (a .is) in
+            (a .value, record { whole = w .bytes; count = sym (a .counts); fits = accepted-fits limits term (a .value) w; room = h })
+
+        pub reduced : (r : Reduced) (out′ scratch′ : Bytes) → Reducing (rules.reduce limits limit (read .0)) out scratch r out′ scratch′ → Is r out′ scratch′
+        unfolding reduceCall a read
+        reduced r out′ scratch′ w =
+            let p = le-leb 4096 (length out) h in
+            let q = le-leb 8192 (length scratch) k in
+            (rw (p, q, a .is) (w .says), (rw (p, q, a .is) (w .leaves), rw (p, q, a .is) (w .clears ∙ either (rules.reduce limits limit (a .value)))))
+          where
+            either : (d : rules.Reduced) → replicate (length scratch) 0 ≡ cleared 0 scratch (reduceEnding d .says)
+            either (rules.stopped m c b u) = refl
+            either (rules.outgrew m u) = refl

@@ -1,0 +1,100 @@
+-- From the loop's answer to the call's: zeros behind the term that stands in the output, and in the scratch. Assumes nothing.
+use Prim.Native.Nat.{ℕ, _+_, _-_, _≤_}
+use mathlib.Core.Path.{_≡_, refl, sym, ap, _∙_}
+use mathlib.Core.Bool.{Bool}
+use mathlib.Core.List.{List, _++_, append-nil}
+use native.Mathlib.Omega.{arith}
+use lib.ListN.{length, take, drop, replicate, length-replicate}
+use lib.Seq.{sets, sets-eq, length-sets, slice, take-length, drop-length}
+use Rattle.rules.specs.Basic.{Bytes}
+use Rattle.rules.specs.Limits.{limits, scratchRoom}
+use Rattle.rules.specs.Term.{Term, encode, size}
+use Rattle.rules.specs.declared.Counts.{Counts}
+use Rattle.rules.specs.Reduction.{Reduced, stopped, outgrew}
+use Rattle.runs.specs.Wrote.{Wrote}
+use Rattle.substitution.proofs.Writes.{wrote-part, zeros}
+use Rattle.step.specs.Taken.{Reads}
+use Rattle.stepping.proofs.Taking.{fits-bytes}
+use Rattle.reduction.specs.Answers.{Reducing}
+use Rattle.reduction.specs.Repeating.{Stands, last, repeatedOf, Repeats}
+use Rattle.reduction.specs.declared.repeat.Repeated.{Repeated}
+use Rattle.reduction.specs.declared.repeat.Repeated.the-variants.{Stopped, Outgrown}
+use Rattle.reduction.specs.declared.Reduced.the-variants.{Stopped as IsStopped, Refused as IsRefused}
+
+module _ {term : Bytes} {n : ℕ} {out : Bytes} {t : Term} (d : Reads term n out t) where
+  pub room : 0 + (length term - 0) ≤ length out
+  room = omega (arith, ap (λ (z : Bytes). length z) (d .whole), fits-bytes t (d .fits), d .room)
+
+  pub starts : {scratch : Bytes} {out₁ : Bytes} {l : ℕ} → scratchRoom limits ≤ length scratch → Wrote out 0 (slice 0 (length term) term) out₁ l → Stands out₁ l n scratch t
+  starts {scratch} {out₁} {l} k w =
+      let e : slice 0 (length term) term ≡ encode t = take-length term ∙ d .whole in
+      let v : Wrote out 0 (encode t) out₁ l = record { holds = w .holds ∙ ap (λ (z : Bytes). sets out 0 z) e; ends = w .ends ∙ ap (λ (z : Bytes). 0 + length z) e } in
+      let x : l - 0 ≡ l = omega arith in
+      let m : l ≡ size t = v .ends ∙ omega arith in
+      record {
+        bytes = rw x at (wrote-part v (omega (arith, m, fits-bytes t (d .fits), d .room)));
+        long = m;
+        count = d .count;
+        fits = d .fits;
+        room = omega (arith, d .room, ap (λ (z : Bytes). length z) (w .holds), length-sets out 0 (slice 0 (length term) term));
+        scratch-room = omega arith;
+      }
+
+zeros-behind : (out xs : Bytes) (l : ℕ) → take l out ≡ xs → l ≡ length xs → l ≤ length out → sets out l (replicate (length out - l) 0) ≡ xs ++ replicate (length out - length xs) 0
+zeros-behind out xs l e h g =
+    let zs : Bytes = replicate (length out - l) 0 in
+    let q : l + length zs ≡ length out = omega (arith, length-replicate {A = ℕ} (length out - l) 0) in
+    sets-eq zs out l (omega arith)
+    ∙ ap (λ (k : ℕ). take l out ++ zs ++ drop k out) q
+    ∙ ap (λ (z : Bytes). take l out ++ zs ++ z) (drop-length out)
+    ∙ append-nil (take l out ++ zs)
+    ∙ ap (λ (z : Bytes). z ++ zs) e
+    ∙ ap (λ (k : ℕ). xs ++ replicate (length out - k) 0) h
+
+stops : (d : Reduced) {n : ℕ} {c : Counts} {b : Bool} {l : ℕ} → Stopped n c b l ≡ repeatedOf d → (d ≡ stopped n c b (last d)) × (l ≡ size (last d))
+stops (stopped n c b t) e = (cc, cc)
+stops (outgrew n t) e = absurd (let z : _≡_ {A = ℕ} 0 1 = cc in omega arith)
+
+over : (d : Reduced) {n l : ℕ} → Outgrown n l ≡ repeatedOf d → (d ≡ outgrew n (last d)) × (l ≡ size (last d))
+over (stopped n c b t) e = absurd (let z : _≡_ {A = ℕ} 0 1 = cc in omega arith)
+over (outgrew n t) e = (cc, cc)
+
+module _ {d : Reduced} {out₁ : Bytes} {r : Repeated} (w : Repeats d out₁ r) (out : Bytes) (same : length out₁ ≡ length out) (h : 4096 ≤ length out) where
+  behind : (l : ℕ) → l ≡ size (last d) → {out₂ : Bytes} → out₂ ≡ sets out₁ l (replicate (length out₁ - l) 0) → out₂ ≡ encode (last d) ++ replicate (length out - size (last d)) 0
+  behind l e {out₂} z =
+      z ∙ zeros-behind out₁ (encode (last d)) l (rw e (w .bytes)) e (omega (arith, fits-bytes (last d) (w .fits)))
+      ∙ ap (λ (k : ℕ). encode (last d) ++ replicate (k - size (last d)) 0) same
+
+  module _ {n : ℕ} {c : Counts} {b : Bool} {l : ℕ} (e : r ≡ Stopped n c b l) where
+    at-stop : (d ≡ stopped n c b (last d)) × (l ≡ size (last d))
+    at-stop = stops d (sym e ∙ w .says)
+
+    pub stop-room : l ≤ length out₁
+    stop-room = omega (arith, at-stop .1, fits-bytes (last d) (w .fits))
+
+    module _ (scratch scratch₁ : Bytes) {scratch₂ out₂ : Bytes} (p : length scratch₁ ≡ length scratch) (q : scratch₂ ≡ sets scratch₁ 0 (replicate (length scratch₁ - 0) 0)) (z : out₂ ≡ sets out₁ l (replicate (length out₁ - l) 0)) where
+      pub stop : Reducing d out scratch (IsStopped (record { steps = n; counts = c; normal = b; length = l })) out₂ scratch₂
+      stop =
+          let s = at-stop in
+          rw (s .0) (record {
+            says = ap (λ (k : ℕ). IsStopped (record { steps = n; counts = c; normal = b; length = k })) (s .1);
+            leaves = behind l (s .1) z;
+            clears = q ∙ zeros scratch₁ (length scratch) p;
+          })
+
+  module _ {n l : ℕ} (e : r ≡ Outgrown n l) where
+    at-over : (d ≡ outgrew n (last d)) × (l ≡ size (last d))
+    at-over = over d (sym e ∙ w .says)
+
+    pub over-room : l ≤ length out₁
+    over-room = omega (arith, at-over .1, fits-bytes (last d) (w .fits))
+
+    module _ (scratch scratch₁ : Bytes) {scratch₂ out₂ : Bytes} (p : length scratch₁ ≡ length scratch) (q : scratch₂ ≡ sets scratch₁ 0 (replicate (length scratch₁ - 0) 0)) (z : out₂ ≡ sets out₁ l (replicate (length out₁ - l) 0)) where
+      pub outgrow : Reducing d out scratch (IsRefused (record { number = 8; place = n; input = 0 }) l) out₂ scratch₂
+      outgrow =
+          let s = at-over in
+          rw (s .0) (record {
+            says = ap (λ (k : ℕ). IsRefused (record { number = 8; place = n; input = 0 }) k) (s .1);
+            leaves = behind l (s .1) z;
+            clears = q ∙ zeros scratch₁ (length scratch) p;
+          })

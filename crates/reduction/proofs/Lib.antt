@@ -1,0 +1,3 @@
+mod Turns
+mod Ending
+mod Calling

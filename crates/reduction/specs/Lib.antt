@@ -1,0 +1,4 @@
+pub mod Answers
+pub mod Counted
+pub mod Repeating
+pub mod Carried

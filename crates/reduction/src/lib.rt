@@ -1,0 +1,104 @@
+// Bounded reduction: a term is read once, steps are taken up to the limit, and the last term stands in the output with zeros behind it.
+ghost use mathlib.Core.Path.{_≡_};
+ghost use Prim.Native.Nat.{_≤_};
+ghost use lib.ListN.{length};
+ghost use Rattle.rules.specs.Limits.{limits, scratchRoom};
+ghost use Rattle.rules.specs.Refusal.{refuse};
+ghost use Rattle.rules.specs.Term.{Term};
+ghost use Rattle.rules.specs.Reduction.{reduce};
+ghost use Rattle.rules.specs.Calls.{reduceCall};
+ghost use Rattle.step.specs.Taken.{Reads};
+ghost use Rattle.reduction.specs.Answers.{reducedBy, Reducing};
+use repeat::Repeated;
+use repeat::repeat_steps;
+use rules::Answer;
+use rules::Counts;
+use rules::OUTPUT_ROOM;
+use rules::Refusal;
+use rules::SCRATCH_ROOM;
+
+pub mod counting;
+pub mod repeat;
+
+// The steps taken, one count for each rule, whether no step remains, and the length of the term in the output.
+pub struct Reduction {
+    pub steps: u32,
+    pub counts: Counts,
+    pub normal: bool,
+    pub length: usize,
+}
+
+// A refusal also tells the length of what was written: 8 leaves the last term that fitted.
+pub enum Reduced {
+    Stopped(Reduction),
+    Refused { refusal: Refusal, length: usize },
+}
+
+// A short buffer.
+fn refused() -> Reduced
+    ensures { λ r. ⌜ r ≡ reducedBy (refuse 1 0 0) 0 ⌝ }
+{
+    Reduced::Refused {
+        refusal: Refusal {
+            number: 1,
+            place: 0,
+            input: 0,
+        },
+        length: 0,
+    }
+}
+
+// The reduction of a term that was read: zeros behind what stands in the output, and in the scratch.
+fn reduce_read(term: &[u8], nodes: usize, limit: u32, out: &mut [u8], scratch: &mut [u8]) -> Reduced
+    requires { ⌜ ((t : Term) × Reads (now term) nodes (now out) t) × (scratchRoom limits ≤ length (now scratch)) ⌝ }
+    ensures { λ r. ⌜ ((t : Term) → Reads (now (term .entry)) nodes (now (out .entry)) t → Reducing (reduce limits limit t) (now (out .entry)) (now (scratch .entry)) r (now (out .exit)) (now (scratch .exit))) ⌝ }
+{
+    let whole = runs::copy(term, 0, term.len(), out, 0);
+    let repeated = repeat_steps(whole, nodes, limit, out, scratch);
+    runs::clear(scratch, 0);
+    match repeated {
+        Repeated::Stopped {
+            steps,
+            counts,
+            normal,
+            length,
+        } => {
+            runs::clear(out, length);
+            Reduced::Stopped(Reduction {
+                steps,
+                counts,
+                normal,
+                length,
+            })
+        }
+        Repeated::Outgrown { steps, length } => {
+            runs::clear(out, length);
+            Reduced::Refused {
+                refusal: Refusal {
+                    number: 8,
+                    place: steps as usize,
+                    input: 0,
+                },
+                length,
+            }
+        }
+    }
+}
+
+// Steps up to the limit. A step past the limit is not tried; 8 gives the steps done, and leaves the last term that fitted.
+pub fn normalize_bounded(term: &[u8], limit: u32, out: &mut [u8], scratch: &mut [u8]) -> Reduced
+    ensures { λ r. ⌜ r ≡ reducedBy (reduceCall limits (now (term .entry)) limit (now (out .entry)) (now (scratch .entry)) .answer) (reduceCall limits (now (term .entry)) limit (now (out .entry)) (now (scratch .entry)) .length) ⌝ }
+    ensures { λ _. ⌜ now (out .exit) ≡ reduceCall limits (now (term .entry)) limit (now (out .entry)) (now (scratch .entry)) .output ⌝ }
+    ensures { λ _. ⌜ now (scratch .exit) ≡ reduceCall limits (now (term .entry)) limit (now (out .entry)) (now (scratch .entry)) .scratch ⌝ }
+{
+    if out.len() < OUTPUT_ROOM {
+        return refused();
+    }
+    if scratch.len() < SCRATCH_ROOM {
+        return refused();
+    }
+    match reader::term_input(term, 1) {
+        Answer::Refused(refusal) => Reduced::Refused { refusal, length: 0 },
+        Answer::Good(nodes) => reduce_read(term, nodes, limit, out, scratch),
+    }
+}
