@@ -18,7 +18,7 @@ use Rattle.laws.specs.Decoding.{term-sound}
 use Rattle.reader.specs.Accepted.{accepts, refuses}
 use Rattle.walk.specs.Node.{head, encodeAll}
 use Rattle.walk.specs.Place.{TermAt, TermsAt}
-use Rattle.walk.specs.Child.{Located, told}
+use Rattle.walk.specs.Child.{Stands, Located, told}
 use Rattle.walk.specs.declared.Row.{Row}
 use Rattle.walk.specs.declared.child.Piece.{Piece}
 use Rattle.walk.specs.declared.child.Piece.the-variants.{Part, Missing}
@@ -31,6 +31,7 @@ use Rattle.walk.proofs.Terms.{SkipIs, skip-one, some-alone, first, othe
 -- k terms, and the next one after them
 pub record Picked (s : Bytes) (i k : ℕ) (ts : List Term) : Type 0 where
   pub before : List Term
+  pub begins : before ≡ take k ts
   pub here : TermsAt s i k before
   pub term : Term
   pub is : getElem? ts k ≡ some term
@@ -41,6 +42,7 @@ pick s k i n [] w l = absurd (omega (arith, w .many))
 pick s zero i n (t ∷ ts) w l =
     record {
       before = [];
+      begins = refl;
       here = record { many = refl; rest = drop i s; bytes = refl };
       term = t;
       is = refl;
@@ -53,6 +55,7 @@ pick s (suc k) i n (t ∷ ts) w l =
     let e : drop (i + size t) s ≡ a .rest = drop-app (encode t) (a .rest) s i (i + size t) (a .bytes) refl in
     record {
       before = t ∷ r .before;
+      begins = ap (λ (z : List Term). t ∷ z) (r .begins);
       here =
           record {
             many = ap suc (r .here .many);
@@ -115,31 +118,42 @@ module _ (s : Bytes) (k : ℕ) where
           pub some-child : (ts : List Term) × TermsAt s a 1 ts
           some-child = some-alone s a (picked .term, stands-there)
 
-          pub child-part : (b : ℕ) → SkipIs s a 1 b → (a ≤ b) × (b ≤ length s) × (childOf limits s k ≡ good (take (b - a) (drop a s)))
+          starts-there : a ≡ length (head (read .0)) + length (encodeAll (take k (parts (read .0))))
+          starts-there =
+              let p = picked in
+              let t = read in
+              omega (arith, g (p .before) (p .here), f (t .0) (t .2) .0, ap (λ (z : List Term). length (encodeAll z)) (p .begins))
+
+          pub child-part : (b : ℕ) → SkipIs s a 1 b → Stands s k a b
           child-part b q =
               let p = picked in
               let w = stands-there in
-              let z : b ≡ a + size (p .term) = skip-one s a b q (p .term) w in (
-                omega arith,
-                omega (arith, at-end s a (p .term) w),
-                child-is (read .0) (read .1) ∙ ap (λ (o : Option Term). childOr o) (p .is)
-                    ∙ ap good (sym (ap (λ (l : Bytes). take (b - a) l) (w .bytes) ∙ take-at (encode (p .term)) (w .rest) (b - a) (omega arith))),
-              )
+              let z : b ≡ a + size (p .term) = skip-one s a b q (p .term) w in
+              record {
+                ordered = omega arith;
+                within = omega (arith, at-end s a (p .term) w);
+                bytes =
+                    child-is (read .0) (read .1) ∙ ap (λ (o : Option Term). childOr o) (p .is)
+                    ∙ ap good (sym (ap (λ (l : Bytes). take (b - a) l) (w .bytes) ∙ take-at (encode (p .term)) (w .rest) (b - a) (omega arith)));
+                term = read .0;
+                read = read .1;
+                starts = starts-there;
+              }
 
 -- ---- what was located
 
 module _ (s : Bytes) (k : ℕ) (p : Piece) (w : Located s k p) where
   module _ (a b : ℕ) (e : p ≡ Part a b) where
-    pub part : (a ≤ b) × (b ≤ length s) × (childOf limits s k ≡ good (take (b - a) (drop a s)))
+    pub part : Stands s k a b
     part = rw e at w
 
     pub part-is : take (b - a) (drop a s) ≡ childCall limits s k
     unfolding childCall
-    part-is = rw (part .2)
+    part-is = rw (part .bytes)
 
     pub part-well : Nothing ≡ told (childFaultCall limits s k)
     unfolding childFaultCall
-    part-well = rw (part .2)
+    part-well = rw (part .bytes)
 
   module _ (r : Refusal) (e : p ≡ Missing r) where
     missing : childOf limits s k ≡ refused r

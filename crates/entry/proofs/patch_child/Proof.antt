@@ -10,7 +10,7 @@ use Rattle.entry.proofs.patch_child.Statement.{statement}
 use Rattle.entry.proofs.patch_child.Tie as tie
 
 in-order : (s : Bytes) (k : ℕ) (p : Piece) → Located s k p → ordered p
-in-order s k (Part a b) h = h .0
+in-order s k (Part a b) h = h .ordered
 in-order s k (Missing r) h = tt
 
 locate-requires : tie.Need-locate-requires

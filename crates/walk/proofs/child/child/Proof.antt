@@ -12,13 +12,13 @@ enum-known-from : tie.Need-enum-known-from
 enum-known-from c = search needs
 
 sub-result : tie.Need-sub-result
-sub-result c = part (now (c .before .before .before .before .before .args .term)) (c .before .before .before .before .before .args .k) _ (c .before .before .before .locate .ensures) _ _ (c .before .from .given .1) .0
+sub-result c = part (now (c .before .before .before .before .before .args .term)) (c .before .before .before .before .before .args .k) _ (c .before .before .before .locate .ensures) _ _ (c .before .from .given .1) .ordered
 
 part-result-start : tie.Need-part-result-start
-part-result-start c = part (now (c .before .before .before .before .before .args .term)) (c .before .before .before .before .before .args .k) _ (c .before .before .before .locate .ensures) _ _ (c .before .from .given .1) .0
+part-result-start c = part (now (c .before .before .before .before .before .args .term)) (c .before .before .before .before .before .args .k) _ (c .before .before .before .locate .ensures) _ _ (c .before .from .given .1) .ordered
 
 part-result-end : tie.Need-part-result-end
-part-result-end c = part (now (c .before .before .before .before .before .args .term)) (c .before .before .before .before .before .args .k) _ (c .before .before .before .locate .ensures) _ _ (c .before .from .given .1) .1
+part-result-end c = part (now (c .before .before .before .before .before .args .term)) (c .before .before .before .before .before .args .k) _ (c .before .before .before .locate .ensures) _ _ (c .before .from .given .1) .within
 
 enum-told : tie.Need-enum-told
 enum-told c = search needs
