@@ -27,3 +27,6 @@ entry!(term_text = patch_term_text(term) lent(out));
 entry!(child = patch_child(term) with(k: usize));
 entry!(free_vars = patch_free_vars(term) lent(out));
 entry!(substitute = patch_substitute(term, name, value) lent(out, scratch));
+entry!(step = patch_step(term) lent(out, scratch));
+entry!(normalize_bounded = patch_normalize_bounded(term) with(limit: u32) lent(out, scratch));
+entry!(is_normal = patch_is_normal(term));
