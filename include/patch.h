@@ -11,8 +11,8 @@
  *   answer[PATCH_INPUT]   the input that it is about, 1 for the first; 0 if it is about none
  *   answer[PATCH_VALUE]   the values of the call, as listed at it; zeros behind them
  *
- * After success a lent output holds the answer and then zeros to its end; a refusal leaves it as it was. A lent scratch is all zeros after success,
- * and after refusal 8; any other refusal leaves it as it was.
+ * After success a lent output holds the answer and then zeros to its end; a refusal leaves it as it was, unless the call says otherwise. A lent
+ * scratch is all zeros after success, and after refusal 8; any other refusal leaves it as it was.
  */
 #ifndef PATCH_H
 #define PATCH_H
@@ -39,6 +39,19 @@ extern "C" {
 
 /* The least length of a lent scratch. */
 #define PATCH_SCRATCH_ROOM 8192
+
+/* The rules of a step, in the order of their counts; 0 stands for no rule. */
+enum patch_rule {
+    PATCH_NORMAL = 0,
+    PATCH_APP = 1,
+    PATCH_LET = 2,
+    PATCH_CASE = 3,
+    PATCH_FST = 4,
+    PATCH_SND = 5,
+    PATCH_DERELICT = 6,
+    PATCH_COPY = 7,
+    PATCH_DISCARD = 8
+};
 
 /* The refusals. */
 enum patch_refusal {
@@ -79,6 +92,20 @@ void patch_free_vars(const uint8_t *term, size_t term_length, uint8_t *out, size
  * least PATCH_SCRATCH_ROOM. Value: its length. */
 void patch_substitute(const uint8_t *term, size_t term_length, const uint8_t *name, size_t name_length, const uint8_t *value, size_t value_length,
                       uint8_t *out, size_t out_length, uint8_t *scratch, size_t scratch_length, uint64_t answer[PATCH_ANSWER]);
+
+/* One step of a term, to an output of at least PATCH_OUTPUT_ROOM bytes, by way of a scratch of at least PATCH_SCRATCH_ROOM. Values: the rule, or
+ * PATCH_NORMAL and the output as it was; the place of the contracted node's tag in the given term; the length of the next term. */
+void patch_step(const uint8_t *term, size_t term_length, uint8_t *out, size_t out_length, uint8_t *scratch, size_t scratch_length,
+                uint64_t answer[PATCH_ANSWER]);
+
+/* At most `limit` steps of a term, to an output of at least PATCH_OUTPUT_ROOM bytes, by way of a scratch of at least PATCH_SCRATCH_ROOM. Values: the
+ * steps taken; 1 if no step remains, else 0; the length of the term; one count for each rule, from PATCH_APP to PATCH_DISCARD. Refused with
+ * PATCH_OUTGROWS, the place is the steps done, the output holds the last term that fitted and then zeros, and the value is its length. */
+void patch_normalize_bounded(const uint8_t *term, size_t term_length, uint32_t limit, uint8_t *out, size_t out_length, uint8_t *scratch,
+                             size_t scratch_length, uint64_t answer[PATCH_ANSWER]);
+
+/* Whether a term is normal: no step finds anything in it. Value: 1 if so, else 0. */
+void patch_is_normal(const uint8_t *term, size_t term_length, uint64_t answer[PATCH_ANSWER]);
 
 /* The stored form of a legal term or proof, to an output of at least PATCH_STORED_ROOM bytes. Value: its length. */
 void patch_store_term(const uint8_t *term, size_t term_length, uint8_t *out, size_t out_length, uint64_t answer[PATCH_ANSWER]);

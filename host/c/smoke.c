@@ -21,8 +21,10 @@ static unsigned refused(const uint64_t answer[PATCH_ANSWER]) {
 int main(void) {
     static const uint8_t formula[] = {13, 1, 1, 'A', 5};
     static const uint8_t term[] = {5, 1, 'x', 1, 1, 'x'};
+    static const uint8_t applied[] = {6, 5, 1, 'x', 1, 1, 'x', 2};
     static const char text[] = "(A \xe2\x8a\xb8 1)";
     static uint8_t out[PATCH_FORMULA_TEXT_ROOM + 1];
+    static uint8_t scratch[PATCH_SCRATCH_ROOM];
     uint64_t answer[PATCH_ANSWER];
 
     patch_check_formula(formula, sizeof formula, answer);
@@ -41,5 +43,13 @@ int main(void) {
     expect(refused(answer) == 0 && answer[PATCH_VALUE] == sizeof text - 1, "the text's length");
     expect(memcmp(out, text, sizeof text) == 0, "the text, then zeros");
     expect(out[PATCH_FORMULA_TEXT_ROOM - 1] == 0 && out[PATCH_FORMULA_TEXT_ROOM] == 9, "zeros to the end of what is lent");
+
+    patch_step(applied, sizeof applied, out, PATCH_OUTPUT_ROOM, scratch, sizeof scratch, answer);
+    expect(refused(answer) == 0 && answer[PATCH_VALUE] == PATCH_APP && answer[PATCH_VALUE + 2] == 1 && out[0] == 2, "a step");
+    patch_normalize_bounded(applied, sizeof applied, 1000, out, PATCH_OUTPUT_ROOM, scratch, sizeof scratch, answer);
+    expect(refused(answer) == 0 && answer[PATCH_VALUE] == 1 && answer[PATCH_VALUE + 1] == 1, "a reduction of one step");
+    expect(answer[PATCH_VALUE + 2 + PATCH_APP] == 1 && answer[PATCH_VALUE + 2 + PATCH_DISCARD] == 0, "its counts");
+    patch_is_normal(applied, sizeof applied, answer);
+    expect(refused(answer) == 0 && answer[PATCH_VALUE] == 0, "a term that is not normal");
     return wrong;
 }

@@ -4,11 +4,19 @@
 ghost use mathlib.Core.Path.{_≡_};
 ghost use Rattle.rules.specs.Limits.{limits};
 ghost use Rattle.rules.specs.Refusal.{answered};
-ghost use Rattle.rules.specs.Calls.{checkTermCall, checkFormulaCall, checkProofCall, formulaTextCall, textCall, freeVarsCall, substituteCall};
+ghost use Rattle.stepping.specs.Answers.{stepAnswered, normalAnswered};
+ghost use Rattle.reduction.specs.Answers.{reducedBy};
+ghost use Rattle.rules.specs.Calls.{checkTermCall, checkFormulaCall, checkProofCall, formulaTextCall, textCall, freeVarsCall, substituteCall, stepCall, reduceCall, isNormalCall};
 ghost use Rattle.entry.specs.Told.{toldRefusal, toldAnswer};
 ghost use Rattle.entry.specs.Child.{ordered, toldPiece, ToldChild};
+ghost use Rattle.entry.specs.Steps.{ruleNumber, bit, toldStep, toldNormal, toldReduction, toldReduced};
+use reduction::Reduced;
+use reduction::Reduction;
 use rules::Answer;
 use rules::Refusal;
+use rules::Rule;
+use stepping::Normality;
+use stepping::Stepped;
 use walk::child::Piece;
 
 mod files;
@@ -50,6 +58,135 @@ fn tell_piece(piece: Piece, told: &mut [u64; 16])
         }
         Piece::Missing(r) => {
             tell_refusal(r, told);
+        }
+    }
+}
+
+// The number of a rule, from 1.
+fn rule_number(rule: Rule) -> u64
+    ensures { λ r. ⌜ r ≡ ruleNumber rule ⌝ }
+{
+    match rule {
+        Rule::App => 1,
+        Rule::Let => 2,
+        Rule::Case => 3,
+        Rule::Fst => 4,
+        Rule::Snd => 5,
+        Rule::Derelict => 6,
+        Rule::Copy => 7,
+        Rule::Discard => 8,
+    }
+}
+
+fn bit_of(b: bool) -> u64
+    ensures { λ r. ⌜ r ≡ bit b ⌝ }
+{
+    if b { 1 } else { 0 }
+}
+
+// A step, told as numbers.
+fn tell_step(stepped: Stepped, told: &mut [u64; 16])
+    ensures { λ _. ⌜ now (told .exit) ≡ toldStep stepped ⌝ }
+{
+    match stepped {
+        Stepped::Normal => {
+            *told = [0, 0, 0, 0, 0, 0, 0, 0, 0, 0, 0, 0, 0, 0, 0, 0];
+        }
+        Stepped::Found(found) => {
+            let by = found.rule;
+            let rule = rule_number(by);
+            let place = found.place as u64;
+            let length = found.length as u64;
+            *told = [0, 0, 0, rule, place, length, 0, 0, 0, 0, 0, 0, 0, 0, 0, 0];
+        }
+        Stepped::Refused(r) => {
+            tell_refusal(r, told);
+        }
+    }
+}
+
+// Whether a term is normal, told as numbers.
+fn tell_normal(normality: Normality, told: &mut [u64; 16])
+    ensures { λ _. ⌜ now (told .exit) ≡ toldNormal normality ⌝ }
+{
+    match normality {
+        Normality::Known(normal) => {
+            let yes = bit_of(normal);
+            *told = [0, 0, 0, yes, 0, 0, 0, 0, 0, 0, 0, 0, 0, 0, 0, 0];
+        }
+        Normality::Refused(r) => {
+            tell_refusal(r, told);
+        }
+    }
+}
+
+// What a reduction did, told as numbers.
+fn tell_reduction(reduction: Reduction, told: &mut [u64; 16])
+    ensures { λ _. ⌜ now (told .exit) ≡ toldReduction reduction ⌝ }
+{
+    let normal = bit_of(reduction.normal);
+    let length = reduction.length as u64;
+    let counts = reduction.counts;
+    let steps = reduction.steps as u64;
+    let app = counts.app as u64;
+    let lets = counts.lets as u64;
+    let case = counts.case as u64;
+    let fst = counts.fst as u64;
+    let snd = counts.snd as u64;
+    let derelict = counts.derelict as u64;
+    let copy = counts.copy as u64;
+    let discard = counts.discard as u64;
+    *told = [
+        0,
+        0,
+        0,
+        steps,
+        normal,
+        length,
+        app,
+        lets,
+        case,
+        fst,
+        snd,
+        derelict,
+        copy,
+        discard,
+        0,
+        0,
+    ];
+}
+
+// A reduction or a refusal, told as numbers.
+fn tell_reduced(reduced: Reduced, told: &mut [u64; 16])
+    ensures { λ _. ⌜ now (told .exit) ≡ toldReduced reduced ⌝ }
+{
+    match reduced {
+        Reduced::Stopped(reduction) => {
+            tell_reduction(reduction, told);
+        }
+        Reduced::Refused { refusal, length } => {
+            let number = refusal.number as u64;
+            let place = refusal.place as u64;
+            let input = refusal.input as u64;
+            let left = length as u64;
+            *told = [
+                number,
+                place,
+                input,
+                left,
+                0,
+                0,
+                0,
+                0,
+                0,
+                0,
+                0,
+                0,
+                0,
+                0,
+                0,
+                0,
+            ];
         }
     }
 }
@@ -124,4 +261,43 @@ pub extern "C" fn patch_substitute(
         substitution::substitute(term, name, value, out, scratch),
         answer,
     );
+}
+
+#[no_mangle]
+pub extern "C" fn patch_step(
+    term: &[u8],
+    out: &mut [u8],
+    scratch: &mut [u8],
+    answer: &mut [u64; 16],
+)
+    ensures { λ _. ⌜ now (answer .exit) ≡ toldStep (stepAnswered (stepCall limits (now (term .entry)) (now (out .entry)) (now (scratch .entry)) .answer)) ⌝ }
+    ensures { λ _. ⌜ now (out .exit) ≡ stepCall limits (now (term .entry)) (now (out .entry)) (now (scratch .entry)) .output ⌝ }
+    ensures { λ _. ⌜ now (scratch .exit) ≡ stepCall limits (now (term .entry)) (now (out .entry)) (now (scratch .entry)) .scratch ⌝ }
+{
+    tell_step(stepping::step(term, out, scratch), answer);
+}
+
+#[no_mangle]
+pub extern "C" fn patch_normalize_bounded(
+    term: &[u8],
+    limit: u32,
+    out: &mut [u8],
+    scratch: &mut [u8],
+    answer: &mut [u64; 16],
+)
+    ensures { λ _. ⌜ now (answer .exit) ≡ toldReduced (reducedBy (reduceCall limits (now (term .entry)) limit (now (out .entry)) (now (scratch .entry)) .answer) (reduceCall limits (now (term .entry)) limit (now (out .entry)) (now (scratch .entry)) .length)) ⌝ }
+    ensures { λ _. ⌜ now (out .exit) ≡ reduceCall limits (now (term .entry)) limit (now (out .entry)) (now (scratch .entry)) .output ⌝ }
+    ensures { λ _. ⌜ now (scratch .exit) ≡ reduceCall limits (now (term .entry)) limit (now (out .entry)) (now (scratch .entry)) .scratch ⌝ }
+{
+    tell_reduced(
+        reduction::normalize_bounded(term, limit, out, scratch),
+        answer,
+    );
+}
+
+#[no_mangle]
+pub extern "C" fn patch_is_normal(term: &[u8], answer: &mut [u64; 16])
+    ensures { λ _. ⌜ now (answer .exit) ≡ toldNormal (normalAnswered (isNormalCall limits (now (term .entry)))) ⌝ }
+{
+    tell_normal(stepping::is_normal(term), answer);
 }

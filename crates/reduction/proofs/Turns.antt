@@ -1,15 +1,15 @@
 -- A turn of the loop over steps: what is left to do is what the rules leave to do, of the term that stands in the output.
 -- Assumes nothing.
 use Prim.Native.Nat.{ℕ, suc, _+_, _-_, _≤_, _<_}
-use mathlib.Core.Path.{_≡_, refl, sym, ap, _∙_}
-use mathlib.Core.Bool.{Bool, true, false}
+use mathlib.Core.Path.{_≡_, sym, ap, _∙_}
+use mathlib.Core.Bool.{Bool, true}
 use native.Mathlib.Numerals.{add-one}
 use native.Mathlib.Omega.{arith}
 use lib.ListN.{length, take}
 use lib.Seq.{sets, length-sets, slice}
 use Rattle.rules.specs.Basic.{Bytes}
 use Rattle.rules.specs.Limits.{limits}
-use Rattle.rules.specs.Term.{Term, encode, size}
+use Rattle.rules.specs.Term.{Term, encode}
 use Rattle.rules.specs.declared.Rule.{Rule}
 use Rattle.rules.specs.declared.Counts.{Counts}
 use Rattle.rules.specs.Step.{Stepped, normal, step, isNormal}

@@ -2,13 +2,13 @@
 -- By cases on the step. Assumes nothing.
 use Prim.Native.Nat.{ℕ, zero, suc}
 use mathlib.Core.Path.{_≡_, refl}
-use mathlib.Core.Bool.{true, false}
+use mathlib.Core.Bool.{Bool, true, false}
 use mathlib.Core.Option.{Option}
 use Rattle.rules.specs.Limits.{Limits}
 use Rattle.rules.specs.Term.{Term}
 use Rattle.rules.specs.declared.Rule.{Rule}
 use Rattle.rules.specs.declared.Counts.{Counts}
-use Rattle.rules.specs.Step.{normal, found, step, isNormal, stepFits}
+use Rattle.rules.specs.Step.{Stepped, normal, found, step, isNormal, stepFits}
 use Rattle.rules.specs.Reduction.{plus, stopped, outgrew, reduceFrom}
 
 module _ (L : Limits) (n : ℕ) (c : Counts) (t : Term) where
@@ -30,3 +30,20 @@ module _ (L : Limits) (n : ℕ) (c : Counts) (t : Term) where
         → reduceFrom L (suc limit) n c t ≡ outgrew n t
     unfolding reduceFrom
     at-over r p h u e f = rw (e, reduceFrom) (rw f)
+
+-- what a step of t comes to: nothing, a term that fits, or one that does not
+pub data Turn (L : Limits) (t : Term) : Type 0 where
+  rests : step t ≡ normal → Turn L t
+  goes : (r : Rule) (p : ℕ) (h : Option Term) (u : Term) → step t ≡ found r p h u → stepFits L h u ≡ true → Turn L t
+  outgrows : (r : Rule) (p : ℕ) (h : Option Term) (u : Term) → step t ≡ found r p h u → stepFits L h u ≡ false → Turn L t
+
+pub turn : (L : Limits) (t : Term) → Turn L t
+turn L t = go (step t) refl
+  where
+    go : (s : Stepped) → step t ≡ s → Turn L t
+    go normal e = rests e
+    go (found r p h u) e = tested (stepFits L h u) refl
+      where
+        tested : (b : Bool) → stepFits L h u ≡ b → Turn L t
+        tested true f = goes r p h u e f
+        tested false f = outgrows r p h u e f

@@ -1,5 +1,4 @@
 // The loop over steps.
-ghost use mathlib.Core.Path.{_≡_};
 ghost use Rattle.rules.specs.Limits.{limits};
 ghost use Rattle.rules.specs.Term.{Term};
 ghost use Rattle.rules.specs.Reduction.{reduce};

@@ -1,5 +1,5 @@
 -- The calls by their tests: short buffers, the reader, then the step. Assumes nothing.
-use Prim.Native.Nat.{ℕ, _+_, _-_, _≤_, _<_}
+use Prim.Native.Nat.{ℕ, _-_, _≤_, _<_}
 use mathlib.Core.Path.{_≡_, refl, sym, ap, _∙_}
 use mathlib.Core.Bool.{Bool, true, false}
 use native.Mathlib.Omega.{arith}
@@ -10,9 +10,9 @@ use Rattle.rules.specs.Basic.{Bytes}
 use Rattle.rules.specs.Limits.{limits}
 use Rattle.rules.specs.declared.Rule.{Rule}
 use Rattle.rules.specs.declared.Refusal.{Refusal}
-use Rattle.rules.specs.Refusal.{Outcome, good, refused, refuse, mapped, answered}
+use Rattle.rules.specs.Refusal.{good, refuse, mapped, answered}
 use Rattle.rules.specs.declared.Answer.the-variants.{Good, Refused}
-use Rattle.rules.specs.Term.{Term, encode, nodes, size}
+use Rattle.rules.specs.Term.{Term, encode, nodes}
 use Rattle.rules.specs.Reading.{readTerm}
 use Rattle.rules.specs.Step as rules
 use Rattle.rules.specs.Buffers.{cleared}
@@ -24,7 +24,7 @@ use Rattle.reader.specs.Accepted.{Accepts, accepts, refuses}
 use Rattle.runs.specs.Wrote.{Wrote}
 use Rattle.runs.specs.Writing.{filled-up}
 use Rattle.substitution.proofs.Writes.{zeros}
-use Rattle.step.specs.Taken.{Reads, Takes, writtenOf}
+use Rattle.step.specs.Taken.{Reads, Takes}
 use Rattle.step.specs.declared.taking.Taken.{Taken}
 use Rattle.step.specs.declared.taking.Taken.the-variants.{Normal, Found, Outgrown}
 use Rattle.stepping.specs.Answers.{stepAnswered, normalAnswered, Stepping}

@@ -1,14 +1,13 @@
 -- Where the search finds nothing the term is normal. By cases on the spot. Assumes nothing.
 use Prim.Native.Nat.{ℕ}
 use mathlib.Core.Path.{_≡_, refl, _∙_}
-use mathlib.Core.Bool.{Bool, true, false}
+use mathlib.Core.Bool.{true, false}
 use mathlib.Core.Option.{Option, none, some}
 use native.Mathlib.Omega.{arith}
 use Rattle.rules.specs.Term.{Term, size}
 use Rattle.rules.specs.Step.{normal, found, step, isNormal}
-use Rattle.step.specs.Spot.{Spot, spot, stepAt, step-spot, Contracts, spot-contracts}
+use Rattle.step.specs.Spot.{Spot, spot, step-spot, Contracts, spot-contracts}
 use Rattle.step.specs.Searched.{soughtAt, sought}
-use Rattle.step.specs.declared.search.Sought.{Sought}
 use Rattle.step.specs.declared.search.Sought.the-variants.{Redex, After}
 
 pub rests : (t : Term) {m : ℕ} → After m ≡ sought 0 t → true ≡ isNormal (step t)

@@ -1,7 +1,7 @@
 -- What the answer of a step says of the step: by cases on it. Assumes nothing.
 use Prim.Native.Nat.{ℕ, _≤_}
 use mathlib.Core.Path.{_≡_, refl, ap, _∙_}
-use mathlib.Core.Bool.{Bool, true, false, _&&_}
+use mathlib.Core.Bool.{Bool, true, false}
 use mathlib.Core.Option.{Option}
 use native.Mathlib.Omega.{arith}
 use lib.Seq.{sets}
@@ -13,7 +13,6 @@ use Rattle.rules.specs.declared.Rule.{Rule}
 use Rattle.rules.specs.Step.{Stepped, normal, found, halfFits, stepFits}
 use Rattle.laws.specs.Same.{both-true}
 use Rattle.step.specs.Taken.{takenOf, writtenOf}
-use Rattle.step.specs.declared.taking.Taken.{Taken}
 use Rattle.step.specs.declared.taking.Taken.the-variants.{Normal, Found, Outgrown}
 
 -- what fits has at most 4,096 bytes

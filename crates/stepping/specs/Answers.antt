@@ -1,5 +1,4 @@
 -- What each case of the calls' answers says, and what a step of a term that was read leaves. Assumes nothing: these are definitions.
-use Prim.Native.Nat.{ℕ}
 use mathlib.Core.Path.{_≡_}
 use mathlib.Core.Bool.{Bool}
 use lib.ListN.{length, replicate}

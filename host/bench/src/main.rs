@@ -1,10 +1,12 @@
 //! Times the ported Rust and the port on the same inputs, in turns, and prints how they compare.
 //!
 //!   bench                 medians of interleaved runs
+//!   bench only WORD       the rows that have the word in their name
 //!   bench instructions    instructions for each byte of input, counted by valgrind
 
 mod families;
 mod instructions;
+mod reducible;
 mod rows;
 mod timing;
 
@@ -16,11 +18,12 @@ fn main() -> ExitCode {
     let words: Vec<&str> = words.iter().map(String::as_str).collect();
     match words.as_slice() {
         [] => timing::table(&rows()),
+        ["only", word] => timing::table(&rows().into_iter().filter(|row| row.name.contains(word)).collect::<Vec<Row>>()),
         ["instructions"] => return instructions::table(&rows()),
         // one side of one row, so often: what valgrind is run on
         ["once", row, side, times] => once(&rows()[number(row)], side, number(times)),
         _ => {
-            eprintln!("usage: bench [instructions]");
+            eprintln!("usage: bench [only WORD | instructions]");
             return ExitCode::from(2);
         }
     }

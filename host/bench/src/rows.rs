@@ -1,6 +1,6 @@
 //! What is compared: for each row the port, and beside it the ported Rust or a plain loop, over the same inputs.
 
-use crate::families;
+use crate::{families, reducible};
 use lolli_core::{Formula, Term};
 use patch_generate::{formulas, terms, Rng};
 use patch_model::form::{formula_bytes, term_bytes};
@@ -111,7 +111,40 @@ pub fn rows() -> Vec<Row> {
             rows.extend(of_family(family, nodes));
         }
     }
+    for family in reducible::NAMES {
+        for nodes in [10, 50, 100, 500] {
+            rows.extend(of_reducible(family, nodes));
+        }
+    }
     rows
+}
+
+/// One step, and the whole reduction.
+fn of_reducible(family: &str, nodes: usize) -> Vec<Row> {
+    let buffers = || (RefCell::new(vec![0; patch::OUTPUT_ROOM]), RefCell::new(vec![0; patch::SCRATCH_ROOM]));
+    let ((out, scratch), (last, work)) = (buffers(), buffers());
+    vec![
+        row(
+            format!("step, {family}"),
+            nodes,
+            reducible::inputs(family, nodes),
+            "Rust",
+            |term: &Term, _| kept(lolli_extract::step(term)),
+            move |_, bytes| kept(patch::step_to(bytes, &mut out.borrow_mut(), &mut scratch.borrow_mut()).unwrap()),
+        ),
+        row(
+            format!("reduction, {family}"),
+            nodes,
+            reducible::inputs(family, nodes),
+            "Rust",
+            |term: &Term, _| kept(lolli_extract::normalize_bounded(term, reducible::STEPS as usize)),
+            move |_, bytes| {
+                let told = patch::normalize_bounded_to(bytes, reducible::STEPS, &mut last.borrow_mut(), &mut work.borrow_mut()).unwrap();
+                assert!(told.normal);
+                kept(told)
+            },
+        ),
+    ]
 }
 
 /// The four calls on terms that take no step.

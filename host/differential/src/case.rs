@@ -192,6 +192,18 @@ impl Case {
             }),
             Call::FreeVars => count(plain(patch::free_vars_to(first, lent()))),
             Call::Substitute => count(plain(patch::substitute_to(first, &input[1], &input[2], lent(), lent()))),
+            Call::Step => numbers(plain(patch::step_to(first, lent(), lent())), |step| match step {
+                patch::Stepped::Normal => vec![0],
+                patch::Stepped::Found(found) => vec![1, found.rule as u64, found.place as u64, found.length as u64],
+            }),
+            Call::NormalizeBounded => match patch::normalize_bounded_to(first, self.number as u32, lent(), lent()) {
+                Ok(told) => {
+                    let values = reduced(Reduced { steps: told.steps, counts: told.counts, normal: told.normal });
+                    [vec![0, 0, 0], values, vec![told.length as u64]].concat()
+                }
+                Err((refusal, length)) => [count(plain(Err(refusal))), vec![length as u64]].concat(),
+            },
+            Call::IsNormal => numbers(plain(patch::is_normal(first)), |yes| vec![yes as u64]),
             Call::StoreTerm => count(plain(patch::store_to(patch::Kind::Term, first, lent()))),
             Call::StoreProof => count(plain(patch::store_to(patch::Kind::Proof, first, lent()))),
             Call::LoadTerm => count(plain(patch::load_to(patch::Kind::Term, first, lent()))),

@@ -1,10 +1,12 @@
 //! The engine for Rust programs: safe functions over the C entry points (include/patch.h).
 //! Every function takes whatever bytes it is handed and ends. Those that are lent an output (`.._to`) leave in it the answer and then zeros, or,
-//! refused, what was there; the others lend it themselves.
+//! refused, what was there ([`normalize_bounded_to`] says its exception); the others lend it themselves.
 
 mod raw;
+mod reduction;
 mod refusal;
 
+pub use reduction::{is_normal, normalize_bounded, normalize_bounded_to, step, step_to, Found, Reduction, Rule, Stepped, RULES};
 pub use refusal::{Reason, Refusal};
 
 /// The least lengths of a lent output: for a term, a name list or the content of a file, for printed terms, for printed

@@ -1,7 +1,7 @@
 -- `reduction::repeat::repeat_steps` meets its contract. The loop's invariant: what the rules leave to do, of the term that stands in the output.
 -- The measure is what is left of the limit. Assumes nothing.
 use Prim.Native.Nat.{_-_, _≤_}
-use mathlib.Core.Path.{_≡_, refl, _∙_}
+use mathlib.Core.Path.{_≡_, refl}
 use native.Mathlib.Omega.{arith}
 use Rattle.rules.specs.Term.{Term}
 use Rattle.reduction.specs.Counted.{total, counted}
