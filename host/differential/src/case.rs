@@ -1,5 +1,6 @@
 //! A case: a call, its inputs and what it is lent. Port and model are run on it alike, and what is seen afterwards is compared whole.
 
+use crate::guarded::{self, Side};
 use patch_generate::Rng;
 use patch_model::extract::Entry;
 use patch_model::reduce::{Reduced, Stepped};
@@ -95,6 +96,22 @@ impl Buffer {
         let end = self.bytes.len() - AROUND;
         &mut self.bytes[AROUND..end]
     }
+
+    /// What is lent, with the bytes behind it or before it.
+    fn at(&self, side: Side) -> &[u8] {
+        match side {
+            Side::Start => &self.bytes[AROUND..],
+            Side::End => &self.bytes[..self.bytes.len() - AROUND],
+        }
+    }
+
+    fn at_mut(&mut self, side: Side) -> &mut [u8] {
+        let end = self.bytes.len() - AROUND;
+        match side {
+            Side::Start => &mut self.bytes[AROUND..],
+            Side::End => &mut self.bytes[..end],
+        }
+    }
 }
 
 impl Case {
@@ -166,20 +183,38 @@ impl Case {
         }
     }
 
-    /// What the port does; nothing for a call that has no entry point yet.
+    /// What the port does; nothing for a call that has no entry point yet. Inputs and lent buffers stand at pages that nobody may touch, at the
+    /// one end or the other; the bytes around a buffer are compared where there are some.
     pub fn port(&self) -> Option<Seen> {
         let mut buffers = self.buffers();
-        let answer = {
-            let mut lent = buffers.iter_mut().map(Buffer::lent);
-            let mut next = || lent.next().unwrap();
-            self.ask_port(&mut next)?
-        };
+        let side = if self.inputs[0].len() % 2 == 0 { Side::Start } else { Side::End };
+        let lengths: Vec<usize> = self.inputs.iter().map(Vec::len).chain(buffers.iter().map(|b| b.bytes.len() - AROUND)).collect();
+        let answer = guarded::with(&lengths, side, |parts| {
+            let (inputs, lent) = parts.split_at_mut(self.inputs.len());
+            for (part, input) in inputs.iter_mut().zip(&self.inputs) {
+                part.copy_from_slice(input);
+            }
+            for (part, buffer) in lent.iter_mut().zip(&buffers) {
+                part.copy_from_slice(buffer.at(side));
+            }
+            let inputs: Vec<&[u8]> = inputs.iter().map(|part| &**part).collect();
+            let answer = {
+                let mut parts = lent.iter_mut().map(|part| match side {
+                    Side::Start => part.split_last_chunk_mut::<AROUND>().unwrap().0,
+                    Side::End => part.split_first_chunk_mut::<AROUND>().unwrap().1,
+                });
+                self.ask_port(&inputs, &mut || parts.next().unwrap())
+            };
+            for (part, buffer) in lent.iter().zip(&mut buffers) {
+                buffer.at_mut(side).copy_from_slice(part);
+            }
+            answer
+        })?;
         Some(Seen { answer, lent: buffers })
     }
 
-    fn ask_port<'a>(&self, lent: &mut dyn FnMut() -> &'a mut [u8]) -> Option<Vec<u64>> {
-        let input = &self.inputs;
-        let first = &input[0];
+    fn ask_port<'a>(&self, input: &[&[u8]], lent: &mut dyn FnMut() -> &'a mut [u8]) -> Option<Vec<u64>> {
+        let first = input[0];
         Some(match self.call {
             Call::CheckFormula => count(plain(patch::check_formula(first))),
             Call::CheckTerm => count(plain(patch::check_term(first))),
@@ -191,7 +226,7 @@ impl Case {
                 vec![(part.as_ptr() as usize - first.as_ptr() as usize) as u64, part.len() as u64]
             }),
             Call::FreeVars => count(plain(patch::free_vars_to(first, lent()))),
-            Call::Substitute => count(plain(patch::substitute_to(first, &input[1], &input[2], lent(), lent()))),
+            Call::Substitute => count(plain(patch::substitute_to(first, input[1], input[2], lent(), lent()))),
             Call::Step => numbers(plain(patch::step_to(first, lent(), lent())), |step| match step {
                 patch::Stepped::Normal => vec![0],
                 patch::Stepped::Found(found) => vec![1, found.rule as u64, found.place as u64, found.length as u64],

@@ -5,6 +5,7 @@ mod case;
 mod extraction;
 mod files;
 mod formulas;
+mod guarded;
 mod itself;
 mod readers;
 mod reduction;
