@@ -15,3 +15,4 @@ pub mod Order
 pub mod OrderBytes
 pub mod Calling
 pub mod Needed
+pub mod Call
