@@ -192,6 +192,7 @@ impl Case {
             }),
             Call::FreeVars => count(plain(patch::free_vars_to(first, lent()))),
             Call::Substitute => count(plain(patch::substitute_to(first, &input[1], &input[2], lent(), lent()))),
+            Call::IsStraight => numbers(plain(patch::is_straight(first)), |yes| vec![yes as u64]),
             Call::StoreTerm => count(plain(patch::store_to(patch::Kind::Term, first, lent()))),
             Call::StoreProof => count(plain(patch::store_to(patch::Kind::Proof, first, lent()))),
             Call::LoadTerm => count(plain(patch::load_to(patch::Kind::Term, first, lent()))),
@@ -243,6 +244,17 @@ impl Seen {
     /// The refusal's number, or 0.
     pub fn number(&self) -> u64 {
         self.answer[0]
+    }
+
+    /// The values of the answer, without the three numbers of a refusal.
+    pub fn values(&self) -> &[u64] {
+        &self.answer[3..]
+    }
+
+    /// What the output holds.
+    pub fn output(&self) -> &[u8] {
+        let bytes = &self.lent[0].bytes;
+        &bytes[AROUND..bytes.len() - AROUND]
     }
 
     /// Model against port, in words.

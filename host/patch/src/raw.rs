@@ -28,6 +28,7 @@ entry!(term_text = patch_term_text(term) lent(out));
 entry!(child = patch_child(term) with(k: usize));
 entry!(free_vars = patch_free_vars(term) lent(out));
 entry!(substitute = patch_substitute(term, name, value) lent(out, scratch));
+entry!(is_straight = patch_is_straight(term));
 entry!(store_term = patch_store_term(term) lent(out));
 entry!(store_proof = patch_store_proof(proof) lent(out));
 entry!(load_term = patch_load_term(file) lent(out));

@@ -30,10 +30,10 @@ seek-requires : tie.Need-seek-requires
 seek-requires c κs = search needs
 
 returns : tie.Need-returns
-returns c w x e b = elsewhere _ (c .before .before .seek .ensures) b (c .if1 .taken)
+returns c w x e b = elsewhere _ (c .before .before .seek .ensures) b (λ z. omega (arith, c .if1 .taken))
 
 returns-2 : tie.Need-returns-2
-returns-2 c w x e b = not-once _ (c .before .before .before .before .seek .ensures) b (c .before .before .if1 .left) (c .if2 .taken)
+returns-2 c w x e b = not-once _ (c .before .before .before .before .seek .ensures) b (omega (arith, c .before .before .if1 .left)) (λ z. omega (arith, c .if2 .taken))
 
 sub-seek-2 : tie.Need-sub-seek-2
 sub-seek-2 c = search needs
@@ -49,8 +49,8 @@ seek-requires-2 c κs = search needs
 
 returns-3 : tie.Need-returns-3
 returns-3 c w x e b =
-    inside _ (c .before .before .before .before .before .before .before .seek .ensures) b (c .before .before .before .before .before .if1 .left)
-    (c .before .before .before .if2 .left) _ (c .before .seek2 .ensures)
+    inside _ (c .before .before .before .before .before .before .before .seek .ensures) b (omega (arith, c .before .before .before .before .before .if1 .left))
+    (omega (arith, c .before .before .before .if2 .left)) _ (c .before .seek2 .ensures)
 
 pub once-spec : {M : Type 1} → statement M
 once-spec =
