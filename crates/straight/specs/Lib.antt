@@ -1,4 +1,5 @@
 pub mod Straight
+pub mod Call
 pub mod Promise
 pub mod Weights
 pub mod FreeAfter
@@ -15,4 +16,3 @@ pub mod Order
 pub mod OrderBytes
 pub mod Calling
 pub mod Needed
-pub mod Call
