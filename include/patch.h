@@ -107,6 +107,10 @@ void patch_normalize_bounded(const uint8_t *term, size_t term_length, uint32_t l
 /* Whether a term is normal: no step finds anything in it. Value: 1 if so, else 0. */
 void patch_is_normal(const uint8_t *term, size_t term_length, uint64_t answer[PATCH_ANSWER]);
 
+/* Whether a term is straight: it has no case, fst, snd, discard or copy, and each name at a binder stands at that one place only and is used as a
+ * variable exactly once, inside what it covers. Value: 1 or 0. */
+void patch_is_straight(const uint8_t *term, size_t term_length, uint64_t answer[PATCH_ANSWER]);
+
 /* The stored form of a legal term or proof, to an output of at least PATCH_STORED_ROOM bytes. Value: its length. */
 void patch_store_term(const uint8_t *term, size_t term_length, uint8_t *out, size_t out_length, uint64_t answer[PATCH_ANSWER]);
 void patch_store_proof(const uint8_t *proof, size_t proof_length, uint8_t *out, size_t out_length, uint64_t answer[PATCH_ANSWER]);

@@ -35,6 +35,8 @@ int main(void) {
     expect(refused(answer) == 0 && answer[PATCH_VALUE] == 2, "a term of 2 nodes");
     patch_check_term(term, 0, answer);
     expect(refused(answer) == 30001, "no bytes");
+    patch_is_straight(term, sizeof term, answer);
+    expect(refused(answer) == 0 && answer[PATCH_VALUE] == 1, "a straight term");
 
     memset(out, 9, sizeof out);
     patch_formula_text(formula, sizeof formula, out, PATCH_FORMULA_TEXT_ROOM - 1, answer);

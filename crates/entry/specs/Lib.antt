@@ -1,3 +1,4 @@
 pub mod Told
 pub mod Child
 pub mod Steps
+pub mod Straight

@@ -20,9 +20,10 @@ use stepping::Stepped;
 use walk::child::Piece;
 
 mod files;
+mod straight_terms;
 
 // A refusal, told as numbers.
-fn tell_refusal(r: Refusal, told: &mut [u64; 16])
+pub fn tell_refusal(r: Refusal, told: &mut [u64; 16])
     ensures { λ _. ⌜ now (told .exit) ≡ toldRefusal r ⌝ }
 {
     let number = r.number as u64;

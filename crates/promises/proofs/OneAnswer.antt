@@ -43,6 +43,9 @@ use Rattle.stepping.proofs.is_normal.Reads as is-normal·contract
 use Rattle.reduction.proofs.normalize_bounded as normalize-bounded·fn
 use Rattle.reduction.proofs.normalize_bounded.Kinds as normalize-bounded·kinds
 use Rattle.reduction.proofs.normalize_bounded.Reads as normalize-bounded·contract
+use Rattle.straightness.proofs.is_straight as is-straight·fn
+use Rattle.straightness.proofs.is_straight.Kinds as is-straight·kinds
+use Rattle.straightness.proofs.is_straight.Reads as is-straight·contract
 use Rattle.stored.proofs.store as store·fn
 use Rattle.stored.proofs.store.Kinds as store·kinds
 use Rattle.stored.proofs.store.Reads as store·contract
@@ -101,6 +104,10 @@ module _ (κs : Lfts 1) (a : ArgsD is-normal·fn.signature κs) (r r′ : ResD i
 module _ (κs : Lfts 3) (a : ArgsD normalize-bounded·fn.signature κs) (r r′ : ResD normalize-bounded·fn.signature κs) (s s′ : AtExit (endedOf 3 normalize-bounded·kinds.ps normalize-bounded·kinds.r) κs) where
   pub normalize-bounded-has-one : normalize-bounded·contract.Learnt κs a r s → normalize-bounded·contract.Learnt κs a r′ s′ → (r ≡ r′) × (now (s .1 .1 .0) ≡ now (s′ .1 .1 .0)) × (now (s .1 .1 .1 .0) ≡ now (s′ .1 .1 .1 .0))
   normalize-bounded-has-one p q = (agree (p .0) (q .0), agree (p .1 .0) (q .1 .0), agree (p .1 .1) (q .1 .1))
+
+module _ (κs : Lfts 1) (a : ArgsD is-straight·fn.signature κs) (r r′ : ResD is-straight·fn.signature κs) (s s′ : AtExit (endedOf 1 is-straight·kinds.ps is-straight·kinds.r) κs) where
+  pub is-straight-has-one : is-straight·contract.Learnt κs a r s → is-straight·contract.Learnt κs a r′ s′ → r ≡ r′
+  is-straight-has-one p q = agree p q
 
 module _ (κs : Lfts 2) (a : ArgsD store·fn.signature κs) (r r′ : ResD store·fn.signature κs) (s s′ : AtExit (endedOf 2 store·kinds.ps store·kinds.r) κs) where
   pub store-has-one : store·contract.Learnt κs a r s → store·contract.Learnt κs a r′ s′ → (r ≡ r′) × (now (s .1 .1 .0) ≡ now (s′ .1 .1 .0))

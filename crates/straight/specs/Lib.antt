@@ -1,4 +1,5 @@
 pub mod Straight
+pub mod Call
 pub mod Promise
 pub mod Weights
 pub mod FreeAfter

@@ -239,6 +239,7 @@ impl Case {
                 Err((refusal, length)) => [count(plain(Err(refusal))), vec![length as u64]].concat(),
             },
             Call::IsNormal => numbers(plain(patch::is_normal(first)), |yes| vec![yes as u64]),
+            Call::IsStraight => numbers(plain(patch::is_straight(first)), |yes| vec![yes as u64]),
             Call::StoreTerm => count(plain(patch::store_to(patch::Kind::Term, first, lent()))),
             Call::StoreProof => count(plain(patch::store_to(patch::Kind::Proof, first, lent()))),
             Call::LoadTerm => count(plain(patch::load_to(patch::Kind::Term, first, lent()))),
@@ -290,6 +291,17 @@ impl Seen {
     /// The refusal's number, or 0.
     pub fn number(&self) -> u64 {
         self.answer[0]
+    }
+
+    /// The values of the answer, without the three numbers of a refusal.
+    pub fn values(&self) -> &[u64] {
+        &self.answer[3..]
+    }
+
+    /// What the output holds.
+    pub fn output(&self) -> &[u8] {
+        let bytes = &self.lent[0].bytes;
+        &bytes[AROUND..bytes.len() - AROUND]
     }
 
     /// Model against port, in words.

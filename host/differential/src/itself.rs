@@ -9,12 +9,11 @@ use patch_model::calls::{fits, name_list};
 use patch_model::form::{formula_bytes, formula_nodes, proof_bytes, proof_formula_nodes, proof_rules, term_bytes, term_nodes};
 use patch_model::reduce::{contracted, redex, reduce, size};
 use patch_model::stored::{content, load, store, Kind};
-use patch_model::straight::straight;
 use patch_model::{calls, extract, read, Limits};
 
 const L: Limits = Limits::BASE;
 
-fn hold(fact: bool, what: &str) -> Result<(), String> {
+pub fn hold(fact: bool, what: &str) -> Result<(), String> {
     if fact {
         Ok(())
     } else {
@@ -22,7 +21,7 @@ fn hold(fact: bool, what: &str) -> Result<(), String> {
     }
 }
 
-fn many(label: &str, count: u64, seed: u64, try_one: impl Fn(&mut Rng) -> Result<(), String> + Sync) -> Verdict {
+pub fn many(label: &str, count: u64, seed: u64, try_one: impl Fn(&mut Rng) -> Result<(), String> + Sync) -> Verdict {
     match each(count, |index| try_one(&mut Rng::new(seed, index))) {
         Ok(()) => {
             println!("  {label}: {count} cases");
@@ -39,8 +38,7 @@ pub fn all() -> Verdict {
         + many("bounded reduction is the Rust's", 30_000, 4, reduces_as_the_rust)?
         + many("sizes of extracted terms", 50_000, 5, extracted_sizes)?
         + many("the list of free names", 50_000, 6, free_names)?
-        + many("stored files are loaded as they were", 30_000, 7, loads_back)?
-        + many("straight terms reduce as demand 3 says", 6_000, 8, straight_reduction)?)
+        + many("stored files are loaded as they were", 30_000, 7, loads_back)?)
 }
 
 fn reads_back(rng: &mut Rng) -> Result<(), String> {
@@ -198,24 +196,4 @@ fn loads_back(rng: &mut Rng) -> Result<(), String> {
             hold(file[..length] == damaged, "two files of one content")
         }
     }
-}
-
-fn straight_reduction(rng: &mut Rng) -> Result<(), String> {
-    let nodes = rng.within(1, 200);
-    let term = terms::straight(rng, nodes);
-    let before = term_nodes(&term);
-    if !fits(&L, &term) {
-        return Ok(());
-    }
-    hold(straight(&term), "not straight")?;
-    let enough = (before as u32 - 1).div_ceil(2);
-    let limit = if rng.one_in(2) { enough } else { rng.below(before + 1) as u32 };
-    let (told, last) = reduce(&L, term.clone(), limit);
-    let told = told.map_err(|r| format!("refused {r:?}"))?;
-    let [app, pairs, case, fst, snd, derelict, copy, discard] = told.counts;
-    hold(case + fst + snd + copy + discard == 0, "a rule that straight terms have not")?;
-    hold(straight(&last), "no longer straight")?;
-    hold(before - term_nodes(&last) == (3 * app + 4 * pairs + 2 * derelict) as usize, "nodes lost")?;
-    hold(told.normal || limit < enough, "a step remains")?;
-    hold(name_list(&last) == name_list(&term), "an unbound name came or went")
 }

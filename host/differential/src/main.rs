@@ -11,6 +11,7 @@ mod readers;
 mod reduction;
 mod run;
 mod shrink;
+mod straight;
 mod terms;
 
 use std::process::ExitCode;
@@ -18,13 +19,14 @@ use std::time::Instant;
 
 type Family = (&'static str, fn() -> run::Verdict);
 
-const FAMILIES: [Family; 8] = [
+const FAMILIES: [Family; 9] = [
     ("model", itself::all),
     ("readers", readers::all),
     ("formulas", formulas::all),
     ("terms", terms::all),
     ("steps", reduction::steps),
     ("reduction", reduction::reductions),
+    ("straight", straight::all),
     ("extraction", extraction::all),
     ("stored", files::all),
 ];

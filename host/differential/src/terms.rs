@@ -4,7 +4,7 @@ use crate::case::{Call, Case};
 use crate::readers::{bad_inputs, lent_lengths, mostly_damaged, term, TERMS};
 use crate::run::{listed, random, Verdict};
 use patch_generate::damage::damage;
-use patch_generate::{names, terms, Rng};
+use patch_generate::{names, straight, terms, Rng};
 use patch_model::form::term_bytes;
 use patch_model::Limits;
 
@@ -32,7 +32,7 @@ pub fn all() -> Verdict {
         cases += listed(&format!("{call:?} of bad inputs"), &bad)?;
         cases += random(&format!("{call:?} of random terms"), 200_000, |index| {
             let mut rng = Rng::new(0x7465_7800 + call as u64, index);
-            let mut bytes = if call == Call::IsStraight { nearly_straight(&mut rng) } else { term(&mut rng) };
+            let mut bytes = if call == Call::IsStraight { straight::nearly(&mut rng) } else { term(&mut rng) };
             if rng.one_in(4) {
                 damage(&mut rng, &mut bytes);
             }
@@ -40,21 +40,6 @@ pub fn all() -> Verdict {
         })?;
     }
     Ok(cases + substitution(&small)? + children(&small)?)
-}
-
-/// A straight term, or one with a name changed.
-fn nearly_straight(rng: &mut Rng) -> Vec<u8> {
-    let nodes = rng.size(300);
-    let mut bytes = term_bytes(&terms::straight(rng, nodes));
-    if rng.one_in(2) {
-        // one digit of a name for another: a name twice, or a use without its binder
-        let digits: Vec<usize> = (0..bytes.len()).filter(|&i| bytes[i].is_ascii_digit()).collect();
-        if !digits.is_empty() {
-            let at = *rng.pick(&digits);
-            bytes[at] = b'0' + rng.below(10) as u8;
-        }
-    }
-    bytes
 }
 
 fn substitution(small: &[Vec<u8>]) -> Verdict {

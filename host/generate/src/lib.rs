@@ -6,6 +6,7 @@ pub mod formulas;
 pub mod names;
 pub mod proofs;
 pub mod rng;
+pub mod straight;
 pub mod terms;
 
 pub use rng::Rng;

@@ -114,6 +114,12 @@ pub fn substitute(term: &[u8], name: &[u8], value: &[u8]) -> Result<Vec<u8>, Ref
     written(OUTPUT_ROOM, |out| substitute_to(term, name, value, out, &mut [0; SCRATCH_ROOM]))
 }
 
+/// Whether a term is straight: it has no case, fst, snd, discard or copy, and each name at a binder stands at that one place only and is used as a
+/// variable exactly once, inside what it covers.
+pub fn is_straight(term: &[u8]) -> Result<bool, Refusal> {
+    Ok(told(raw::is_straight(term))?[0] == 1)
+}
+
 /// What a stored file holds.
 #[derive(Clone, Copy, Debug, PartialEq, Eq)]
 pub enum Kind {

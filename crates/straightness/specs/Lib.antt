@@ -1,0 +1,4 @@
+pub mod Node
+pub mod Place
+pub mod Counts
+pub mod Verdict

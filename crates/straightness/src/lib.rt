@@ -1,0 +1,142 @@
+// Whether a term is straight (demand 3).
+ghost use mathlib.Core.Path.{_≡_};
+ghost use Rattle.rules.specs.Limits.{limits};
+ghost use Rattle.rules.specs.Name.{Name};
+ghost use Rattle.rules.specs.Term.{Term, abs, both, letPair};
+ghost use Rattle.walk.specs.Place.{TermAt};
+ghost use Rattle.straight.specs.Straight.{_over_, once as onceIn, straight};
+ghost use Rattle.straight.specs.Call.{isStraightCall};
+ghost use Rattle.straightness.specs.Node.{plainTag, passesIn};
+ghost use Rattle.straightness.specs.Place.{Within, Binds};
+ghost use Rattle.straightness.specs.Verdict.{verdict};
+use counting::seek;
+use rules::Answer;
+use rules::Refusal;
+
+pub mod counting;
+
+const LET_PAIR: usize = 4;
+
+const ABS: usize = 5;
+
+const CASE: usize = 9;
+
+const FST: usize = 11;
+
+const SND: usize = 12;
+
+const DISCARD: usize = 16;
+
+const COPY: usize = 17;
+
+// Whether a node of this tag may stand in a straight term.
+fn plain(tag: usize) -> bool
+    ensures { λ r. ⌜ r ≡ plainTag tag ⌝ }
+{
+    if tag == CASE {
+        return false;
+    }
+    if tag == FST {
+        return false;
+    }
+    if tag == SND {
+        return false;
+    }
+    if tag == DISCARD {
+        return false;
+    }
+    if tag == COPY {
+        return false;
+    }
+    true
+}
+
+// Whether the name at `name` stands at this one binder only and is used exactly once, in the term at `covers`.
+fn once(s: &[u8], name: usize, covers: usize) -> bool
+    requires { ⌜ ((w : Term) × (x : Name) × (e : Term) × Binds (now s) name covers w x e) ⌝ }
+    ensures { λ r. ⌜ ((w : Term) → (x : Name) → (e : Term) → Binds (now (s .entry)) name covers w x e → r ≡ onceIn w (x over e)) ⌝ }
+{
+    let len = s[name] as usize;
+    let from = name + 1;
+    let end = from + len;
+    let all = seek(s, 0, &s[from..end]);
+    if all.stands != 1 {
+        return false;
+    }
+    if all.uses != 1 {
+        return false;
+    }
+    let inside = seek(s, covers, &s[from..end]);
+    inside.uses == 1
+}
+
+// The binder of an Abs.
+fn abs_passes(s: &[u8], at: usize) -> bool
+    requires { ⌜ ((w : Term) × (x : Name) × (e : Term) × Within (now s) at w (abs x e)) ⌝ }
+    ensures { λ r. ⌜ ((w : Term) → (x : Name) → (e : Term) → Within (now (s .entry)) at w (abs x e) → r ≡ passesIn w (abs x e)) ⌝ }
+{
+    let row = walk::parts_at(s, at);
+    once(s, at + 1, row.start)
+}
+
+// The two binders of a LetPair, which cover its body.
+fn let_passes(s: &[u8], at: usize) -> bool
+    requires { ⌜ ((w : Term) × (x : Name) × (y : Name) × (p : Term) × (e : Term) × Within (now s) at w (both letPair x y p e)) ⌝ }
+    ensures { λ r. ⌜ ((w : Term) → (x : Name) → (y : Name) → (p : Term) → (e : Term) → Within (now (s .entry)) at w (both letPair x y p e) → r ≡ passesIn w (both letPair x y p e)) ⌝ }
+{
+    let row = walk::parts_at(s, at);
+    let body = walk::skip(s, row.start, 1);
+    let second = walk::after_names(s, at + 1, 1);
+    if once(s, at + 1, body) {
+        return once(s, second, body);
+    }
+    false
+}
+
+// A node by itself, without its parts.
+fn passes(s: &[u8], at: usize) -> bool
+    requires { ⌜ ((w : Term) × (t : Term) × Within (now s) at w t) ⌝ }
+    ensures { λ r. ⌜ ((w : Term) → (t : Term) → Within (now (s .entry)) at w t → r ≡ passesIn w t) ⌝ }
+{
+    let tag = s[at] as usize;
+    if tag == ABS {
+        return abs_passes(s, at);
+    }
+    if tag == LET_PAIR {
+        return let_passes(s, at);
+    }
+    plain(tag)
+}
+
+// Every node of the term.
+fn all_pass(s: &[u8]) -> bool
+    requires { ⌜ ((w : Term) × TermAt (now s) 0 w) ⌝ }
+    ensures { λ r. ⌜ ((w : Term) → TermAt (now (s .entry)) 0 w → r ≡ straight w) ⌝ }
+{
+    let mut i = 0;
+    let mut left = 1;
+    while 0 < left {
+        if !passes(s, i) {
+            return false;
+        }
+        let row = walk::parts_at(s, i);
+        left = left - 1 + row.parts;
+        i = row.start;
+    }
+    true
+}
+
+// Yes or no, or a refusal.
+pub enum Verdict {
+    Good(bool),
+    Refused(Refusal),
+}
+
+pub fn is_straight(term: &[u8]) -> Verdict
+    ensures { λ r. ⌜ r ≡ verdict (isStraightCall limits (now (term .entry))) ⌝ }
+{
+    match reader::check_term(term) {
+        Answer::Refused(r) => Verdict::Refused(r),
+        Answer::Good(_) => Verdict::Good(all_pass(term)),
+    }
+}
