@@ -6,7 +6,7 @@ CARGO := --release --offline --locked --quiet --manifest-path host/Cargo.toml
 VERDICT := host/target/verdict
 WARN := -Iinclude -Wall -Wextra -Wpedantic -Werror
 
-.PHONY: test hosted library run bench cases vectors
+.PHONY: test hosted library run bench soak cases vectors
 
 # rt ci proves every crate from nothing; the static library is then built from what it has just proved. Its last line, the verdict, is kept
 # back until the runs over that library have passed too, so that it is the last line of all and nothing is proved twice.
@@ -22,6 +22,7 @@ hosted: library
 	@gcc -x c++ $(WARN) -c host/c/smoke.c -o host/target/smoke.o
 	@cargo test $(CARGO) -p patch-model -p lolli-extract -p cases
 	@cargo run $(CARGO) -p differential
+	@cargo run $(CARGO) -p differential -- soak 1 1000000 60
 
 library:
 	@host/library.sh
@@ -32,6 +33,13 @@ run: library
 
 bench: library
 	@cargo run $(CARGO) -p bench -- $(MODE)
+
+# Any call on any input, in two processes, CASES in each and SECONDS at most.
+CASES := 25000000
+SECONDS := 3600
+soak: library
+	@cargo build $(CARGO) -p differential
+	@host/target/release/differential soak 2 $(CASES) $(SECONDS) & first=$$!; host/target/release/differential soak 3 $(CASES) $(SECONDS); wait $$first
 
 # The list of the Rust's answers that crates/cases proves the rules by.
 cases:

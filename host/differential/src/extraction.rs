@@ -58,7 +58,7 @@ fn bad_proofs() -> Vec<Vec<u8>> {
 }
 
 /// A proof of any size, at a limit, or one over.
-fn proof(rng: &mut Rng) -> Vec<u8> {
+pub fn proof(rng: &mut Rng) -> Vec<u8> {
     let made = match rng.below(30) {
         0 => proofs::of_rules(rng, L.rules, 200),
         1 => proofs::of_rules(rng, L.rules + 1, 200),

@@ -11,6 +11,7 @@ mod readers;
 mod reduction;
 mod run;
 mod shrink;
+mod soak;
 mod straight;
 mod terms;
 
@@ -33,6 +34,11 @@ const FAMILIES: [Family; 9] = [
 
 fn main() -> ExitCode {
     let asked: Vec<String> = std::env::args().skip(1).collect();
+    if let [word, numbers @ ..] = &asked[..] {
+        if word == "soak" {
+            return soaked(numbers);
+        }
+    }
     if let Some(unknown) = asked.iter().find(|a| !FAMILIES.iter().any(|(name, _)| name == a)) {
         let names: Vec<&str> = FAMILIES.iter().map(|(name, _)| *name).collect();
         eprintln!("no family {unknown}; there are: {}", names.join(", "));
@@ -50,6 +56,24 @@ fn main() -> ExitCode {
                 println!("{name}: DIFFERENT\n{difference}");
                 return ExitCode::FAILURE;
             }
+        }
+    }
+    ExitCode::SUCCESS
+}
+
+/// `soak SEED CASES SECONDS`
+fn soaked(numbers: &[String]) -> ExitCode {
+    let numbers: Vec<u64> = numbers.iter().filter_map(|n| n.parse().ok()).collect();
+    let [seed, cases, seconds] = numbers[..] else {
+        eprintln!("soak takes three numbers: a seed, how many cases, how many seconds");
+        return ExitCode::from(2);
+    };
+    let start = Instant::now();
+    match soak::run(seed, cases, seconds) {
+        Ok(cases) => println!("soak, seed {seed}: {cases} cases equal ({:.1} s)", start.elapsed().as_secs_f32()),
+        Err(difference) => {
+            println!("soak: DIFFERENT\n{difference}");
+            return ExitCode::FAILURE;
         }
     }
     ExitCode::SUCCESS

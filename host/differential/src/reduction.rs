@@ -14,7 +14,7 @@ use patch_model::{read, Limits};
 const L: Limits = Limits::BASE;
 
 /// A term to step: random, near a limit, largest half-way, or straight.
-fn reducible(rng: &mut Rng, most: usize) -> Vec<u8> {
+pub fn reducible(rng: &mut Rng, most: usize) -> Vec<u8> {
     let made = match rng.below(16) {
         0 | 1 => terms::near_limit(rng, L.nodes, L.bytes),
         2 => terms::half_way(rng),
