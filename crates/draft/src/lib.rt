@@ -1,0 +1,1 @@
+// A draft of a term, and the term written from it.
