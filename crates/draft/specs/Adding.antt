@@ -10,7 +10,7 @@ use borrow.Author.Tests.{ltb-true, ltb-false}
 use Rattle.rules.specs.Basic.{Bytes}
 use Rattle.rules.specs.Term.{Term}
 use Rattle.draft.specs.Draft.{rowAt, Rows, Drafts, drafted, Shape, shapeOf, shaped, named, identity, wrapping, joining, discarding, letting, branching, copying}
-use Rattle.draft.specs.Made.{Same, made, either, Added}
+use Rattle.draft.specs.Made.{Same, made, either, mostNumber, Small, Added}
 use Rattle.draft.specs.Steady.{drafted-same, drafts-still}
 
 -- the five words of row n
@@ -43,6 +43,16 @@ module _ (ws ws′ : List ℕ) (n kind first second number stem : ℕ) (w : Rows
       let l : i ≡ n = omega (arith, ltb-false i n c) in
       rw l (omega (arith, p .seconds))
 
+  slight : Small ws n → number < mostNumber → (i : ℕ) (t : Bool) → ltb i n ≡ t → i < n + 1 → rowAt ws′ i .number < mostNumber
+  slight m k i true c h =
+      let l = ltb-true i n c in
+      let a = m .each i l in
+      let b = q (i * 5 + 3) (omega arith) in
+      omega arith
+  slight m k i false c h =
+      let l : i ≡ n = omega (arith, ltb-false i n c) in
+      rw l (omega (arith, p .numbers))
+
   rows-more : Rows ws′ (n + 1)
   rows-more = record { room = omega arith; firsts = λ i h. low i (ltb i n) refl h; seconds = λ i h. high i (ltb i n) refl h }
 
@@ -73,6 +83,7 @@ module _ (ws ws′ : List ℕ) (n kind first second number stem : ℕ) (w : Rows
       record {
         long = e;
         rows = rows-more;
+        small = λ m k. record { each = λ i h. slight m k i (ltb i n) refl h };
         still = λ s i t x. drafts-still q rows-more (omega arith) x;
         new = λ s a b x y.
             let two-more : n + 2 ≡ suc (suc n) = omega arith in

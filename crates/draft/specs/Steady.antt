@@ -5,9 +5,9 @@ use mathlib.Core.Path.{_≡_, refl, sym, ap, _∙_}
 use mathlib.Core.List.{List}
 use native.Mathlib.Omega.{arith}
 use Rattle.rules.specs.Basic.{Bytes}
-use Rattle.rules.specs.Term.{Term, two, leaf, unit, discard}
+use Rattle.rules.specs.Term.{Term, two, leaf, unit, trivial, discard}
 use Rattle.draft.specs.Draft.{Row, rowAt, Rows, Drafts, drafted, Shape, shapeOf, shaped, named, identity, wrapping, joining, discarding, letting, branching, copying}
-use Rattle.draft.specs.Made.{Same}
+use Rattle.draft.specs.Made.{Same, Small}
 
 -- equal terms at a row's parts make equal terms
 pub shaped-same : (s : Bytes) (r : Row) (f g : ℕ → Term) (k : Shape) → f (r .first) ≡ g (r .first) → f (r .second) ≡ g (r .second) → shaped s r f k ≡ shaped s r g k
@@ -56,6 +56,29 @@ drafts s ws n i w h = record { rows = w; among = h; is = λ d k. drafted-enough 
 -- and only one
 pub drafts-one : {s : Bytes} {ws : List ℕ} {n i : ℕ} {t u : Term} → Drafts s ws n i t → Drafts s ws n i u → t ≡ u
 drafts-one {s} {ws} {n} {i} x y = sym (x .is (suc i) (omega arith)) ∙ y .is (suc i) (omega arith)
+
+-- the first two parts, with which a draft begins
+at-unit : (s : Bytes) (ws : List ℕ) (d : ℕ) → 0 < d → drafted d s ws 0 ≡ leaf unit
+unfolding drafted
+at-unit s ws zero h = refl
+at-unit s ws (suc d) h = refl
+
+pub drafts-unit : {s : Bytes} {ws : List ℕ} {n : ℕ} → Rows ws n → Drafts s ws n 0 (leaf unit)
+drafts-unit {s} {ws} w = record { rows = w; among = omega arith; is = at-unit s ws }
+
+at-trivial : (s : Bytes) (ws : List ℕ) (d : ℕ) → 1 < d → drafted d s ws 1 ≡ leaf trivial
+unfolding drafted
+at-trivial s ws zero h = absurd (omega arith)
+at-trivial s ws (suc d) h = refl
+
+pub drafts-trivial : {s : Bytes} {ws : List ℕ} {n : ℕ} → Rows ws n → Drafts s ws n 1 (leaf trivial)
+drafts-trivial {s} {ws} w = record { rows = w; among = omega arith; is = at-trivial s ws }
+
+pub rows-none : (ws : List ℕ) → Rows ws 0
+rows-none ws = record { room = omega arith; firsts = λ i h. absurd (omega arith); seconds = λ i h. absurd (omega arith) }
+
+pub small-none : (ws : List ℕ) → Small ws 0
+small-none ws = record { each = λ i h. absurd (omega arith) }
 
 -- a part keeps its term when rows are written behind those that were there
 pub drafts-still : {s : Bytes} {ws ws′ : List ℕ} {n m i : ℕ} {t : Term} → Same n ws ws′ → Rows ws′ m → n ≤ m → Drafts s ws n i t → Drafts s ws′ m i t
