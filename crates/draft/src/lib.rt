@@ -1,4 +1,6 @@
 // A draft of a term, and the term written from it.
+pub mod names;
+
 ghost use Prim.Native.Nat.{_+_, _*_, _<_, _≤_};
 ghost use lib.ListN.{length};
 ghost use Rattle.draft.specs.Draft.{Rows};
