@@ -1,3 +1,5 @@
 pub mod Putting
 pub mod Numbering
 pub mod Stems
+pub mod Shapes
+pub mod Sorts

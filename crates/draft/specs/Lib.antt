@@ -2,3 +2,4 @@ pub mod Draft
 pub mod Made
 pub mod Steady
 pub mod Adding
+pub mod Heads

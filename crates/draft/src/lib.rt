@@ -1,4 +1,5 @@
 // A draft of a term, and the term written from it.
+pub mod heads;
 pub mod names;
 
 ghost use Prim.Native.Nat.{_+_, _*_, _<_, _≤_};
