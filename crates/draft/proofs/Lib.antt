@@ -3,3 +3,5 @@ pub mod Numbering
 pub mod Stems
 pub mod Shapes
 pub mod Sorts
+pub mod Opening
+pub mod Rooms

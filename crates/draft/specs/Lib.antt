@@ -3,3 +3,4 @@ pub mod Made
 pub mod Steady
 pub mod Adding
 pub mod Heads
+pub mod Writing
