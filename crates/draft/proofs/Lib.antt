@@ -5,3 +5,4 @@ pub mod Shapes
 pub mod Sorts
 pub mod Opening
 pub mod Rooms
+pub mod Sizing

@@ -44,3 +44,6 @@ module _ {s : Bytes} {ws : List ℕ} {n : ℕ} {t : Term} where
 
   pub second-before : (p : ℕ) → (p ≡ 0 → ⊥) → (p ≡ 1 → ⊥) → Drafts s ws n p t → rowAt ws (p - 2) .second < p
   second-before p a b x = omega (arith, x .rows .seconds (p - 2) (omega (arith, x .among, a, b)), a, b)
+
+  pub row-opened : (i : ℕ) → Drafts s ws n (i + 2) t → Opened s ws n (rowAt ws i) t
+  row-opened i x = let e : i + 2 ≡ suc (suc i) = omega arith in from-row i (rw e at x)

@@ -4,3 +4,4 @@ pub mod Steady
 pub mod Adding
 pub mod Heads
 pub mod Writing
+pub mod Measured

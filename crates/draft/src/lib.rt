@@ -2,6 +2,7 @@
 pub mod heads;
 pub mod names;
 pub mod parts;
+pub mod sizes;
 
 ghost use Prim.Native.Nat.{_+_, _*_, _<_, _≤_};
 ghost use lib.ListN.{length};
