@@ -14,7 +14,7 @@ use Rattle.rules.specs.Term.{Term, encode, nodes, size, fits}
 use Rattle.draft.specs.Draft.{rowAt, Shape, shapeOf, named, identity, discarding, letting, branching, copying, wrapping, joining, drafted, Rows, Drafts}
 use Rattle.draft.specs.Steady.{drafts, drafts-one, drafts-unit, drafts-trivial}
 use Rattle.draft.specs.Heads.{head, partsOf, nodesOf, summed}
-use Rattle.draft.specs.Measured.{cap, capped, Sized, Measured}
+use Rattle.draft.specs.Measured.{cap, capped, Sized, Countable, Measured}
 use Rattle.draft.proofs.Shapes.{shaped-size, shaped-nodes}
 use Rattle.draft.proofs.Opening.{row-opened}
 
@@ -40,13 +40,25 @@ total-three (suc zero) h a b x y z = absurd (y refl)
 total-three (suc (suc zero)) h a b x y z = absurd (z refl)
 total-three (suc (suc (suc c))) h a b x y z = refl
 
-module _ {s : Bytes} {ws : List ℕ} {n m : ℕ} {zs : List ℕ} (w : Rows ws n) (d : Measured s ws n m zs) where
-  -- what is measured is at most the cap
-  pub bytes-most : (i : ℕ) → i < m → i < n + 2 → getD zs (i * 2) 0 ≤ cap
-  bytes-most i h k = omega (arith, d .each i h .bytes (drafted (suc i) s ws i) (drafts s ws n i w k))
+-- what is measured is at most the cap
+module _ {s : Bytes} {ws : List ℕ} {n : ℕ} {zs : List ℕ} (k : Countable ws n zs) (i : ℕ) (h : i < n) (d : Measured s ws n (i + 2) zs) where
+  bytes-most : (j : ℕ) → j < i + 2 → getD zs (j * 2) 0 ≤ cap
+  bytes-most j l = omega (arith, d .each j l .bytes (drafted (suc j) s ws j) (drafts s ws n j (k .rows) (omega arith)))
 
-  pub nodes-most : (i : ℕ) → i < m → i < n + 2 → getD zs (i * 2 + 1) 0 ≤ cap
-  nodes-most i h k = omega (arith, d .each i h .nodes (drafted (suc i) s ws i) (drafts s ws n i w k))
+  nodes-most : (j : ℕ) → j < i + 2 → getD zs (j * 2 + 1) 0 ≤ cap
+  nodes-most j l = omega (arith, d .each j l .nodes (drafted (suc j) s ws j) (drafts s ws n j (k .rows) (omega arith)))
+
+  pub first-bytes : getD zs (rowAt ws i .first * 2) 0 ≤ cap
+  first-bytes = bytes-most (rowAt ws i .first) (k .rows .firsts i h)
+
+  pub second-bytes : getD zs (rowAt ws i .second * 2) 0 ≤ cap
+  second-bytes = bytes-most (rowAt ws i .second) (k .rows .seconds i h)
+
+  pub first-nodes : getD zs (rowAt ws i .first * 2 + 1) 0 ≤ cap
+  first-nodes = nodes-most (rowAt ws i .first) (k .rows .firsts i h)
+
+  pub second-nodes : getD zs (rowAt ws i .second * 2 + 1) 0 ≤ cap
+  second-nodes = nodes-most (rowAt ws i .second) (k .rows .seconds i h)
 
 -- a row's sizes from those of its parts
 module _ {s : Bytes} {ws : List ℕ} {n : ℕ} {zs : List ℕ} (i : ℕ) (w : Rows ws n) (h : i < n) (d : Measured s ws n (i + 2) zs) where
@@ -156,3 +168,10 @@ pub short-enough : (b m : ℕ) (t : Term) → b ≡ capped (size t) → m ≡ ca
 unfolding fits
 short-enough b m t e f h =
     ap (λ (k : ℕ). leb k 512) f ∙ limit-same (nodes t) (leb (nodes t) 512) refl ∙ rw (le-leb (size t) 4096 (omega arith)) (sym (and-true (leb (nodes t) 512)))
+
+-- the words of a row's parts stand in the list
+pub first-in : {ws : List ℕ} {n : ℕ} {zs : List ℕ} → Countable ws n zs → (i : ℕ) → i < n → rowAt ws i .first * 2 + 2 ≤ length zs
+first-in k i h = omega (arith, k .rows .firsts i h, k .room)
+
+pub second-in : {ws : List ℕ} {n : ℕ} {zs : List ℕ} → Countable ws n zs → (i : ℕ) → i < n → rowAt ws i .second * 2 + 2 ≤ length zs
+second-in k i h = omega (arith, k .rows .seconds i h, k .room)

@@ -4,7 +4,7 @@ use native.Mathlib.Omega.{arith}
 use lib.ListN.{length-set}
 use denote.Ref.{now}
 use Rattle.draft.specs.Draft.{rowAt, shapeOf}
-use Rattle.draft.proofs.Sizing.{bytes-most, nodes-most, few-nodes, row-bytes, row-nodes, measured-more, measured-as}
+use Rattle.draft.proofs.Sizing.{first-in, second-in, first-bytes, second-bytes, first-nodes, second-nodes, few-nodes, row-bytes, row-nodes, measured-more, measured-as}
 use borrow.Author.Needs.{needs}
 use Rattle.draft.proofs.sizes.measure_row.Statement.{statement}
 use Rattle.draft.proofs.sizes.measure_row.Tie as tie
@@ -28,7 +28,7 @@ shared-slice-read-first : tie.Need-shared-slice-read-first
 shared-slice-read-first c = search needs
 
 mul-first-2 : tie.Need-mul-first-2
-mul-first-2 c = let r = c .before .before .before .before .before .pre .0 .rows in let i = c .before .before .before .before .before .args .i in let h = c .before .before .before .before .before .pre .2 in omega (arith, r .firsts i h, c .before .before .before .before .before .pre .0 .room)
+mul-first-2 c = omega (arith, first-in (c .before .before .before .before .before .pre .0) (c .before .before .before .before .before .args .i) (c .before .before .before .before .before .pre .2))
 
 add-second : tie.Need-add-second
 add-second c = search needs
@@ -40,7 +40,7 @@ shared-slice-read-second : tie.Need-shared-slice-read-second
 shared-slice-read-second c = search needs
 
 mul-second-2 : tie.Need-mul-second-2
-mul-second-2 c = let r = c .before .before .before .before .before .before .pre .0 .rows in let i = c .before .before .before .before .before .before .args .i in let h = c .before .before .before .before .before .before .pre .2 in omega (arith, r .seconds i h, c .before .before .before .before .before .before .pre .0 .room)
+mul-second-2 c = omega (arith, second-in (c .before .before .before .before .before .before .pre .0) (c .before .before .before .before .before .before .args .i) (c .before .before .before .before .before .before .pre .2))
 
 parts-of-requires : tie.Need-parts-of-requires
 parts-of-requires c κs = search needs
@@ -67,43 +67,43 @@ head-len-requires : tie.Need-head-len-requires
 head-len-requires c κs = c .before .before .before .before .before .before .before .before .before .pre .0 .small .each (c .before .before .before .before .before .before .before .before .before .args .i) (c .before .before .before .before .before .before .before .before .before .pre .2)
 
 mul-total : tie.Need-mul-total
-mul-total c = let r = c .before .before .before .before .before .before .before .before .before .before .pre .0 .rows in let i = c .before .before .before .before .before .before .before .before .before .before .args .i in let h = c .before .before .before .before .before .before .before .before .before .before .pre .2 in omega (arith, r .firsts i h, c .before .before .before .before .before .before .before .before .before .before .pre .0 .room, h)
+mul-total c = omega (arith, first-in (c .before .before .before .before .before .before .before .before .before .before .pre .0) (c .before .before .before .before .before .before .before .before .before .before .args .i) (c .before .before .before .before .before .before .before .before .before .before .pre .2))
 
 slice-read-total : tie.Need-slice-read-total
-slice-read-total c = let r = c .before .before .before .before .before .before .before .before .before .before .before .pre .0 .rows in let i = c .before .before .before .before .before .before .before .before .before .before .before .args .i in let h = c .before .before .before .before .before .before .before .before .before .before .before .pre .2 in omega (arith, r .firsts i h, c .before .before .before .before .before .before .before .before .before .before .before .pre .0 .room, h)
+slice-read-total c = omega (arith, first-in (c .before .before .before .before .before .before .before .before .before .before .before .pre .0) (c .before .before .before .before .before .before .before .before .before .before .before .args .i) (c .before .before .before .before .before .before .before .before .before .before .before .pre .2))
 
 mul-total-2 : tie.Need-mul-total-2
-mul-total-2 c = let r = c .before .before .before .before .before .before .before .before .before .before .before .pre .0 .rows in let i = c .before .before .before .before .before .before .before .before .before .before .before .args .i in let h = c .before .before .before .before .before .before .before .before .before .before .before .pre .2 in omega (arith, r .seconds i h, c .before .before .before .before .before .before .before .before .before .before .before .pre .0 .room, h)
+mul-total-2 c = omega (arith, second-in (c .before .before .before .before .before .before .before .before .before .before .before .pre .0) (c .before .before .before .before .before .before .before .before .before .before .before .args .i) (c .before .before .before .before .before .before .before .before .before .before .before .pre .2))
 
 slice-read-total-2 : tie.Need-slice-read-total-2
-slice-read-total-2 c = let r = c .before .before .before .before .before .before .before .before .before .before .before .before .pre .0 .rows in let i = c .before .before .before .before .before .before .before .before .before .before .before .before .args .i in let h = c .before .before .before .before .before .before .before .before .before .before .before .before .pre .2 in omega (arith, r .seconds i h, c .before .before .before .before .before .before .before .before .before .before .before .before .pre .0 .room, h)
+slice-read-total-2 c = omega (arith, second-in (c .before .before .before .before .before .before .before .before .before .before .before .before .pre .0) (c .before .before .before .before .before .before .before .before .before .before .before .before .args .i) (c .before .before .before .before .before .before .before .before .before .before .before .before .pre .2))
 
 total-requires : tie.Need-total-requires
-total-requires c κs = let r = c .before .before .before .before .before .before .before .before .before .before .before .before .pre .0 .rows in let i = c .before .before .before .before .before .before .before .before .before .before .before .before .args .i in let h = c .before .before .before .before .before .before .before .before .before .before .before .before .pre .2 in (omega (arith, c .before .before .head-len .ensures .1), bytes-most r (c .before .before .before .before .before .before .before .before .before .before .before .before .pre .1) (rowAt (now (c .before .before .before .before .before .before .before .before .before .before .before .before .args .rows)) i .first) (r .firsts i h) (omega (arith, r .firsts i h, h)), bytes-most r (c .before .before .before .before .before .before .before .before .before .before .before .before .pre .1) (rowAt (now (c .before .before .before .before .before .before .before .before .before .before .before .before .args .rows)) i .second) (r .seconds i h) (omega (arith, r .seconds i h, h)))
+total-requires c κs = (omega (arith, c .before .before .head-len .ensures .1), first-bytes (c .before .before .before .before .before .before .before .before .before .before .before .before .pre .0) (c .before .before .before .before .before .before .before .before .before .before .before .before .args .i) (c .before .before .before .before .before .before .before .before .before .before .before .before .pre .2) (c .before .before .before .before .before .before .before .before .before .before .before .before .pre .1), second-bytes (c .before .before .before .before .before .before .before .before .before .before .before .before .pre .0) (c .before .before .before .before .before .before .before .before .before .before .before .before .args .i) (c .before .before .before .before .before .before .before .before .before .before .before .before .pre .2) (c .before .before .before .before .before .before .before .before .before .before .before .before .pre .1))
 
 nodes-of-requires : tie.Need-nodes-of-requires
 nodes-of-requires c κs = search needs
 
 add-total : tie.Need-add-total
-add-total c = let r = c .before .before .before .before .before .before .before .before .before .before .before .before .before .before .pre .0 .rows in let i = c .before .before .before .before .before .before .before .before .before .before .before .before .before .before .args .i in let h = c .before .before .before .before .before .before .before .before .before .before .before .before .before .before .pre .2 in omega (arith, r .firsts i h, c .before .before .before .before .before .before .before .before .before .before .before .before .before .before .pre .0 .room, h)
+add-total c = omega (arith, first-in (c .before .before .before .before .before .before .before .before .before .before .before .before .before .before .pre .0) (c .before .before .before .before .before .before .before .before .before .before .before .before .before .before .args .i) (c .before .before .before .before .before .before .before .before .before .before .before .before .before .before .pre .2))
 
 mul-total-3 : tie.Need-mul-total-3
-mul-total-3 c = let r = c .before .before .before .before .before .before .before .before .before .before .before .before .before .before .pre .0 .rows in let i = c .before .before .before .before .before .before .before .before .before .before .before .before .before .before .args .i in let h = c .before .before .before .before .before .before .before .before .before .before .before .before .before .before .pre .2 in omega (arith, r .firsts i h, c .before .before .before .before .before .before .before .before .before .before .before .before .before .before .pre .0 .room, h)
+mul-total-3 c = omega (arith, first-in (c .before .before .before .before .before .before .before .before .before .before .before .before .before .before .pre .0) (c .before .before .before .before .before .before .before .before .before .before .before .before .before .before .args .i) (c .before .before .before .before .before .before .before .before .before .before .before .before .before .before .pre .2))
 
 slice-read-total-3 : tie.Need-slice-read-total-3
-slice-read-total-3 c = let r = c .before .before .before .before .before .before .before .before .before .before .before .before .before .before .before .pre .0 .rows in let i = c .before .before .before .before .before .before .before .before .before .before .before .before .before .before .before .args .i in let h = c .before .before .before .before .before .before .before .before .before .before .before .before .before .before .before .pre .2 in omega (arith, r .firsts i h, c .before .before .before .before .before .before .before .before .before .before .before .before .before .before .before .pre .0 .room, h)
+slice-read-total-3 c = omega (arith, first-in (c .before .before .before .before .before .before .before .before .before .before .before .before .before .before .before .pre .0) (c .before .before .before .before .before .before .before .before .before .before .before .before .before .before .before .args .i) (c .before .before .before .before .before .before .before .before .before .before .before .before .before .before .before .pre .2))
 
 add-total-2 : tie.Need-add-total-2
-add-total-2 c = let r = c .before .before .before .before .before .before .before .before .before .before .before .before .before .before .before .pre .0 .rows in let i = c .before .before .before .before .before .before .before .before .before .before .before .before .before .before .before .args .i in let h = c .before .before .before .before .before .before .before .before .before .before .before .before .before .before .before .pre .2 in omega (arith, r .seconds i h, c .before .before .before .before .before .before .before .before .before .before .before .before .before .before .before .pre .0 .room, h)
+add-total-2 c = omega (arith, second-in (c .before .before .before .before .before .before .before .before .before .before .before .before .before .before .before .pre .0) (c .before .before .before .before .before .before .before .before .before .before .before .before .before .before .before .args .i) (c .before .before .before .before .before .before .before .before .before .before .before .before .before .before .before .pre .2))
 
 mul-total-4 : tie.Need-mul-total-4
-mul-total-4 c = let r = c .before .before .before .before .before .before .before .before .before .before .before .before .before .before .before .pre .0 .rows in let i = c .before .before .before .before .before .before .before .before .before .before .before .before .before .before .before .args .i in let h = c .before .before .before .before .before .before .before .before .before .before .before .before .before .before .before .pre .2 in omega (arith, r .seconds i h, c .before .before .before .before .before .before .before .before .before .before .before .before .before .before .before .pre .0 .room, h)
+mul-total-4 c = omega (arith, second-in (c .before .before .before .before .before .before .before .before .before .before .before .before .before .before .before .pre .0) (c .before .before .before .before .before .before .before .before .before .before .before .before .before .before .before .args .i) (c .before .before .before .before .before .before .before .before .before .before .before .before .before .before .before .pre .2))
 
 slice-read-total-4 : tie.Need-slice-read-total-4
-slice-read-total-4 c = let r = c .before .before .before .before .before .before .before .before .before .before .before .before .before .before .before .before .pre .0 .rows in let i = c .before .before .before .before .before .before .before .before .before .before .before .before .before .before .before .before .args .i in let h = c .before .before .before .before .before .before .before .before .before .before .before .before .before .before .before .before .pre .2 in omega (arith, r .seconds i h, c .before .before .before .before .before .before .before .before .before .before .before .before .before .before .before .before .pre .0 .room, h)
+slice-read-total-4 c = omega (arith, second-in (c .before .before .before .before .before .before .before .before .before .before .before .before .before .before .before .before .pre .0) (c .before .before .before .before .before .before .before .before .before .before .before .before .before .before .before .before .args .i) (c .before .before .before .before .before .before .before .before .before .before .before .before .before .before .before .before .pre .2))
 
 total-requires-2 : tie.Need-total-requires-2
-total-requires-2 c κs = let r = c .before .before .before .before .before .before .before .before .before .before .before .before .before .before .before .before .pre .0 .rows in let i = c .before .before .before .before .before .before .before .before .before .before .before .before .before .before .before .before .args .i in let h = c .before .before .before .before .before .before .before .before .before .before .before .before .before .before .before .before .pre .2 in (omega (arith, c .before .before .nodes-of .ensures, few-nodes (shapeOf (rowAt (now (c .before .before .before .before .before .before .before .before .before .before .before .before .before .before .before .before .args .rows)) i .kind))), nodes-most r (c .before .before .before .before .before .before .before .before .before .before .before .before .before .before .before .before .pre .1) (rowAt (now (c .before .before .before .before .before .before .before .before .before .before .before .before .before .before .before .before .args .rows)) i .first) (r .firsts i h) (omega (arith, r .firsts i h, h)), nodes-most r (c .before .before .before .before .before .before .before .before .before .before .before .before .before .before .before .before .pre .1) (rowAt (now (c .before .before .before .before .before .before .before .before .before .before .before .before .before .before .before .before .args .rows)) i .second) (r .seconds i h) (omega (arith, r .seconds i h, h)))
+total-requires-2 c κs = (omega (arith, c .before .before .nodes-of .ensures, few-nodes (shapeOf (rowAt (now (c .before .before .before .before .before .before .before .before .before .before .before .before .before .before .before .before .args .rows)) (c .before .before .before .before .before .before .before .before .before .before .before .before .before .before .before .before .args .i) .kind))), first-nodes (c .before .before .before .before .before .before .before .before .before .before .before .before .before .before .before .before .pre .0) (c .before .before .before .before .before .before .before .before .before .before .before .before .before .before .before .before .args .i) (c .before .before .before .before .before .before .before .before .before .before .before .before .before .before .before .before .pre .2) (c .before .before .before .before .before .before .before .before .before .before .before .before .before .before .before .before .pre .1), second-nodes (c .before .before .before .before .before .before .before .before .before .before .before .before .before .before .before .before .pre .0) (c .before .before .before .before .before .before .before .before .before .before .before .before .before .before .before .before .args .i) (c .before .before .before .before .before .before .before .before .before .before .before .before .before .before .before .before .pre .2) (c .before .before .before .before .before .before .before .before .before .before .before .before .before .before .before .before .pre .1))
 
 add-at : tie.Need-add-at
 add-at c = search needs
@@ -130,10 +130,12 @@ same-length : tie.Need-same-length
 same-length c = search needs
 
 returns : tie.Need-returns
-returns c = let r = c .before .before .before .before .before .before .before .before .before .before .before .before .before .before .before .before .before .pre .0 .rows in let i = c .before .before .before .before .before .before .before .before .before .before .before .before .before .before .before .before .before .args .i in let h = c .before .before .before .before .before .before .before .before .before .before .before .before .before .before .before .before .before .pre .2 in
-    measured-as (omega arith) (measured-more (c .before .before .before .before .total .result) (c .total2 .result) (omega (arith, c .before .before .before .before .before .before .before .before .before .before .before .before .before .before .before .before .before .pre .0 .room, h)) (c .before .before .before .before .before .before .before .before .before .before .before .before .before .before .before .before .before .pre .1)
-    (row-bytes i r h (c .before .before .before .before .before .before .before .before .before .before .before .before .before .before .before .before .before .pre .1) (c .before .before .before .before .before .before .before .before .before .before .parts-of .result) (c .before .before .before .before .before .before .before .head-len .result) (c .before .before .before .before .total .result) (c .before .before .before .before .before .before .before .before .before .before .parts-of .ensures) (c .before .before .before .before .before .before .before .head-len .ensures .0) (c .before .before .before .before .total .ensures))
-    (row-nodes i r h (c .before .before .before .before .before .before .before .before .before .before .before .before .before .before .before .before .before .pre .1) (c .before .before .before .before .before .before .before .before .before .before .parts-of .result) (c .before .before .before .nodes-of .result) (c .total2 .result) (c .before .before .before .before .before .before .before .before .before .before .parts-of .ensures) (c .before .before .before .nodes-of .ensures) (c .total2 .ensures)))
+returns c = let i = c .before .before .before .before .before .before .before .before .before .before .before .before .before .before .before .before .before .args .i in
+    let h = c .before .before .before .before .before .before .before .before .before .before .before .before .before .before .before .before .before .pre .2 in
+    measured-as (omega arith)
+    (measured-more (c .before .before .before .before .total .result) (c .total2 .result) (omega (arith, c .before .before .before .before .before .before .before .before .before .before .before .before .before .before .before .before .before .pre .0 .room, h)) (c .before .before .before .before .before .before .before .before .before .before .before .before .before .before .before .before .before .pre .1)
+    (row-bytes i (c .before .before .before .before .before .before .before .before .before .before .before .before .before .before .before .before .before .pre .0 .rows) h (c .before .before .before .before .before .before .before .before .before .before .before .before .before .before .before .before .before .pre .1) _ _ _ (c .before .before .before .before .before .before .before .before .before .before .parts-of .ensures) (c .before .before .before .before .before .before .before .head-len .ensures .0) (c .before .before .before .before .total .ensures))
+    (row-nodes i (c .before .before .before .before .before .before .before .before .before .before .before .before .before .before .before .before .before .pre .0 .rows) h (c .before .before .before .before .before .before .before .before .before .before .before .before .before .before .before .before .before .pre .1) _ _ _ (c .before .before .before .before .before .before .before .before .before .before .parts-of .ensures) (c .before .before .before .nodes-of .ensures) (c .total2 .ensures)))
 
 pub measure-row-spec : {M : Type 1} → statement M
 measure-row-spec =
