@@ -5,4 +5,5 @@ pub mod Shapes
 pub mod Sorts
 pub mod Opening
 pub mod Rooms
+pub mod Endings
 pub mod Sizing

@@ -6,7 +6,7 @@ use lib.ListN.{length}
 use Rattle.rules.specs.Basic.{Bytes, _‥_}
 use Rattle.rules.specs.Name.{encodeName}
 use Rattle.rules.specs.Term.{oneTag, twoTag}
-use Rattle.draft.specs.Draft.{nameOf, xName, Shape, shapeOf, named, identity, discarding, letting, branching, copying, wrapping, joining}
+use Rattle.draft.specs.Draft.{Row, nameOf, xName, Shape, shapeOf, named, identity, discarding, letting, branching, copying, wrapping, joining}
 use Rattle.draft.specs.Made.{mostNumber}
 
 abbrev pub tagOf : Shape → ℕ
@@ -38,6 +38,10 @@ middle s n p (joining k) = []
 
 abbrev pub head : Bytes → (number stem : ℕ) → Shape → Bytes
 head s n p k = tagOf k ∷ middle s n p k
+
+-- the bytes before the parts
+abbrev pub front : Bytes → Row → Bytes
+front s r = head s (r .number) (r .stem) (shapeOf (r .kind))
 
 -- how many parts follow: none, the first, both, or the first and the second twice
 abbrev pub partsOf : Shape → ℕ

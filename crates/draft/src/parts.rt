@@ -1,12 +1,9 @@
 // The term of a part, written from its rows.
 use crate::heads::parts_of;
 use crate::heads::put_head;
-ghost use Prim.Native.Nat.{_+_};
-ghost use Rattle.rules.specs.Term.{Term, encode};
-ghost use Rattle.runs.specs.Wrote.{Wrote};
-ghost use Rattle.draft.specs.Draft.{Drafts};
+ghost use Rattle.rules.specs.Term.{Term};
 ghost use Rattle.draft.specs.Made.{Small};
-ghost use Rattle.draft.specs.Writing.{Writable};
+ghost use Rattle.draft.specs.Writing.{Writable, Puts};
 
 // Writes a part, and returns the place after it: the head of its row, then the parts that the row names; a branching's second part twice.
 pub fn put_part(
@@ -18,7 +15,7 @@ pub fn put_part(
     at: usize,
 ) -> usize
     requires { ⌜ Small (now rows) used × ((t : Term) × Writable (now s) (now rows) used part (now out) at t) ⌝ }
-    ensures { λ r. ⌜ ((t : Term) → Drafts (now (s .entry)) (now (rows .entry)) used part t → Wrote (now (out .entry)) at (encode t) (now (out .exit)) r) ⌝ }
+    ensures { λ r. ⌜ Puts (now (s .entry)) (now (rows .entry)) used part (now (out .entry)) at (now (out .exit)) r ⌝ }
 {
     if part == 0 {
         out[at] = 2;

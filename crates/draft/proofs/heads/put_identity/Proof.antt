@@ -10,7 +10,9 @@ put-x-requires : tie.Need-put-x-requires
 put-x-requires c κs = omega (arith, c .before .before .pre, identity-length (c .before .before .args .number))
 
 put-variable-requires : tie.Need-put-variable-requires
-put-variable-requires c κs = omega (arith, c .before .before .before .before .before .before .pre, identity-length (c .before .before .before .before .before .before .args .number), c .before .before .before .put-x .ensures .ends, c .before .before .before .put-x .kept .1 .0)
+put-variable-requires c κs =
+    let b = c .before .before .before .before .before .before in
+    omega (arith, b .pre, identity-length (b .args .number), c .before .before .before .put-x .ensures .ends, c .before .before .before .put-x .kept .1 .0)
 
 same-length : tie.Need-same-length
 same-length c = search needs

@@ -12,7 +12,14 @@ use Rattle.draft.proofs.heads.put_middle.Statement.{statement}
 use Rattle.draft.proofs.heads.put_middle.Tie as tie
 
 put-name-requires : tie.Need-put-name-requires
-put-name-requires c κs = let a = c .before .before .before .before .args in let s = now (a .s) in let n = a .number in let p = a .stem in let k = a .kind in (omega (arith, c .before .before .before .before .pre .room, ap length (middle-named s n p k (c .before .if1 .taken))), c .before .before .before .before .pre .short (c .before .if1 .taken))
+put-name-requires c κs =
+    let b = c .before .before .before .before in
+    let a = b .args in
+    let s = now (a .s) in
+    let n = a .number in
+    let p = a .stem in
+    let k = a .kind in
+    (omega (arith, b .pre .room, ap length (middle-named s n p k (c .before .if1 .taken))), b .pre .short (c .before .if1 .taken))
 
 same-length : tie.Need-same-length
 same-length c = search needs
@@ -21,7 +28,14 @@ returns : tie.Need-returns
 returns c = let a = c .before .before .before .before .before .before .before .args in let s = now (a .s) in let n = a .number in let p = a .stem in let k = a .kind in wrote-as (sym (middle-named s n p k (c .before .before .before .before .if1 .taken))) (c .before .before .put-name .ensures)
 
 put-identity-requires : tie.Need-put-identity-requires
-put-identity-requires c κs = let a = c .before .before .before .before .before .args in let s = now (a .s) in let n = a .number in let p = a .stem in let k = a .kind in omega (arith, c .before .before .before .before .before .pre .room, ap length (middle-identity s n p k (c .before .if2 .taken)))
+put-identity-requires c κs =
+    let b = c .before .before .before .before .before in
+    let a = b .args in
+    let s = now (a .s) in
+    let n = a .number in
+    let p = a .stem in
+    let k = a .kind in
+    omega (arith, b .pre .room, ap length (middle-identity s n p k (c .before .if2 .taken)))
 
 same-length-2 : tie.Need-same-length-2
 same-length-2 c = search needs
@@ -33,7 +47,14 @@ returns-3 : tie.Need-returns-3
 returns-3 c = let a = c .before .before .before .before .before .args in let s = now (a .s) in let n = a .number in let p = a .stem in let k = a .kind in wrote-as (sym (middle-none s n p k (c .before .before .if1 .left) (c .before .if2 .left) (c .if3 .taken))) (wrote-none (now (a .out)) (a .at))
 
 slice-write-out : tie.Need-slice-write-out
-slice-write-out c = let a = c .before .before .before .before .before .before .args in let s = now (a .s) in let n = a .number in let p = a .stem in let k = a .kind in omega (arith, c .before .before .before .before .before .before .pre .room, ap length (middle-discarding s n p k (c .if4 .taken)))
+slice-write-out c =
+    let b = c .before .before .before .before .before .before in
+    let a = b .args in
+    let s = now (a .s) in
+    let n = a .number in
+    let p = a .stem in
+    let k = a .kind in
+    omega (arith, b .pre .room, ap length (middle-discarding s n p k (c .if4 .taken)))
 
 add-result : tie.Need-add-result
 add-result c = search needs
@@ -45,7 +66,14 @@ returns-4 : tie.Need-returns-4
 returns-4 c = let a = c .before .before .before .before .before .before .args in let s = now (a .s) in let n = a .number in let p = a .stem in let k = a .kind in wrote-as (sym (middle-discarding s n p k (c .if4 .taken))) (wrote-one (now (a .out)) (a .at) 2)
 
 put-two-names-requires : tie.Need-put-two-names-requires
-put-two-names-requires c κs = let a = c .before .before .before .before .before .before .before .args in let s = now (a .s) in let n = a .number in let p = a .stem in let k = a .kind in (omega (arith, c .before .before .before .before .before .before .before .pre .room, middle-room s n p k (c .before .before .if3 .left) (c .before .if4 .left)), c .before .before .before .before .before .before .before .pre .small)
+put-two-names-requires c κs =
+    let b = c .before .before .before .before .before .before .before in
+    let a = b .args in
+    let s = now (a .s) in
+    let n = a .number in
+    let p = a .stem in
+    let k = a .kind in
+    (omega (arith, b .pre .room, middle-room s n p k (c .before .before .if3 .left) (c .before .if4 .left)), b .pre .small)
 
 same-length-4 : tie.Need-same-length-4
 same-length-4 c = search needs
@@ -57,7 +85,14 @@ add-put-variable : tie.Need-add-put-variable
 add-put-variable c = search needs
 
 put-variable-requires : tie.Need-put-variable-requires
-put-variable-requires c κs = let a = c .before .before .before .before .before .before .before .before .before .before .before .before .args in let s = now (a .s) in let n = a .number in let p = a .stem in let k = a .kind in omega (arith, c .before .before .before .before .before .before .before .before .before .before .before .before .pre .room, ap length (middle-copying s n p k (c .before .if5 .left)), copying-length n, two-length n, c .before .before .before .before .put-two-names .ensures .ends, c .before .before .before .before .put-two-names .kept .1 .0)
+put-variable-requires c κs =
+    let b = c .before .before .before .before .before .before .before .before .before .before .before .before in
+    let a = b .args in
+    let s = now (a .s) in
+    let n = a .number in
+    let p = a .stem in
+    let k = a .kind in
+    omega (arith, b .pre .room, ap length (middle-copying s n p k (c .before .if5 .left)), copying-length n, two-length n, c .before .before .before .before .put-two-names .ensures .ends, c .before .before .before .before .put-two-names .kept .1 .0)
 
 same-length-5 : tie.Need-same-length-5
 same-length-5 c = search needs

@@ -13,7 +13,9 @@ add-put-x : tie.Need-add-put-x
 add-put-x c = search needs
 
 put-x-requires-2 : tie.Need-put-x-requires-2
-put-x-requires-2 c κs = omega (arith, c .before .before .before .before .before .before .pre .0, two-length (c .before .before .before .before .before .before .args .number), c .before .before .before .put-x .ensures .ends, c .before .before .before .put-x .kept .1 .0)
+put-x-requires-2 c κs =
+    let b = c .before .before .before .before .before .before in
+    omega (arith, b .pre .0, two-length (b .args .number), c .before .before .before .put-x .ensures .ends, c .before .before .before .put-x .kept .1 .0)
 
 same-length : tie.Need-same-length
 same-length c = search needs

@@ -20,7 +20,11 @@ array-read-if1 : tie.Need-array-read-if1
 array-read-if1 c = search needs
 
 returns : tie.Need-returns
-returns c = let a = c .before .before .before .before .before .before .args in let z = c .before .before .measure .ensures .each (a .part) (c .before .before .before .before .before .before .pre .3) in λ t x. too-long _ t (z .bytes t x) (c .if1 .taken)
+returns c =
+    let b = c .before .before .before .before .before .before in
+    let a = b .args in
+    let z = c .before .before .measure .ensures .each (a .part) (b .pre .3) in
+    λ t x. too-long _ t (z .bytes t x) (c .if1 .taken)
 
 add-result : tie.Need-add-result
 add-result c = search needs
@@ -32,7 +36,11 @@ array-read-result : tie.Need-array-read-result
 array-read-result c = search needs
 
 returns-2 : tie.Need-returns-2
-returns-2 c = let a = c .before .before .before .before .before .before .args in let z = c .before .before .measure .ensures .each (a .part) (c .before .before .before .before .before .before .pre .3) in λ t x. short-enough _ _ t (z .bytes t x) (z .nodes t x) (c .if1 .left)
+returns-2 c =
+    let b = c .before .before .before .before .before .before in
+    let a = b .args in
+    let z = c .before .before .measure .ensures .each (a .part) (b .pre .3) in
+    λ t x. short-enough _ _ t (z .bytes t x) (z .nodes t x) (c .if1 .left)
 
 pub fits-spec : {M : Type 1} → statement M
 fits-spec =

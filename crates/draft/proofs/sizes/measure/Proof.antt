@@ -28,10 +28,14 @@ slice-write-sizes-4 : tie.Need-slice-write-sizes-4 Inv-loop μ-loop
 slice-write-sizes-4 c = simp length-set (omega (arith, c .before .before .before .pre .room))
 
 loop-holds : tie.Need-loop-holds Inv-loop μ-loop
-loop-holds c = (omega arith, refl, measured-two (now (c .before .before .before .args .sizes)) (omega (arith, c .before .before .before .pre .room)))
+loop-holds c =
+    let b = c .before .before .before in
+    (omega arith, refl, measured-two (now (b .args .sizes)) (omega (arith, b .pre .room)))
 
 measure-row-requires : tie.Need-measure-row-requires Inv-loop μ-loop
-measure-row-requires c κs = (record { rows = c .before .before .before .before .before .before .pre .rows; small = c .before .before .before .before .before .before .pre .small; room = omega (arith, c .before .before .before .before .before .before .pre .room, c .before .before .loop .inv .1, four-long (now (c .before .before .before .before .before .before .args .sizes))) }, c .before .before .loop .inv .2, c .before .loop-test .taken)
+measure-row-requires c κs =
+    let b = c .before .before .before .before .before .before in
+    (record { rows = b .pre .rows; small = b .pre .small; room = omega (arith, b .pre .room, c .before .before .loop .inv .1, four-long (now (b .args .sizes))) }, c .before .before .loop .inv .2, c .before .loop-test .taken)
 
 add-i : tie.Need-add-i Inv-loop μ-loop
 add-i c = omega arith

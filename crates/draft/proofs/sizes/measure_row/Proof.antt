@@ -28,7 +28,9 @@ shared-slice-read-first : tie.Need-shared-slice-read-first
 shared-slice-read-first c = search needs
 
 mul-first-2 : tie.Need-mul-first-2
-mul-first-2 c = omega (arith, first-in (c .before .before .before .before .before .pre .0) (c .before .before .before .before .before .args .i) (c .before .before .before .before .before .pre .2))
+mul-first-2 c =
+    let b = c .before .before .before .before .before in
+    omega (arith, first-in (b .pre .0) (b .args .i) (b .pre .2))
 
 add-second : tie.Need-add-second
 add-second c = search needs
@@ -40,7 +42,9 @@ shared-slice-read-second : tie.Need-shared-slice-read-second
 shared-slice-read-second c = search needs
 
 mul-second-2 : tie.Need-mul-second-2
-mul-second-2 c = omega (arith, second-in (c .before .before .before .before .before .before .pre .0) (c .before .before .before .before .before .before .args .i) (c .before .before .before .before .before .before .pre .2))
+mul-second-2 c =
+    let b = c .before .before .before .before .before .before in
+    omega (arith, second-in (b .pre .0) (b .args .i) (b .pre .2))
 
 parts-of-requires : tie.Need-parts-of-requires
 parts-of-requires c κs = search needs
@@ -64,46 +68,72 @@ shared-slice-read-head-len-2 : tie.Need-shared-slice-read-head-len-2
 shared-slice-read-head-len-2 c = search needs
 
 head-len-requires : tie.Need-head-len-requires
-head-len-requires c κs = c .before .before .before .before .before .before .before .before .before .pre .0 .small .each (c .before .before .before .before .before .before .before .before .before .args .i) (c .before .before .before .before .before .before .before .before .before .pre .2)
+head-len-requires c κs =
+    let b = c .before .before .before .before .before .before .before .before .before in
+    b .pre .0 .small .each (b .args .i) (b .pre .2)
 
 mul-total : tie.Need-mul-total
-mul-total c = omega (arith, first-in (c .before .before .before .before .before .before .before .before .before .before .pre .0) (c .before .before .before .before .before .before .before .before .before .before .args .i) (c .before .before .before .before .before .before .before .before .before .before .pre .2))
+mul-total c =
+    let b = c .before .before .before .before .before .before .before .before .before .before in
+    omega (arith, first-in (b .pre .0) (b .args .i) (b .pre .2))
 
 slice-read-total : tie.Need-slice-read-total
-slice-read-total c = omega (arith, first-in (c .before .before .before .before .before .before .before .before .before .before .before .pre .0) (c .before .before .before .before .before .before .before .before .before .before .before .args .i) (c .before .before .before .before .before .before .before .before .before .before .before .pre .2))
+slice-read-total c =
+    let b = c .before .before .before .before .before .before .before .before .before .before .before in
+    omega (arith, first-in (b .pre .0) (b .args .i) (b .pre .2))
 
 mul-total-2 : tie.Need-mul-total-2
-mul-total-2 c = omega (arith, second-in (c .before .before .before .before .before .before .before .before .before .before .before .pre .0) (c .before .before .before .before .before .before .before .before .before .before .before .args .i) (c .before .before .before .before .before .before .before .before .before .before .before .pre .2))
+mul-total-2 c =
+    let b = c .before .before .before .before .before .before .before .before .before .before .before in
+    omega (arith, second-in (b .pre .0) (b .args .i) (b .pre .2))
 
 slice-read-total-2 : tie.Need-slice-read-total-2
-slice-read-total-2 c = omega (arith, second-in (c .before .before .before .before .before .before .before .before .before .before .before .before .pre .0) (c .before .before .before .before .before .before .before .before .before .before .before .before .args .i) (c .before .before .before .before .before .before .before .before .before .before .before .before .pre .2))
+slice-read-total-2 c =
+    let b = c .before .before .before .before .before .before .before .before .before .before .before .before in
+    omega (arith, second-in (b .pre .0) (b .args .i) (b .pre .2))
 
 total-requires : tie.Need-total-requires
-total-requires c κs = (omega (arith, c .before .before .head-len .ensures .1), first-bytes (c .before .before .before .before .before .before .before .before .before .before .before .before .pre .0) (c .before .before .before .before .before .before .before .before .before .before .before .before .args .i) (c .before .before .before .before .before .before .before .before .before .before .before .before .pre .2) (c .before .before .before .before .before .before .before .before .before .before .before .before .pre .1), second-bytes (c .before .before .before .before .before .before .before .before .before .before .before .before .pre .0) (c .before .before .before .before .before .before .before .before .before .before .before .before .args .i) (c .before .before .before .before .before .before .before .before .before .before .before .before .pre .2) (c .before .before .before .before .before .before .before .before .before .before .before .before .pre .1))
+total-requires c κs =
+    let b = c .before .before .before .before .before .before .before .before .before .before .before .before in
+    (omega (arith, c .before .before .head-len .ensures .1), first-bytes (b .pre .0) (b .args .i) (b .pre .2) (b .pre .1), second-bytes (b .pre .0) (b .args .i) (b .pre .2) (b .pre .1))
 
 nodes-of-requires : tie.Need-nodes-of-requires
 nodes-of-requires c κs = search needs
 
 add-total : tie.Need-add-total
-add-total c = omega (arith, first-in (c .before .before .before .before .before .before .before .before .before .before .before .before .before .before .pre .0) (c .before .before .before .before .before .before .before .before .before .before .before .before .before .before .args .i) (c .before .before .before .before .before .before .before .before .before .before .before .before .before .before .pre .2))
+add-total c =
+    let b = c .before .before .before .before .before .before .before .before .before .before .before .before .before .before in
+    omega (arith, first-in (b .pre .0) (b .args .i) (b .pre .2))
 
 mul-total-3 : tie.Need-mul-total-3
-mul-total-3 c = omega (arith, first-in (c .before .before .before .before .before .before .before .before .before .before .before .before .before .before .pre .0) (c .before .before .before .before .before .before .before .before .before .before .before .before .before .before .args .i) (c .before .before .before .before .before .before .before .before .before .before .before .before .before .before .pre .2))
+mul-total-3 c =
+    let b = c .before .before .before .before .before .before .before .before .before .before .before .before .before .before in
+    omega (arith, first-in (b .pre .0) (b .args .i) (b .pre .2))
 
 slice-read-total-3 : tie.Need-slice-read-total-3
-slice-read-total-3 c = omega (arith, first-in (c .before .before .before .before .before .before .before .before .before .before .before .before .before .before .before .pre .0) (c .before .before .before .before .before .before .before .before .before .before .before .before .before .before .before .args .i) (c .before .before .before .before .before .before .before .before .before .before .before .before .before .before .before .pre .2))
+slice-read-total-3 c =
+    let b = c .before .before .before .before .before .before .before .before .before .before .before .before .before .before .before in
+    omega (arith, first-in (b .pre .0) (b .args .i) (b .pre .2))
 
 add-total-2 : tie.Need-add-total-2
-add-total-2 c = omega (arith, second-in (c .before .before .before .before .before .before .before .before .before .before .before .before .before .before .before .pre .0) (c .before .before .before .before .before .before .before .before .before .before .before .before .before .before .before .args .i) (c .before .before .before .before .before .before .before .before .before .before .before .before .before .before .before .pre .2))
+add-total-2 c =
+    let b = c .before .before .before .before .before .before .before .before .before .before .before .before .before .before .before in
+    omega (arith, second-in (b .pre .0) (b .args .i) (b .pre .2))
 
 mul-total-4 : tie.Need-mul-total-4
-mul-total-4 c = omega (arith, second-in (c .before .before .before .before .before .before .before .before .before .before .before .before .before .before .before .pre .0) (c .before .before .before .before .before .before .before .before .before .before .before .before .before .before .before .args .i) (c .before .before .before .before .before .before .before .before .before .before .before .before .before .before .before .pre .2))
+mul-total-4 c =
+    let b = c .before .before .before .before .before .before .before .before .before .before .before .before .before .before .before in
+    omega (arith, second-in (b .pre .0) (b .args .i) (b .pre .2))
 
 slice-read-total-4 : tie.Need-slice-read-total-4
-slice-read-total-4 c = omega (arith, second-in (c .before .before .before .before .before .before .before .before .before .before .before .before .before .before .before .before .pre .0) (c .before .before .before .before .before .before .before .before .before .before .before .before .before .before .before .before .args .i) (c .before .before .before .before .before .before .before .before .before .before .before .before .before .before .before .before .pre .2))
+slice-read-total-4 c =
+    let b = c .before .before .before .before .before .before .before .before .before .before .before .before .before .before .before .before in
+    omega (arith, second-in (b .pre .0) (b .args .i) (b .pre .2))
 
 total-requires-2 : tie.Need-total-requires-2
-total-requires-2 c κs = (omega (arith, c .before .before .nodes-of .ensures, few-nodes (shapeOf (rowAt (now (c .before .before .before .before .before .before .before .before .before .before .before .before .before .before .before .before .args .rows)) (c .before .before .before .before .before .before .before .before .before .before .before .before .before .before .before .before .args .i) .kind))), first-nodes (c .before .before .before .before .before .before .before .before .before .before .before .before .before .before .before .before .pre .0) (c .before .before .before .before .before .before .before .before .before .before .before .before .before .before .before .before .args .i) (c .before .before .before .before .before .before .before .before .before .before .before .before .before .before .before .before .pre .2) (c .before .before .before .before .before .before .before .before .before .before .before .before .before .before .before .before .pre .1), second-nodes (c .before .before .before .before .before .before .before .before .before .before .before .before .before .before .before .before .pre .0) (c .before .before .before .before .before .before .before .before .before .before .before .before .before .before .before .before .args .i) (c .before .before .before .before .before .before .before .before .before .before .before .before .before .before .before .before .pre .2) (c .before .before .before .before .before .before .before .before .before .before .before .before .before .before .before .before .pre .1))
+total-requires-2 c κs =
+    let b = c .before .before .before .before .before .before .before .before .before .before .before .before .before .before .before .before in
+    (omega (arith, c .before .before .nodes-of .ensures, few-nodes (shapeOf (rowAt (now (b .args .rows)) (b .args .i) .kind))), first-nodes (b .pre .0) (b .args .i) (b .pre .2) (b .pre .1), second-nodes (b .pre .0) (b .args .i) (b .pre .2) (b .pre .1))
 
 add-at : tie.Need-add-at
 add-at c = search needs
@@ -124,18 +154,22 @@ mul-sizes-2 : tie.Need-mul-sizes-2
 mul-sizes-2 c = search needs
 
 slice-write-sizes-2 : tie.Need-slice-write-sizes-2
-slice-write-sizes-2 c = simp length-set (omega (arith, c .before .before .before .before .before .before .before .before .before .before .before .before .before .before .before .before .before .pre .0 .room, c .before .before .before .before .before .before .before .before .before .before .before .before .before .before .before .before .before .pre .2))
+slice-write-sizes-2 c =
+    let b = c .before .before .before .before .before .before .before .before .before .before .before .before .before .before .before .before .before in
+    simp length-set (omega (arith, b .pre .0 .room, b .pre .2))
 
 same-length : tie.Need-same-length
 same-length c = search needs
 
 returns : tie.Need-returns
-returns c = let i = c .before .before .before .before .before .before .before .before .before .before .before .before .before .before .before .before .before .args .i in
-    let h = c .before .before .before .before .before .before .before .before .before .before .before .before .before .before .before .before .before .pre .2 in
+returns c =
+    let b = c .before .before .before .before .before .before .before .before .before .before .before .before .before .before .before .before .before in
+    let i = b .args .i in
+    let h = b .pre .2 in
     measured-as (omega arith)
-    (measured-more (c .before .before .before .before .total .result) (c .total2 .result) (omega (arith, c .before .before .before .before .before .before .before .before .before .before .before .before .before .before .before .before .before .pre .0 .room, h)) (c .before .before .before .before .before .before .before .before .before .before .before .before .before .before .before .before .before .pre .1)
-    (row-bytes i (c .before .before .before .before .before .before .before .before .before .before .before .before .before .before .before .before .before .pre .0 .rows) h (c .before .before .before .before .before .before .before .before .before .before .before .before .before .before .before .before .before .pre .1) _ _ _ (c .before .before .before .before .before .before .before .before .before .before .parts-of .ensures) (c .before .before .before .before .before .before .before .head-len .ensures .0) (c .before .before .before .before .total .ensures))
-    (row-nodes i (c .before .before .before .before .before .before .before .before .before .before .before .before .before .before .before .before .before .pre .0 .rows) h (c .before .before .before .before .before .before .before .before .before .before .before .before .before .before .before .before .before .pre .1) _ _ _ (c .before .before .before .before .before .before .before .before .before .before .parts-of .ensures) (c .before .before .before .nodes-of .ensures) (c .total2 .ensures)))
+    (measured-more (c .before .before .before .before .total .result) (c .total2 .result) (omega (arith, b .pre .0 .room, h)) (b .pre .1)
+    (row-bytes i (b .pre .0 .rows) h (b .pre .1) _ _ _ (c .before .before .before .before .before .before .before .before .before .before .parts-of .ensures) (c .before .before .before .before .before .before .before .head-len .ensures .0) (c .before .before .before .before .total .ensures))
+    (row-nodes i (b .pre .0 .rows) h (b .pre .1) _ _ _ (c .before .before .before .before .before .before .before .before .before .before .parts-of .ensures) (c .before .before .before .nodes-of .ensures) (c .total2 .ensures)))
 
 pub measure-row-spec : {M : Type 1} → statement M
 measure-row-spec =
