@@ -7,10 +7,12 @@ ghost use mathlib.Core.Path.{_≡_};
 ghost use Prim.Native.Nat.{_+_, _<_, _≤_};
 ghost use mathlib.Core.List.{[]};
 ghost use lib.ListN.{length};
+ghost use Rattle.rules.specs.Basic.{_‥_};
+ghost use Rattle.rules.specs.Name.{encodeName};
 ghost use Rattle.runs.specs.Wrote.{Wrote};
-ghost use Rattle.draft.specs.Draft.{shapeOf, identity};
+ghost use Rattle.draft.specs.Draft.{xName, shapeOf, identity};
 ghost use Rattle.draft.specs.Made.{mostNumber};
-ghost use Rattle.draft.specs.Heads.{tagOf, partsOf, nodesOf, variable, twoNames, middle, head, Middleroom};
+ghost use Rattle.draft.specs.Heads.{tagOf, partsOf, nodesOf, variable, middle, head, Middleroom};
 
 // For each kind but the last: its tag in five bits, how many parts follow and how many nodes the head has in two.
 const TAGS: usize = 10291638733905057;
@@ -54,12 +56,12 @@ fn put_variable(number: usize, out: &mut [u8], at: usize) -> usize
     put_x(number, out, at + 1)
 }
 
-fn put_two_names(number: usize, out: &mut [u8], at: usize) -> usize
-    requires { ⌜ (at + length (twoNames number) ≤ length (now out)) × (number < mostNumber) ⌝ }
-    ensures { λ r. ⌜ Wrote (now (out .entry)) at (twoNames number) (now (out .exit)) r ⌝ }
+fn put_two_names(first: usize, second: usize, out: &mut [u8], at: usize) -> usize
+    requires { ⌜ at + length (encodeName (xName first) ‥ encodeName (xName second)) ≤ length (now out) ⌝ }
+    ensures { λ r. ⌜ Wrote (now (out .entry)) at (encodeName (xName first) ‥ encodeName (xName second)) (now (out .exit)) r ⌝ }
 {
-    let past = put_x(number, out, at);
-    put_x(number + 1, out, past)
+    let past = put_x(first, out, at);
+    put_x(second, out, past)
 }
 
 fn put_identity(number: usize, out: &mut [u8], at: usize) -> usize
@@ -87,7 +89,7 @@ fn put_middle(s: &[u8], kind: usize, number: usize, stem: usize, out: &mut [u8],
         out[at] = 2;
         return at + 1;
     }
-    let past = put_two_names(number, out, at);
+    let past = put_two_names(number, number + 1, out, at);
     if kind < 11 {
         return past;
     }

@@ -65,6 +65,9 @@ same-length-3 c = search needs
 returns-4 : tie.Need-returns-4
 returns-4 c = let a = c .before .before .before .before .before .before .args in let s = now (a .s) in let n = a .number in let p = a .stem in let k = a .kind in wrote-as (sym (middle-discarding s n p k (c .if4 .taken))) (wrote-one (now (a .out)) (a .at) 2)
 
+add-put-two-names : tie.Need-add-put-two-names
+add-put-two-names c = search needs
+
 put-two-names-requires : tie.Need-put-two-names-requires
 put-two-names-requires c κs =
     let b = c .before .before .before .before .before .before .before in
@@ -73,7 +76,7 @@ put-two-names-requires c κs =
     let n = a .number in
     let p = a .stem in
     let k = a .kind in
-    (omega (arith, b .pre .room, middle-room s n p k (c .before .before .if3 .left) (c .before .if4 .left)), b .pre .small)
+    omega (arith, b .pre .room, middle-room s n p k (c .before .before .if3 .left) (c .before .if4 .left))
 
 same-length-4 : tie.Need-same-length-4
 same-length-4 c = search needs
@@ -92,7 +95,7 @@ put-variable-requires c κs =
     let n = a .number in
     let p = a .stem in
     let k = a .kind in
-    omega (arith, b .pre .room, ap length (middle-copying s n p k (c .before .if5 .left)), copying-length n, two-length n, c .before .before .before .before .put-two-names .ensures .ends, c .before .before .before .before .put-two-names .kept .1 .0)
+    omega (arith, b .pre .room, ap length (middle-copying s n p k (c .before .if5 .left)), copying-length n, two-length n, c .before .before .before .before .put-two-names .ensures .ends, c .before .before .before .before .put-two-names .kept .1 .1 .0)
 
 same-length-5 : tie.Need-same-length-5
 same-length-5 c = search needs
@@ -115,6 +118,7 @@ put-middle-spec =
     add-result
     same-length-3
     returns-4
+    add-put-two-names
     put-two-names-requires
     same-length-4
     returns-5
