@@ -71,15 +71,18 @@ fn reduce_read(term: &[u8], nodes: usize, limit: u32, out: &mut [u8], scratch: &
                 length,
             })
         }
-        Repeated::Outgrown { steps, length } => {
-            runs::clear(out, length);
+        Repeated::Outgrown {
+            steps,
+            length: last,
+        } => {
+            runs::clear(out, last);
             Reduced::Refused {
                 refusal: Refusal {
                     number: 8,
                     place: steps as usize,
                     input: 0,
                 },
-                length,
+                length: last,
             }
         }
     }
