@@ -1,1 +1,3 @@
 -- What the proofs of several functions use.
+mod Puts
+mod Turning
