@@ -12,7 +12,7 @@ use Rattle.rules.specs.Term.{Term, one, two, abs, both, branch, fst, snd, promo
 use Rattle.rules.specs.Substitution.{subst}
 use Rattle.rules.specs.declared.Rule.{Rule}
 use Rattle.rules.specs.declared.Rule.the-variants.{App, Let, Case, Fst, Snd, Derelict, Copy, Discard}
-use Rattle.rules.specs.Step.{Contraction, by, contract}
+use Rattle.rules.specs.Step.{by, contract}
 use Rattle.walk.proofs.Terms.{at-tag, at-inside}
 use Rattle.step.specs.Redex.{side}
 use Rattle.step.proofs.Firsts.{contracts}

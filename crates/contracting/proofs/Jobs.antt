@@ -2,7 +2,6 @@
 use Prim.Native.Nat.{ℕ, _+_, _-_, _≤_}
 use mathlib.Core.Path.{_≡_}
 use mathlib.Core.Option.{none}
-use mathlib.Core.List.{List}
 use native.Mathlib.Omega.{arith}
 use lib.ListN.{length, take, drop}
 use lib.Seq.{slice}
@@ -11,7 +10,6 @@ use Rattle.rules.specs.Name.{Name}
 use Rattle.rules.specs.Term.{Term, one, two, abs, both, branch, One, pair, app, Both, nodes, size}
 use Rattle.rules.specs.declared.Rule.{Rule}
 use Rattle.runs.specs.Wrote.{Wrote}
-use Rattle.walk.specs.Place.{TermAt, TermsAt}
 use Rattle.walk.proofs.Names.{AfterIs}
 use Rattle.walk.proofs.Terms.{Some, SkipIs, some-alone, skip-one}
 use Rattle.step.specs.Measured.{MeasuredTwo, MeasuredThree, Named}

@@ -1,7 +1,7 @@
 -- Two substitutions in turn: the first makes a term by itself, with nothing beside it, and the second goes on from there.
 -- Assumes nothing.
 use Prim.Native.Nat.{ℕ, _+_, _-_, _≤_}
-use mathlib.Core.Path.{_≡_, refl, sym, ap, _∙_}
+use mathlib.Core.Path.{_≡_, refl, sym, _∙_}
 use mathlib.Core.Bool.{Bool, true, false}
 use mathlib.Core.Option.{none, some}
 use native.Mathlib.Omega.{arith}

@@ -1,7 +1,7 @@
 -- Whether what a redex becomes fits, by numbers alone: the nodes and the bytes of the whole, less those of the redex, and its own.
 -- In a frame this is whether the new whole breaks no limit. By what a frame adds. Assumes nothing.
 use Prim.Native.Nat.{ℕ, _+_, _-_}
-use mathlib.Core.Path.{_≡_, refl, sym, ap, _∙_}
+use mathlib.Core.Path.{_≡_, ap, _∙_}
 use mathlib.Core.Bool.{Bool, _&&_}
 use mathlib.Core.Option.{Option}
 use native.Mathlib.Omega.{arith}

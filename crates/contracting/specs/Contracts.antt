@@ -1,7 +1,7 @@
 -- A redex where it stands, and what its contraction leaves. Assumes nothing: these are definitions.
 use Prim.Native.Nat.{ℕ, _+_, _-_, _≤_}
 use mathlib.Core.Path.{_≡_}
-use mathlib.Core.Bool.{Bool, _&&_}
+use mathlib.Core.Bool.{_&&_}
 use mathlib.Core.Option.{Option}
 use lib.ListN.{length}
 use lib.Seq.{sets}

@@ -1,7 +1,7 @@
 -- What is written for a redex, and what it is made of: the body, and the values that go into it. Assumes nothing: these are definitions.
 use Prim.Native.Nat.{ℕ, _+_, _≤_}
 use mathlib.Core.Path.{_≡_}
-use mathlib.Core.Bool.{Bool, _&&_}
+use mathlib.Core.Bool.{_&&_}
 use mathlib.Core.Option.{Option}
 use lib.ListN.{length}
 use lib.Seq.{sets}

@@ -1,8 +1,6 @@
 // What a redex becomes, written by itself. The sizes of the new whole are known before anything is written: beside the redex stand
 // `others` nodes and `rest` bytes.
-ghost use mathlib.Core.Path.{_≡_};
 ghost use mathlib.Core.Option.{none, some};
-ghost use Prim.Native.Nat.{_+_};
 ghost use Rattle.rules.specs.Term.{Term};
 ghost use Rattle.rules.specs.Substitution.{subst};
 ghost use Rattle.contracting.specs.Put.{Putting, Turns, Puts, Room};

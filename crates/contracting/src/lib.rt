@@ -5,8 +5,8 @@ ghost use Rattle.rules.specs.Term.{Term};
 ghost use Rattle.contracting.specs.Contracts.{Contracting, Contracts};
 use rules::Rule;
 
-pub mod into;
-pub mod redexes;
+mod into;
+mod redexes;
 
 // The rule, the size of what was written, the place after the redex, and the nodes of the new whole; or it would outgrow the limits.
 pub enum Contracted {

@@ -2,7 +2,7 @@
 ghost use mathlib.Core.Path.{_≡_};
 ghost use mathlib.Core.Bool.{Bool};
 ghost use mathlib.Core.Option.{none, some};
-ghost use Prim.Native.Nat.{ℕ, _+_};
+ghost use Prim.Native.Nat.{ℕ};
 ghost use Rattle.rules.specs.Basic.{if_then_else_};
 ghost use Rattle.rules.specs.Name.{Name};
 ghost use Rattle.rules.specs.Term.{Term, one, two, abs, both, branch as aBranch, fst, snd, promote, derelict as aDerelict, pair, app, discard as aDiscard, letPair, copy as aCopy};

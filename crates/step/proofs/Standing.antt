@@ -1,6 +1,6 @@
 -- A redex where it stands: the bytes and nodes around it, and its parts, which stand in a row. Assumes nothing.
 use Prim.Native.Nat.{ℕ, _+_, _-_, _≤_}
-use mathlib.Core.Path.{_≡_, refl, sym, ap, _∙_}
+use mathlib.Core.Path.{_≡_, sym, ap, _∙_}
 use mathlib.Core.Bool.{true}
 use mathlib.Core.List.{[], _++_, append-nil}
 use native.Mathlib.Omega.{arith}
@@ -13,7 +13,6 @@ use Rattle.walk.specs.Place.{TermAt}
 use Rattle.walk.proofs.Names.{drop-app}
 use Rattle.walk.proofs.Terms.{at-end}
 use Rattle.substitution.proofs.Writes.{slice-is}
-use Rattle.step.specs.Around.{Frame}
 use Rattle.step.specs.Made.{Between, Given, Keeping}
 use Rattle.step.specs.Measured.{MeasuredTwo, MeasuredThree}
 use Rattle.step.specs.Redex.{Redex}
