@@ -288,6 +288,11 @@ fn reduced(told: Reduced) -> Vec<u64> {
 }
 
 impl Seen {
+    /// The refusal's number, place and input, or zeros.
+    pub fn refusal(&self) -> [u64; 3] {
+        [self.answer[0], self.answer[1], self.answer[2]]
+    }
+
     /// The refusal's number, or 0.
     pub fn number(&self) -> u64 {
         self.answer[0]

@@ -9,6 +9,7 @@ mod guarded;
 mod itself;
 mod readers;
 mod reduction;
+mod refusals;
 mod run;
 mod shrink;
 mod soak;
@@ -20,8 +21,9 @@ use std::time::Instant;
 
 type Family = (&'static str, fn() -> run::Verdict);
 
-const FAMILIES: [Family; 9] = [
+const FAMILIES: [Family; 10] = [
     ("model", itself::all),
+    ("refusals", refusals::all),
     ("readers", readers::all),
     ("formulas", formulas::all),
     ("terms", terms::all),
