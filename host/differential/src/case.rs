@@ -213,7 +213,7 @@ impl Case {
         Some(Seen { answer, lent: buffers })
     }
 
-    fn ask_port<'a>(&self, input: &[&[u8]], lent: &mut dyn FnMut() -> &'a mut [u8]) -> Option<Vec<u64>> {
+    pub fn ask_port<'a>(&self, input: &[&[u8]], lent: &mut dyn FnMut() -> &'a mut [u8]) -> Option<Vec<u64>> {
         let first = input[0];
         Some(match self.call {
             Call::CheckFormula => count(plain(patch::check_formula(first))),

@@ -13,6 +13,7 @@ mod refusals;
 mod run;
 mod shrink;
 mod soak;
+mod stack;
 mod straight;
 mod terms;
 
@@ -37,8 +38,11 @@ const FAMILIES: [Family; 10] = [
 fn main() -> ExitCode {
     let asked: Vec<String> = std::env::args().skip(1).collect();
     if let [word, numbers @ ..] = &asked[..] {
-        if word == "soak" {
-            return soaked(numbers);
+        match word.as_str() {
+            "soak" => return soaked(numbers),
+            "stack" => return stack::all(!numbers.is_empty()),
+            "stack-one" => return stack::one(numbers),
+            _ => {}
         }
     }
     if let Some(unknown) = asked.iter().find(|a| !FAMILIES.iter().any(|(name, _)| name == a)) {

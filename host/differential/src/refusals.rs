@@ -202,7 +202,9 @@ fn files(table: &mut Table, call: Call, kind: u8) {
         seal(&mut file[from..from + 512]);
         file
     };
-    for (why, file) in [("10, empty", vec![]), ("10, no whole block", vec![0; 511]), ("10, too long", vec![0; 5120]), ("10 before 11", vec![1; 700])] {
+    for (why, file) in
+        [("10, empty", vec![]), ("10, no whole block", vec![0; 511]), ("10, too long", vec![0; 5120]), ("10 before 11", vec![1; 700])]
+    {
         table.expect("1 before 10", short(load(file.clone()), 0), [1, 0, 0]);
         table.expect(why, load(file), [10, 0, 1]);
     }
@@ -221,7 +223,8 @@ fn files(table: &mut Table, call: Call, kind: u8) {
     first[300] = 1;
     seal(&mut first);
     table.expect("13 before the content", load(first), [13, 0, 1]);
-    for (why, content, number, place) in [("3", vec![14], 3, 1), ("4", vec![0], 4, 0), ("7", vec![if kind == 1 { 2 } else { 3 }; 9], 7, 1)] {
+    for (why, content, number, place) in [("3", vec![14], 3, 1), ("4", vec![0], 4, 0), ("7", vec![if kind == 1 { 2 } else { 3 }; 9], 7, 1)]
+    {
         let (number, place) = if kind == 2 && number != 4 { proof_fault(&content) } else { (number, place) };
         table.expect(&format!("{why} of the content"), load(blocks(kind, &content)), [number, place, 1]);
     }
