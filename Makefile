@@ -6,7 +6,7 @@ CARGO := --release --offline --locked --quiet --manifest-path host/Cargo.toml
 VERDICT := host/target/verdict
 WARN := -Iinclude -Wall -Wextra -Wpedantic -Werror
 
-.PHONY: test hosted library run bench soak cases vectors
+.PHONY: test hosted library run bench soak stack cases vectors
 
 # rt ci proves every crate from nothing; the static library is then built from what it has just proved. Its last line, the verdict, is kept
 # back until the runs over that library have passed too, so that it is the last line of all and nothing is proved twice.
@@ -20,9 +20,12 @@ test:
 hosted: library
 	@gcc -std=c99 $(WARN) host/c/smoke.c host/target/library/libentry.a -o host/target/smoke && host/target/smoke
 	@gcc -x c++ $(WARN) -c host/c/smoke.c -o host/target/smoke.o
-	@cargo test $(CARGO) -p patch-model -p lolli-extract -p cases
+	@gcc -std=c99 $(WARN) host/c/example.c host/target/library/libentry.a -o host/target/example && host/target/example
+	@cargo run $(CARGO) -p patch --example reduce
+	@cargo test $(CARGO) -p patch-model -p lolli-extract -p cases -p write
 	@cargo run $(CARGO) -p differential
 	@cargo run $(CARGO) -p differential -- soak 1 1000000 60
+	@cargo run $(CARGO) -p differential -- stack
 
 library:
 	@host/library.sh
@@ -40,6 +43,10 @@ SECONDS := 3600
 soak: library
 	@cargo build $(CARGO) -p differential
 	@host/target/release/differential soak 2 $(CASES) $(SECONDS) & first=$$!; host/target/release/differential soak 3 $(CASES) $(SECONDS); wait $$first
+
+# The stack that each call takes on its deepest inputs.
+stack: library
+	@cargo run $(CARGO) -p differential -- stack measure
 
 # The list of the Rust's answers that crates/cases proves the rules by.
 cases:
