@@ -28,21 +28,21 @@ pub enum Repeated {
 // Reduces the term out[..whole] where it stands. Each step is taken from a copy of it in the scratch.
 pub fn repeat_steps(
     whole: usize,
-    size: usize,
+    nodes: usize,
     limit: u32,
     out: &mut [u8],
     scratch: &mut [u8],
 ) -> Repeated
-    requires { ⌜ ((t : Term) × Stands (now out) whole size (now scratch) t) ⌝ }
-    ensures { λ r. ⌜ ((t : Term) → Stands (now (out .entry)) whole size (now (scratch .entry)) t → Repeats (reduce limits limit t) (now (out .exit)) r) ⌝ }
+    requires { ⌜ ((t : Term) × Stands (now out) whole nodes (now scratch) t) ⌝ }
+    ensures { λ r. ⌜ ((t : Term) → Stands (now (out .entry)) whole nodes (now (scratch .entry)) t → Repeats (reduce limits limit t) (now (out .exit)) r) ⌝ }
 {
     let mut length = whole;
-    let mut nodes = size;
+    let mut count = nodes;
     let mut steps = 0;
     let mut counts = no_counts();
     while steps < limit {
         runs::copy(out, 0, length, scratch, 0);
-        match take_step(&scratch[0..length], nodes, out) {
+        match take_step(&scratch[0..length], count, out) {
             Taken::Normal => {
                 return Repeated::Stopped {
                     steps,
@@ -58,12 +58,12 @@ pub fn repeat_steps(
                 rule,
                 place: _,
                 length: next,
-                nodes: many,
+                nodes: after,
             } => {
                 steps += 1;
                 counts = plus(rule, counts);
                 length = next;
-                nodes = many;
+                count = after;
             }
         }
     }

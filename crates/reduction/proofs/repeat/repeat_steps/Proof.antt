@@ -12,11 +12,11 @@ use Rattle.reduction.proofs.repeat.repeat_steps.Statement.{statement}
 use Rattle.reduction.proofs.repeat.repeat_steps.Tie as tie
 
 abbrev Inv-loop : tie.InvT-loop
-Inv-loop whole size limit out₀ scratch₀ length₀ nodes₀ steps₀ counts₀ out scratch length nodes steps counts =
-    (steps ≤ limit) × (total counts ≡ steps) × SameLength out out₀ × SameLength scratch scratch₀ × ((t : Term) → Stands out₀ whole size scratch₀ t → Carried limit t out length nodes scratch steps counts)
+Inv-loop whole nodes limit out₀ scratch₀ length₀ count₀ steps₀ counts₀ out scratch length count steps counts =
+    (steps ≤ limit) × (total counts ≡ steps) × SameLength out out₀ × SameLength scratch scratch₀ × ((t : Term) → Stands out₀ whole nodes scratch₀ t → Carried limit t out length count scratch steps counts)
 
 abbrev μ-loop : tie.MeasureT-loop
-μ-loop whole size limit out₀ scratch₀ length₀ nodes₀ steps₀ counts₀ out scratch length nodes steps counts =
+μ-loop whole nodes limit out₀ scratch₀ length₀ count₀ steps₀ counts₀ out scratch length count steps counts =
     limit - steps
 
 no-counts-requires : tie.Need-no-counts-requires Inv-loop μ-loop
