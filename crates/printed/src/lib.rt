@@ -55,6 +55,19 @@ fn print_reduced(n: usize, term: &mut [u8], scratch: &mut [u8], out: &mut [u8]) 
     }
 }
 
+// What is printed for a file. The content of a file that opens stands in out until it is reduced.
+fn print_file(file: &[u8], term: &mut [u8], scratch: &mut [u8], out: &mut [u8]) -> usize
+    requires { ⌜ (4096 ≤ length (now term)) × (8192 ≤ length (now scratch)) × (20992 ≤ length (now out)) ⌝ }
+    ensures { λ r. ⌜ Starts (now (out .exit)) (patchrun limits (now (file .entry))) r ⌝ }
+    ensures { λ _. ⌜ now (term .exit) ≡ termAfter limits (now (file .entry)) (now (term .entry)) (now (scratch .entry)) ⌝ }
+    ensures { λ _. ⌜ now (scratch .exit) ≡ scratchAfter limits (now (file .entry)) (now (term .entry)) (now (scratch .entry)) ⌝ }
+{
+    match stored::load(Kind::Term, file, out) {
+        Answer::Refused(r) => put_refusal(r, out, 0),
+        Answer::Good(n) => print_reduced(n, term, scratch, out),
+    }
+}
+
 // What is printed for a file, then zeros; and how long it is. The arrays' lengths are part of their types, so none is ever too short.
 pub fn printed(
     file: &[u8],
@@ -67,10 +80,7 @@ pub fn printed(
     ensures { λ _. ⌜ now (term .exit) ≡ termAfter limits (now (file .entry)) (now (term .entry)) (now (scratch .entry)) ⌝ }
     ensures { λ _. ⌜ now (scratch .exit) ≡ scratchAfter limits (now (file .entry)) (now (term .entry)) (now (scratch .entry)) ⌝ }
 {
-    let end = match stored::load(Kind::Term, file, out) {
-        Answer::Refused(r) => put_refusal(r, out, 0),
-        Answer::Good(n) => print_reduced(n, term, scratch, out),
-    };
+    let end = print_file(file, term, scratch, out);
     runs::clear(out, end);
     end
 }
