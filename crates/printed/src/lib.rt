@@ -46,11 +46,11 @@ fn print_reduced(n: usize, term: &mut [u8], scratch: &mut [u8], out: &mut [u8]) 
     ensures { λ _. ⌜ now (term .exit) ≡ reduceCall limits (take n (now (out .entry))) 1000 (now (term .entry)) (now (scratch .entry)) .output ⌝ }
     ensures { λ _. ⌜ now (scratch .exit) ≡ reduceCall limits (take n (now (out .entry))) 1000 (now (term .entry)) (now (scratch .entry)) .scratch ⌝ }
 {
-    match normalize_bounded(&out[0..n], STEPS, term, scratch) {
+    match normalize_bounded(&out[..n], STEPS, term, scratch) {
         Reduced::Refused { refusal, length: _ } => put_refusal(refusal, out, 0),
         Reduced::Stopped(told) => {
             let end = told.length;
-            print_term(&term[0..end], told.steps, told.counts, told.normal, out)
+            print_term(&term[..end], told.steps, told.counts, told.normal, out)
         }
     }
 }
