@@ -29,17 +29,29 @@ enum-known-told : tie.Need-enum-known-told
 enum-known-told c = search needs
 
 slice-reshare-prefix-print-term : tie.Need-slice-reshare-prefix-print-term
-slice-reshare-prefix-print-term c = let a = c .before .before .before .before .before .before .before .before .before .before .before .before .before .before .args in let k = c .before .before .before .before .before .before .before .normalize-bounded in let e = c .before .told .given in
-    told (take (a .n) (now (a .out))) (now (a .term)) (now (a .scratch)) (c .before .before .before .before .before .before .before .before .before .before .before .before .before .before .pre .1) (c .before .before .before .before .before .before .before .before .before .before .before .before .before .before .pre .2) (k .ensures .0) (e .0 .0) (e .1) (k .last .1 .1 .0) (k .ensures .1 .0) .1 .inside
+slice-reshare-prefix-print-term c =
+    let s = c .before .before .before .before .before .before .before .before .before .before .before .before .before .before in
+    let a = s .args in
+    let k = c .before .before .before .before .before .before .before .normalize-bounded in
+    let e = c .before .told .given in
+    told (take (a .n) (now (a .out))) (now (a .term)) (now (a .scratch)) (s .pre .1) (s .pre .2) (k .ensures .0) (e .0 .0) (e .1) (k .last .1 .1 .0) (k .ensures .1 .0) .1 .inside
 
 slice-aggregate-print-term : tie.Need-slice-aggregate-print-term
-slice-aggregate-print-term c = let a = c .before .before .before .before .before .before .before .before .before .before .before .before .before .before .before .args in let k = c .before .before .before .before .before .before .before .before .normalize-bounded in let e = c .before .before .told .given in
-    sym (length-take-le _ _ (told (take (a .n) (now (a .out))) (now (a .term)) (now (a .scratch)) (c .before .before .before .before .before .before .before .before .before .before .before .before .before .before .before .pre .1) (c .before .before .before .before .before .before .before .before .before .before .before .before .before .before .before .pre .2) (k .ensures .0) (e .0 .0) (e .1) (k .last .1 .1 .0) (k .ensures .1 .0) .1 .inside))
+slice-aggregate-print-term c =
+    let s = c .before .before .before .before .before .before .before .before .before .before .before .before .before .before .before in
+    let a = s .args in
+    let k = c .before .before .before .before .before .before .before .before .normalize-bounded in
+    let e = c .before .before .told .given in
+    sym (length-take-le _ _ (told (take (a .n) (now (a .out))) (now (a .term)) (now (a .scratch)) (s .pre .1) (s .pre .2) (k .ensures .0) (e .0 .0) (e .1) (k .last .1 .1 .0) (k .ensures .1 .0) .1 .inside))
 
 print-term-requires : tie.Need-print-term-requires
-print-term-requires c κs = let a = c .before .before .before .before .before .before .before .before .before .before .before .before .before .before .before .before .args in let k = c .before .before .before .before .before .before .before .before .before .normalize-bounded in let e = c .before .before .before .told .given in
-    let w = told (take (a .n) (now (a .out))) (now (a .term)) (now (a .scratch)) (c .before .before .before .before .before .before .before .before .before .before .before .before .before .before .before .before .pre .1) (c .before .before .before .before .before .before .before .before .before .before .before .before .before .before .before .before .pre .2) (k .ensures .0) (e .0 .0) (e .1) (k .last .1 .1 .0) (k .ensures .1 .0) in
-    ((w .0, w .1 .reads), c .before .before .before .before .before .before .before .before .before .before .before .before .before .before .before .before .pre .3)
+print-term-requires c κs =
+    let s = c .before .before .before .before .before .before .before .before .before .before .before .before .before .before .before .before in
+    let a = s .args in
+    let k = c .before .before .before .before .before .before .before .before .before .normalize-bounded in
+    let e = c .before .before .before .told .given in
+    let w = told (take (a .n) (now (a .out))) (now (a .term)) (now (a .scratch)) (s .pre .1) (s .pre .2) (k .ensures .0) (e .0 .0) (e .1) (k .last .1 .1 .0) (k .ensures .1 .0) in
+    ((w .0, w .1 .reads), s .pre .3)
 
 same-length : tie.Need-same-length
 same-length c = search needs
@@ -51,8 +63,12 @@ same-length-3 : tie.Need-same-length-3
 same-length-3 c = search needs
 
 returns : tie.Need-returns
-returns c = let a = c .before .before .before .before .before .before .before .before .before .before .before .before .before .before .before .before .before .before .args in let k = c .before .before .before .before .before .before .before .before .before .before .before .normalize-bounded in let e = c .before .before .before .before .before .refusal .given in
-    (starts-as (refused-told (take (a .n) (now (a .out))) (now (a .term)) (now (a .scratch)) (c .before .before .before .before .before .before .before .before .before .before .before .before .before .before .before .before .before .before .pre .1) (c .before .before .before .before .before .before .before .before .before .before .before .before .before .before .before .before .before .before .pre .2) (k .ensures .0) _ _ (e .1)) (starts-line (c .before .before .put-refusal .ensures) (omega (arith, c .before .before .before .before .before .before .before .before .before .before .before .before .before .before .before .before .before .before .pre .3))), k .ensures .1)
+returns c =
+    let s = c .before .before .before .before .before .before .before .before .before .before .before .before .before .before .before .before .before .before in
+    let a = s .args in
+    let k = c .before .before .before .before .before .before .before .before .before .before .before .normalize-bounded in
+    let e = c .before .before .before .before .before .refusal .given in
+    (starts-as (refused-told (take (a .n) (now (a .out))) (now (a .term)) (now (a .scratch)) (s .pre .1) (s .pre .2) (k .ensures .0) _ _ (e .1)) (starts-line (c .before .before .put-refusal .ensures) (omega (arith, s .pre .3))), k .ensures .1)
 
 same-length-4 : tie.Need-same-length-4
 same-length-4 c = search needs
@@ -64,8 +80,12 @@ same-length-6 : tie.Need-same-length-6
 same-length-6 c = search needs
 
 returns-2 : tie.Need-returns-2
-returns-2 c = let a = c .before .before .before .before .before .before .before .before .before .before .before .before .before .before .before .before .before .before .before .args in let k = c .before .before .before .before .before .before .before .before .before .before .before .before .normalize-bounded in let e = c .before .before .before .before .before .before .told .given in
-    let w = told (take (a .n) (now (a .out))) (now (a .term)) (now (a .scratch)) (c .before .before .before .before .before .before .before .before .before .before .before .before .before .before .before .before .before .before .before .pre .1) (c .before .before .before .before .before .before .before .before .before .before .before .before .before .before .before .before .before .before .before .pre .2) (k .ensures .0) (e .0 .0) (e .1) (k .last .1 .1 .0) (k .ensures .1 .0) in
+returns-2 c =
+    let s = c .before .before .before .before .before .before .before .before .before .before .before .before .before .before .before .before .before .before .before in
+    let a = s .args in
+    let k = c .before .before .before .before .before .before .before .before .before .before .before .before .normalize-bounded in
+    let e = c .before .before .before .before .before .before .told .given in
+    let w = told (take (a .n) (now (a .out))) (now (a .term)) (now (a .scratch)) (s .pre .1) (s .pre .2) (k .ensures .0) (e .0 .0) (e .1) (k .last .1 .1 .0) (k .ensures .1 .0) in
     (starts-as (w .1 .prints) (c .before .before .print-term .ensures (w .0) (w .1 .reads)), k .ensures .1)
 
 pub print-reduced-spec : {M : Type 1} → statement M

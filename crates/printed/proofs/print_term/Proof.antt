@@ -18,25 +18,37 @@ enum-known-end : tie.Need-enum-known-end
 enum-known-end c = search needs
 
 slice-write-out : tie.Need-slice-write-out
-slice-write-out c = let w = c .before .before .before .before .before .before .before .before .before .pre in omega (arith, text-short (w .0 .1) (now (c .before .before .before .before .before .before .before .before .before .args .out)) (w .1) (c .before .before .before .before .before .pretty .ensures .0) (c .before .end .given .1), c .before .before .before .before .before .pretty .kept .1 .0)
+slice-write-out c =
+    let s = c .before .before .before .before .before .before .before .before .before in
+    omega (arith, text-short (s .pre .0 .1) (now (s .args .out)) (s .pre .1) (c .before .before .before .before .before .pretty .ensures .0) (c .before .end .given .1), c .before .before .before .before .before .pretty .kept .1 .0)
 
 add-put-counts : tie.Need-add-put-counts
-add-put-counts c = let w = c .before .before .before .before .before .before .before .before .before .before .pre in omega (arith, text-short (w .0 .1) (now (c .before .before .before .before .before .before .before .before .before .before .args .out)) (w .1) (c .before .before .before .before .before .before .pretty .ensures .0) (c .before .before .end .given .1), c .before .before .before .before .before .before .pretty .kept .1 .0, c .before .before .before .before .before .before .before .before .before .before .fits)
+add-put-counts c =
+    let s = c .before .before .before .before .before .before .before .before .before .before in
+    omega (arith, text-short (s .pre .0 .1) (now (s .args .out)) (s .pre .1) (c .before .before .before .before .before .before .pretty .ensures .0) (c .before .before .end .given .1), c .before .before .before .before .before .before .pretty .kept .1 .0, s .fits)
 
 put-counts-requires : tie.Need-put-counts-requires
-put-counts-requires c κs = let w = c .before .before .before .before .before .before .before .before .before .before .pre in simp length-set (omega (arith, text-short (w .0 .1) (now (c .before .before .before .before .before .before .before .before .before .before .args .out)) (w .1) (c .before .before .before .before .before .before .pretty .ensures .0) (c .before .before .end .given .1), c .before .before .before .before .before .before .pretty .kept .1 .0))
+put-counts-requires c κs =
+    let s = c .before .before .before .before .before .before .before .before .before .before in
+    simp length-set (omega (arith, text-short (s .pre .0 .1) (now (s .args .out)) (s .pre .1) (c .before .before .before .before .before .before .pretty .ensures .0) (c .before .before .end .given .1), c .before .before .before .before .before .before .pretty .kept .1 .0))
 
 same-length : tie.Need-same-length
 same-length c = search needs
 
 returns : tie.Need-returns
-returns c t w = absurd (never-refused w (now (c .before .before .before .before .before .before .before .before .args .out)) (c .before .before .before .before .before .before .before .before .pre .1) (c .before .before .before .before .pretty .ensures .0) (c .enum-told .given .1))
+returns c t w =
+    let s = c .before .before .before .before .before .before .before .before in
+    absurd (never-refused w (now (s .args .out)) (s .pre .1) (c .before .before .before .before .pretty .ensures .0) (c .enum-told .given .1))
 
 same-length-2 : tie.Need-same-length-2
-same-length-2 c = c .before .before .put-counts .kept .1 .1 .1 .0 ∙ simp length-set (c .before .before .before .before .before .before .before .before .before .pretty .kept .1 .0)
+same-length-2 c =
+    let s = c .before .before .before .before .before .before .before .before .before in
+    c .before .before .put-counts .kept .1 .1 .1 .0 ∙ simp length-set (s .pretty .kept .1 .0)
 
 returns-2 : tie.Need-returns-2
-returns-2 c t w = both-lines w (now (c .before .before .before .before .before .before .before .before .before .before .before .before .before .args .out)) (c .before .before .before .before .before .before .before .before .before .before .before .before .before .pre .1) (c .before .before .before .before .before .before .before .before .before .pretty .ensures .0) (c .before .before .before .before .before .end .given .1) (c .before .before .before .before .before .before .before .before .before .pretty .ensures .1) (c .before .before .before .before .before .before .before .before .before .pretty .kept .1 .0) (c .before .before .put-counts .ensures)
+returns-2 c t w =
+    let s = c .before .before .before .before .before .before .before .before .before .before .before .before .before in
+    both-lines w (now (s .args .out)) (s .pre .1) (c .before .before .before .before .before .before .before .before .before .pretty .ensures .0) (c .before .before .before .before .before .end .given .1) (c .before .before .before .before .before .before .before .before .before .pretty .ensures .1) (c .before .before .before .before .before .before .before .before .before .pretty .kept .1 .0) (c .before .before .put-counts .ensures)
 
 pub print-term-spec : {M : Type 1} → statement M
 print-term-spec =
