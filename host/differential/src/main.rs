@@ -6,6 +6,7 @@ mod extraction;
 mod files;
 mod formulas;
 mod itself;
+mod program;
 mod readers;
 mod reduction;
 mod run;
@@ -17,7 +18,7 @@ use std::time::Instant;
 
 type Family = (&'static str, fn() -> run::Verdict);
 
-const FAMILIES: [Family; 8] = [
+const FAMILIES: [Family; 9] = [
     ("model", itself::all),
     ("readers", readers::all),
     ("formulas", formulas::all),
@@ -26,6 +27,7 @@ const FAMILIES: [Family; 8] = [
     ("reduction", reduction::reductions),
     ("extraction", extraction::all),
     ("stored", files::all),
+    ("program", program::all),
 ];
 
 fn main() -> ExitCode {

@@ -13,7 +13,7 @@ use patch_model::Limits;
 const L: Limits = Limits::BASE;
 
 /// A term to step: random, near a limit, largest half-way, or straight.
-fn reducible(rng: &mut Rng, most: usize) -> Vec<u8> {
+pub fn reducible(rng: &mut Rng, most: usize) -> Vec<u8> {
     let made = match rng.below(16) {
         0 | 1 => terms::near_limit(rng, L.nodes, L.bytes),
         2 => terms::half_way(rng),
@@ -48,7 +48,7 @@ pub fn steps() -> Verdict {
 }
 
 /// `copy !v as (x, y) in (x y)` for v of n Promotes and a Unit.
-fn doubled(promotes: usize) -> Vec<u8> {
+pub fn doubled(promotes: usize) -> Vec<u8> {
     let value = (0..=promotes).fold(Term::Unit, |e, _| Term::Promote(Box::new(e)));
     let body = Term::App(Box::new(Term::Var("x".into())), Box::new(Term::Var("y".into())));
     term_bytes(&Term::Copy(Box::new(value), "x".into(), "y".into(), Box::new(body)))
