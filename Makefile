@@ -4,35 +4,50 @@ SHELL := /bin/bash
 
 CARGO := --release --offline --locked --quiet --manifest-path host/Cargo.toml
 VERDICT := host/target/verdict
+LIBRARY := host/target/library/libentry.a
+PROGRAM := host/target/program
+TRIED := host/target/tried
 WARN := -Iinclude -Wall -Wextra -Wpedantic -Werror
 
-.PHONY: test hosted library run bench soak stack cases vectors
+.PHONY: test hosted library program run try bench soak stack cases vectors
 
 # rt ci proves every crate from nothing; the static library is then built from what it has just proved. Its last line, the verdict, is kept
 # back until the runs over that library have passed too, so that it is the last line of all and nothing is proved twice.
 test:
 	@mkdir -p $(dir $(VERDICT))
+	@rm -f $(LIBRARY)
 	@rt ci 2>&1 | tee $(VERDICT) | sed -u '$$d' || { tail -n 1 $(VERDICT); exit 1; }
 	@$(MAKE) --no-print-directory hosted
 	@tail -n 1 $(VERDICT)
 
-# What is run and not proved: header and library fit, the model answers as document 01 says, the port answers as the model does.
-hosted: library
-	@gcc -std=c99 $(WARN) host/c/smoke.c host/target/library/libentry.a -o host/target/smoke && host/target/smoke
+# What is run and not proved: header and library fit, the model answers as document 01 says, the port and its program answer as the model does.
+hosted: library program
+	@gcc -std=c99 $(WARN) host/c/smoke.c $(LIBRARY) -o host/target/smoke && host/target/smoke
 	@gcc -x c++ $(WARN) -c host/c/smoke.c -o host/target/smoke.o
-	@gcc -std=c99 $(WARN) host/c/example.c host/target/library/libentry.a -o host/target/example && host/target/example
+	@gcc -std=c99 $(WARN) host/c/example.c $(LIBRARY) -o host/target/example && host/target/example
 	@cargo run $(CARGO) -p patch --example reduce
-	@cargo test $(CARGO) -p patch-model -p lolli-extract -p cases -p write
+	@cargo test $(CARGO) -p patch-model -p lolli-extract -p cases -p patch -p write
 	@cargo run $(CARGO) -p differential
 	@cargo run $(CARGO) -p differential -- soak 1 1000000 60
 	@cargo run $(CARGO) -p differential -- stack
 
-library:
+library: $(LIBRARY)
+
+$(LIBRARY): host/library.sh crates.txt $(shell find crates -type f)
 	@host/library.sh
 
-# The text of a formula, by way of the proved library.
-run: library
-	@cargo run $(CARGO) -p patch --example formula
+program:
+	@mkdir -p $(dir $(PROGRAM))
+	@rt check patchrun >$(PROGRAM) 2>&1 || { cat $(PROGRAM); exit 1; }
+
+# A stored `((\x. x) ())`, reduced: its text, then the counts.
+run: program
+	@host/patchrun.sh <crates/patchrun/stdin
+
+# A term written by hand, reduced. The terminal's own TERM is not taken for one.
+try: library program
+	@$(if $(filter command,$(origin TERM)),,$(error which term? make try TERM='fst ((\x. x) (a, b))'))cargo run $(CARGO) -p write -- "$$TERM" >$(TRIED)
+	@host/patchrun.sh <$(TRIED)
 
 bench: library
 	@cargo run $(CARGO) -p bench -- $(MODE)

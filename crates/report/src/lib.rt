@@ -8,7 +8,7 @@ ghost use lib.ListN.{length};
 ghost use Rattle.rules.specs.Basic.{say, decimal, _‥_};
 ghost use Rattle.rules.specs.Program.{yesNo, countsLine, refusalLine};
 ghost use Rattle.runs.specs.Wrote.{Wrote};
-ghost use Rattle.report.specs.Field.{Field, Three};
+ghost use Rattle.report.specs.Field.{Field, Three, Line};
 
 // The digits of a number, and the place after them.
 pub fn put_decimal(n: u64, out: &mut [u8], at: usize) -> usize
@@ -36,7 +36,7 @@ fn put_field(word: &[u8], n: u64, out: &mut [u8], at: usize) -> usize
 // The line of a refusal.
 pub fn put_refusal(r: Refusal, out: &mut [u8], at: usize) -> usize
     requires { ⌜ at + 64 ≤ length (now out) ⌝ }
-    ensures { λ p. ⌜ Wrote (now (out .entry)) at (refusalLine r) (now (out .exit)) p ⌝ }
+    ensures { λ p. ⌜ Line (now (out .entry)) at (refusalLine r) 64 (now (out .exit)) p ⌝ }
 {
     let number = put_field(b"refused ", r.number as u64, out, at);
     let place = put_field(b" at ", r.place as u64, out, number);
@@ -77,7 +77,7 @@ fn put_normal(normal: bool, out: &mut [u8], at: usize) -> usize
 // The line of the counts: total, then each rule's count, then yes or no.
 pub fn put_counts(steps: u32, counts: Counts, normal: bool, out: &mut [u8], at: usize) -> usize
     requires { ⌜ at + 256 ≤ length (now out) ⌝ }
-    ensures { λ r. ⌜ Wrote (now (out .entry)) at (countsLine steps counts normal) (now (out .exit)) r ⌝ }
+    ensures { λ r. ⌜ Line (now (out .entry)) at (countsLine steps counts normal) 256 (now (out .exit)) r ⌝ }
 {
     let first = put_three(
         b"steps ",

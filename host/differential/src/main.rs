@@ -7,6 +7,7 @@ mod files;
 mod formulas;
 mod guarded;
 mod itself;
+mod program;
 mod readers;
 mod reduction;
 mod refusals;
@@ -22,7 +23,7 @@ use std::time::Instant;
 
 type Family = (&'static str, fn() -> run::Verdict);
 
-const FAMILIES: [Family; 10] = [
+const FAMILIES: [Family; 11] = [
     ("model", itself::all),
     ("refusals", refusals::all),
     ("readers", readers::all),
@@ -33,6 +34,7 @@ const FAMILIES: [Family; 10] = [
     ("straight", straight::all),
     ("extraction", extraction::all),
     ("stored", files::all),
+    ("program", program::all),
 ];
 
 fn main() -> ExitCode {

@@ -61,7 +61,7 @@ pub fn steps() -> Verdict {
 }
 
 /// `copy !v as (x, y) in (x y)` for v of n Promotes and a Unit.
-fn doubled(promotes: usize) -> Vec<u8> {
+pub fn doubled(promotes: usize) -> Vec<u8> {
     let value = (0..=promotes).fold(Term::Unit, |e, _| Term::Promote(Box::new(e)));
     let body = Term::App(Box::new(Term::Var("x".into())), Box::new(Term::Var("y".into())));
     term_bytes(&Term::Copy(Box::new(value), "x".into(), "y".into(), Box::new(body)))

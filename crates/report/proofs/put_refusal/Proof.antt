@@ -46,7 +46,10 @@ unfolding refusalLine
 returns c =
     let f = c .before .before .before .before .before .before .before .put-field in
     let g = c .before .before .put-field2 in
-    chain (f .ensures .wrote) (chain (g .ensures .wrote) (wrote-one (g .last .1 .1 .0) (g .result) 10))
+    record {
+      wrote = chain (f .ensures .wrote) (chain (g .ensures .wrote) (wrote-one (g .last .1 .1 .0) (g .result) 10));
+      most = omega (arith, f .ensures .most, g .ensures .most);
+    }
 
 pub put-refusal-spec : {M : Type 1} → statement M
 put-refusal-spec =

@@ -1,0 +1,4 @@
+pub mod Starting
+pub mod Texts
+pub mod Stopping
+pub mod Files
