@@ -1,3 +1,5 @@
 pub mod Names
 pub mod Legals
 pub mod Sizes
+pub mod Place
+pub mod Shape

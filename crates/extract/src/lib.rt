@@ -1,1 +1,2 @@
 // Extraction of terms from proofs.
+mod look;
