@@ -2,3 +2,6 @@
 pub mod Items
 pub mod Formulas
 pub mod Rules
+pub mod Stems
+pub mod Opposites
+pub mod Axioms

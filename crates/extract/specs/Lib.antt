@@ -3,3 +3,4 @@ pub mod Legals
 pub mod Sizes
 pub mod Place
 pub mod Shape
+pub mod Entry

@@ -1,2 +1,3 @@
 // Extraction of terms from proofs.
+mod entries;
 mod look;
