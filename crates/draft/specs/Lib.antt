@@ -1,1 +1,4 @@
 pub mod Draft
+pub mod Made
+pub mod Steady
+pub mod Adding

@@ -1,0 +1,29 @@
+-- `draft::names::put_number` meets its contract: no digits, or those of one less. Assumes nothing.
+use mathlib.Core.Path.{sym, ap}
+use native.Mathlib.Omega.{arith}
+use lib.ListN.{length}
+use Rattle.runs.specs.Writing.{wrote-none}
+use Rattle.report.specs.Digits.{wrote-as}
+use Rattle.draft.proofs.Numbering.{numbered-none, numbered-some}
+use borrow.Author.Needs.{needs}
+use Rattle.draft.proofs.names.put_number.Statement.{statement}
+use Rattle.draft.proofs.names.put_number.Tie as tie
+
+returns : tie.Need-returns
+returns c = wrote-as (sym (numbered-none _ (c .if1 .taken))) (wrote-none _ _)
+
+sub-put-decimal : tie.Need-sub-put-decimal
+sub-put-decimal c = search needs
+
+put-decimal-requires : tie.Need-put-decimal-requires
+put-decimal-requires c κs = omega (arith, ap length (numbered-some _ (c .before .if1 .left)))
+
+same-length : tie.Need-same-length
+same-length c = search needs
+
+returns-2 : tie.Need-returns-2
+returns-2 c = wrote-as (sym (numbered-some _ (c .before .before .before .before .if1 .left))) (c .before .before .put-decimal .ensures)
+
+pub put-number-spec : {M : Type 1} → statement M
+put-number-spec =
+    tie.close (tie.spec returns sub-put-decimal put-decimal-requires same-length returns-2)

@@ -1,0 +1,57 @@
+-- `draft::names::put_x` meets its contract: the length, `x` and the digits, one after the other. Assumes nothing.
+use Prim.Native.Nat.{ℕ, _+_}
+use mathlib.Core.Path.{ap, _∙_}
+use mathlib.Core.List.{_∷_}
+use native.Mathlib.Omega.{arith}
+use lib.ListN.{set, length-set}
+use denote.Ref.{now}
+use Rattle.runs.specs.Writing.{chain}
+use Rattle.report.specs.Digits.{wrote-one, wrote-as}
+use Rattle.draft.specs.Draft.{xName}
+use Rattle.draft.proofs.Numbering.{x-length, then-byte}
+use borrow.Author.Needs.{needs}
+use Rattle.draft.proofs.names.put_x.Statement.{statement}
+use Rattle.draft.proofs.names.put_x.Tie as tie
+
+x-len-requires : tie.Need-x-len-requires
+x-len-requires c κs = search needs
+
+cast-out : tie.Need-cast-out
+cast-out c = search needs
+
+slice-write-out : tie.Need-slice-write-out
+slice-write-out c = search needs
+
+add-stem : tie.Need-add-stem
+add-stem c = search needs
+
+slice-write-out-2 : tie.Need-slice-write-out-2
+slice-write-out-2 c = let a = c .before .before .args in simp length-set (omega (arith, c .before .before .pre, x-length (a .number)))
+
+add-put-decimal : tie.Need-add-put-decimal
+add-put-decimal c = search needs
+
+put-decimal-requires : tie.Need-put-decimal-requires
+put-decimal-requires c κs = let a = c .before .before .before .args in simp length-set (omega (arith, c .before .before .before .pre, x-length (a .number)))
+
+same-length : tie.Need-same-length
+same-length c = c .before .before .put-decimal .kept .1 .0 ∙ simp length-set
+
+returns : tie.Need-returns
+returns c = let a = c .before .before .before .before .before .before .args in
+    wrote-as (ap (λ (k : ℕ). k ∷ xName (a .number)) (c .before .before .before .before .x-len .ensures .0))
+    (chain (wrote-one (now (a .out)) (a .at) (c .before .before .before .before .x-len .result)) (then-byte (set (now (a .out)) (a .at) (c .before .before .before .before .x-len .result)) (a .at + 1) 120 (c .before .before .put-decimal .ensures)))
+
+pub put-x-spec : {M : Type 1} → statement M
+put-x-spec =
+    tie.close
+    (tie.spec
+    x-len-requires
+    cast-out
+    slice-write-out
+    add-stem
+    slice-write-out-2
+    add-put-decimal
+    put-decimal-requires
+    same-length
+    returns)
