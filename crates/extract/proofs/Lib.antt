@@ -5,3 +5,4 @@ pub mod Rules
 pub mod Stems
 pub mod Opposites
 pub mod Axioms
+pub mod Acting

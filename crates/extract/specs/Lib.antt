@@ -4,3 +4,4 @@ pub mod Sizes
 pub mod Place
 pub mod Shape
 pub mod Entry
+pub mod Acts

@@ -1,3 +1,4 @@
 // Extraction of terms from proofs.
+mod act;
 mod entries;
 mod look;
