@@ -6,3 +6,4 @@ pub mod Stems
 pub mod Opposites
 pub mod Axioms
 pub mod Acting
+pub mod Putting

@@ -1,6 +1,6 @@
 -- The cut entries as the code has them: for each the place of its formula and the counter of its name, in two rows.
 -- Assumes nothing: these are definitions.
-use Prim.Native.Nat.{ℕ, _+_, _^_, _≤_, _<_}
+use Prim.Native.Nat.{ℕ, _+_, _≤_, _<_}
 use mathlib.Core.Path.{_≡_}
 use mathlib.Core.List.{List, [], _∷_}
 use mathlib.Core.Option.{Option, none, some}
@@ -10,15 +10,16 @@ use Rattle.rules.specs.Name.{Name}
 use Rattle.rules.specs.Formula.{Formula, constant, One}
 use Rattle.rules.specs.Extraction.{Entries, fresh, stemFor}
 use Rattle.draft.specs.Draft.{nameOf}
+use Rattle.draft.specs.Made.{mostNumber}
 use Rattle.extract.specs.Place.{FormulaAt}
 use Rattle.extract.specs.declared.entries.Named.{Named}
 use Rattle.extract.specs.declared.entries.Named.the-variants.{Nothing, Of}
 
--- the entry f is at a place, and its name has a counter; there is a number after the counter
+-- the entry f is at a place, and its name has a counter, which is small
 pub record EntryAt (s : Bytes) (place counter : ℕ) (f : Formula) (v : Name) : Type 0 where
   pub formula : FormulaAt s place f
   pub name : v ≡ fresh (stemFor f) counter .0
-  pub low : counter < 2 ^ 63
+  pub low : counter + 1 < mostNumber
 
 abbrev pub entryAt : Entries → ℕ → Formula × Name
 entryAt es i = getD es i (constant One, [])
@@ -34,3 +35,8 @@ pub record EntriesAt (s : Bytes) (places counters : List ℕ) (k : ℕ) (es : En
 abbrev pub nameSaid : Bytes → Named → Option Name
 nameSaid s Nothing = none
 nameSaid s (Of p n) = some (nameOf s p n)
+
+-- its number is small
+abbrev pub Low : Named → Type 0
+Low Nothing = Unit {0}
+Low (Of p n) = n < mostNumber

@@ -5,3 +5,4 @@ pub mod Place
 pub mod Shape
 pub mod Entry
 pub mod Acts
+pub mod Walk

@@ -5,7 +5,7 @@ ghost use Rattle.rules.specs.Name.{Name};
 ghost use Rattle.rules.specs.Formula.{Formula, Sign, atom as atomOf};
 ghost use Rattle.rules.specs.Extraction.{Entries, cutsAtom, oldest as oldestOf, axiomName};
 ghost use Rattle.extract.specs.Place.{FormulaAt, FormulasAt};
-ghost use Rattle.extract.specs.Entry.{EntriesAt, nameSaid};
+ghost use Rattle.extract.specs.Entry.{EntriesAt, nameSaid, Low};
 use crate::look::skip_formulas;
 
 // A name, by the place of its stem and its number; or none.
@@ -36,6 +36,7 @@ fn oldest(s: &[u8], atom: usize, places: &[usize], counters: &[usize], k: usize)
     requires { ⌜ ((g : Sign) × (a : Name) × (es : Entries) × FormulaAt (now s) atom (atomOf g a) × EntriesAt (now s) (now places) (now counters) k es) ⌝ }
     ensures { λ r. ⌜ ((g : Sign) → (a : Name) → (es : Entries) → FormulaAt (now (s .entry)) atom (atomOf g a)
         → EntriesAt (now (s .entry)) (now (places .entry)) (now (counters .entry)) k es → nameSaid (now (s .entry)) r ≡ oldestOf g a es) ⌝ }
+    ensures { λ r. ⌜ Low r ⌝ }
 {
     let mut i = 0;
     while i < k {
@@ -56,6 +57,7 @@ fn formula_name(s: &[u8], at: usize, places: &[usize], counters: &[usize], k: us
     requires { ⌜ ((f : Formula) × (es : Entries) × FormulaAt (now s) at f × EntriesAt (now s) (now places) (now counters) k es) ⌝ }
     ensures { λ r. ⌜ ((f : Formula) → (es : Entries) → FormulaAt (now (s .entry)) at f
         → EntriesAt (now (s .entry)) (now (places .entry)) (now (counters .entry)) k es → nameSaid (now (s .entry)) r ≡ axiomName es (f ∷ [])) ⌝ }
+    ensures { λ r. ⌜ Low r ⌝ }
 {
     let tag = s[at] as usize;
     if 2 < tag {
@@ -87,6 +89,7 @@ pub fn axiom_name(
     requires { ⌜ ((l : List Formula) × (es : Entries) × FormulasAt (now s) at n l × EntriesAt (now s) (now places) (now counters) k es) ⌝ }
     ensures { λ r. ⌜ ((l : List Formula) → (es : Entries) → FormulasAt (now (s .entry)) at n l
         → EntriesAt (now (s .entry)) (now (places .entry)) (now (counters .entry)) k es → nameSaid (now (s .entry)) r ≡ axiomName es l) ⌝ }
+    ensures { λ r. ⌜ Low r ⌝ }
 {
     let mut i = at;
     let mut left = n;

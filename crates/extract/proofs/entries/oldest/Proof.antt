@@ -36,7 +36,7 @@ add-t17 : tie.Need-add-t17 Inv-loop μ-loop
 add-t17 c = let (g, a, es, v, w) = c .before .before .before .before .before .before .before .before .before .pre in omega (arith, w .each _ (c .before .before .before .before .loop-test .taken) .low)
 
 returns : tie.Need-returns Inv-loop μ-loop
-returns c = finds-here _ _ _ _ _ _ (c .before .before .before .before .loop-test .taken) (c .before .before .before .before .before .loop .inv .1) _ (c .before .before .opposed .ensures) (c .before .if1 .taken)
+returns c = (finds-here _ _ _ _ _ _ (c .before .before .before .before .loop-test .taken) (c .before .before .before .before .before .loop .inv .1) _ (c .before .before .opposed .ensures) (c .before .if1 .taken), let (g, a, es, v, w) = c .before .before .before .before .before .before .before .before .before .pre in w .each _ (c .before .before .before .before .loop-test .taken) .low)
 
 add-i : tie.Need-add-i Inv-loop μ-loop
 add-i c = omega arith
@@ -48,7 +48,7 @@ loop-again : tie.Need-loop-again Inv-loop μ-loop
 loop-again c = (omega arith, left-next _ _ _ _ _ _ (c .before .before .before .loop-test .taken) (c .before .before .before .before .loop .inv .1) _ (c .before .opposed .ensures) (c .if1 .left))
 
 returns-2 : tie.Need-returns-2 Inv-loop μ-loop
-returns-2 c = finds-none _ _ _ _ _ (c .before .loop .i) (omega arith) (c .before .loop .inv .1)
+returns-2 c = (finds-none _ _ _ _ _ (c .before .loop .i) (omega arith) (c .before .loop .inv .1), tt)
 
 pub oldest-spec : {M : Type 1} → statement M
 oldest-spec =
