@@ -7,3 +7,6 @@ pub mod Opposites
 pub mod Axioms
 pub mod Acting
 pub mod Putting
+pub mod Pushing
+pub mod Premised
+pub mod Ruled

@@ -29,7 +29,7 @@ module _ {s : Bytes} {ws ws′ : List ℕ} {used n end : ℕ} where
   put-is : {e e′ : Term × ℕ} {r : Drafted} → e ≡ e′ → Put s ws ws′ used n end e r → Put s ws ws′ used n end e′ r
   put-is q w = rw q at w
 
-  put-new : {kind first second number stem : ℕ} {a b : Term} → Open ws used n → Added ws used kind first second number stem ws′
+  put-new : {kind first second number stem : ℕ} {a b : Term} → Open ws used → Added ws used kind first second number stem ws′
       → Drafts s ws used first a → Drafts s ws used second b → number < mostNumber → (m : ℕ) → m ≤ n + 2
       → Put s ws ws′ used n end (made s kind a b number stem, m) (record { next = end; used = used + 1; counter = m; part = used + 2 })
   put-new {kind} {first} {second} {number} {stem} {a} {b} o w x y h m l =
@@ -44,28 +44,28 @@ module _ {s : Bytes} {ws ws′ : List ℕ} {used n end : ℕ} where
       }
 
   -- a row over Unit
-  pub put-bare : {kind : ℕ} → Open ws used n → Added ws used kind 0 0 0 0 ws′
+  pub put-bare : {kind : ℕ} → Open ws used → Added ws used kind 0 0 0 0 ws′
       → Put s ws ws′ used n end (made s kind (leaf unit) (leaf unit) 0 0, n) (record { next = end; used = used + 1; counter = n; part = used + 2 })
   put-bare {kind} o w = put-new o w (drafts-unit (o .rows)) (drafts-unit (o .rows)) (omega arith) n (omega arith)
 
-  pub put-named : {stem number : ℕ} (q : Named) → q ≡ Of stem number → Low q → Open ws used n → Added ws used 0 0 0 number stem ws′
+  pub put-named : {stem number : ℕ} (q : Named) → q ≡ Of stem number → Low q → Open ws used → Added ws used 0 0 0 number stem ws′
       → Put s ws ws′ used n end (identity terms (nameSaid s q) n) (record { next = end; used = used + 1; counter = n; part = used + 2 })
   put-named {stem} {number} q e l o w =
       let h : number < mostNumber = subst (λ (z : Named). Low z) e l in
       put-is (ap (λ (z : Named). identity terms (nameSaid s z) n) (sym e)) (put-new o w (drafts-unit (o .rows)) (drafts-unit (o .rows)) h n (omega arith))
 
-  pub put-new-name : (q : Named) → q ≡ Nothing → Open ws used n → Added ws used 1 0 0 n 0 ws′
+  pub put-new-name : (q : Named) → q ≡ Nothing → Open ws used → n + 2 < mostNumber → Added ws used 1 0 0 n 0 ws′
       → Put s ws ws′ used n end (identity terms (nameSaid s q) n) (record { next = end; used = used + 1; counter = n + 1; part = used + 2 })
-  put-new-name q e o w =
+  put-new-name q e o h w =
       let i : n + 1 ≡ suc n = omega arith in
       put-is (ap (λ (m : ℕ). (made s 1 (leaf unit) (leaf unit) n 0, m)) i ∙ ap (λ (z : Named). identity terms (nameSaid s z) n) (sym e))
-      (put-new o w (drafts-unit (o .rows)) (drafts-unit (o .rows)) (omega (arith, o .few)) (n + 1) (omega arith))
+      (put-new o w (drafts-unit (o .rows)) (drafts-unit (o .rows)) (omega arith) (n + 1) (omega arith))
 
   -- the name that was found is the one that the rule takes
   pub put-found : {o o′ : Option Name} {r : Drafted} → o ≡ o′ → Put s ws ws′ used n end (identity terms o n) r → Put s ws ws′ used n end (identity terms o′ n) r
   put-found q w = rw q at w
 
-module _ {s : Bytes} {ws : List ℕ} {used n end part : ℕ} {t : Term} (kind number : ℕ) (o : Open ws used n) (d : Drafts s ws used part t) where
+module _ {s : Bytes} {ws : List ℕ} {used n end part : ℕ} {t : Term} (kind number : ℕ) (o : Open ws used) (d : Drafts s ws used part t) where
   pub put-pass : kind ≡ 12 → Put s ws ws used n end (over s kind number t, n) (record { next = end; used = used; counter = n; part = part })
   put-pass e =
       put-is (ap (λ (b : Bool). (if b then t else made s kind t t number 0, n)) (sym (eq-eqb kind 12 e)))
@@ -76,7 +76,7 @@ module _ {s : Bytes} {ws : List ℕ} {used n end part : ℕ} {t : Term} (kind nu
   put-over {ws′} e h w =
       put-is (ap (λ (b : Bool). (if b then t else made s kind t t number 0, n)) (sym (ne-eqb kind 12 e))) (put-new o w d d h n (omega arith))
 
-module _ {s : Bytes} {ws ws′ : List ℕ} {used n end first second : ℕ} {a b : Term} (o : Open ws used n) where
+module _ {s : Bytes} {ws ws′ : List ℕ} {used n end first second : ℕ} {a b : Term} (o : Open ws used) where
   pub put-pair : Added ws used 6 first second 0 0 ws′ → Drafts s ws used first a → Drafts s ws used second b
       → Put s ws ws′ used n end (two pair a b, n) (record { next = end; used = used + 1; counter = n; part = used + 2 })
   put-pair w x y = put-new o w x y (omega arith) n (omega arith)
@@ -142,14 +142,14 @@ abbrev pub Joins : Bytes → (ws ws′ : List ℕ) (used n end own first second 
 Joins s ws ws′ used n end own first second r = (f : Formula) (a b : Term) → FormulaAt s own f → Drafts s ws used first a → Drafts s ws used second b
     → Put s ws ws′ used n end (joined terms f a b n) r
 
-module _ (s : Bytes) {ws ws′ : List ℕ} {used n : ℕ} (end own : ℕ) {first second : ℕ} (o : Open ws used n) where
+module _ (s : Bytes) {ws ws′ : List ℕ} {used n : ℕ} (end own : ℕ) {first second : ℕ} (o : Open ws used) (h : n + 2 < mostNumber) where
   pub put-tensor : getD s own 0 ≡ 3 → Added ws used 9 first second n 0 ws′ → Joins s ws ws′ used n end own first second (record { next = end; used = used + 1; counter = n + 2; part = used + 2 })
   put-tensor e w f a b v x y =
-      put-is (joined-tensor s a b n f (sym (formula-tag s own f v) ∙ e)) (put-new o w x y (omega (arith, o .few)) (n + 2) (omega arith))
+      put-is (joined-tensor s a b n f (sym (formula-tag s own f v) ∙ e)) (put-new o w x y (omega arith) (n + 2) (omega arith))
 
   pub put-plus : getD s own 0 ≡ 8 → Added ws used 10 first second n 0 ws′ → Joins s ws ws′ used n end own first second (record { next = end; used = used + 1; counter = n + 2; part = used + 2 })
   put-plus e w f a b v x y =
-      put-is (joined-plus s a b n f (sym (formula-tag s own f v) ∙ e)) (put-new o w x y (omega (arith, o .few)) (n + 2) (omega arith))
+      put-is (joined-plus s a b n f (sym (formula-tag s own f v) ∙ e)) (put-new o w x y (omega arith) (n + 2) (omega arith))
 
   pub put-app : (getD s own 0 ≡ 3 → ⊥) → (getD s own 0 ≡ 8 → ⊥) → Added ws used 7 second first 0 0 ws′
       → Joins s ws ws′ used n end own first second (record { next = end; used = used + 1; counter = n; part = used + 2 })

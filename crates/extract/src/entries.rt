@@ -1,9 +1,13 @@
 // The name that an Axiom takes: that of the oldest cut entry that is the opposite of one of its atoms, or an atom's own.
 ghost use mathlib.Core.Path.{_≡_};
 ghost use mathlib.Core.List.{List, [], _∷_};
+ghost use Prim.Native.Nat.{_+_, _<_};
+ghost use lib.ListN.{length};
+ghost use Rattle.rules.specs.Basic.{Bytes, _‥_};
 ghost use Rattle.rules.specs.Name.{Name};
 ghost use Rattle.rules.specs.Formula.{Formula, Sign, atom as atomOf};
-ghost use Rattle.rules.specs.Extraction.{Entries, cutsAtom, oldest as oldestOf, axiomName};
+ghost use Rattle.rules.specs.Extraction.{Entries, cutsAtom, oldest as oldestOf, axiomName, fresh, stemFor};
+ghost use Rattle.draft.specs.Made.{mostNumber};
 ghost use Rattle.extract.specs.Place.{FormulaAt, FormulasAt};
 ghost use Rattle.extract.specs.Entry.{EntriesAt, nameSaid, Low};
 use crate::look::skip_formulas;
@@ -106,4 +110,20 @@ pub fn axiom_name(
         }
     }
     Named::Nothing
+}
+
+// Puts an entry behind the first k: the place of its formula, and the counter of its name.
+pub fn push_entry(
+    place: usize,
+    counter: usize,
+    places: &mut [usize],
+    counters: &mut [usize],
+    k: usize,
+)
+    requires { ⌜ (k < length (now places)) × (k < length (now counters)) × (counter + 1 < mostNumber) ⌝ }
+    ensures { λ _. ⌜ ((s : Bytes) → (f : Formula) → (es : Entries) → FormulaAt s place f → EntriesAt s (now (places .entry)) (now (counters .entry)) k es
+        → EntriesAt s (now (places .exit)) (now (counters .exit)) (k + 1) (es ‥ (f, fresh (stemFor f) counter .0) ∷ [])) ⌝ }
+{
+    places[k] = place;
+    counters[k] = counter;
 }

@@ -1,5 +1,6 @@
 // Extraction of terms from proofs.
 mod act;
+mod drafting;
 mod entries;
 mod look;
 mod puts;

@@ -26,7 +26,7 @@ pub fn put_bare(
     used: usize,
     counter: usize,
 ) -> Drafted
-    requires { ⌜ Open (now rows) used counter ⌝ }
+    requires { ⌜ Open (now rows) used ⌝ }
     ensures { λ r. ⌜ ((s : Bytes) → Put s (now (rows .entry)) (now (rows .exit)) used counter next (made s kind (leaf unit) (leaf unit) 0 0, counter) r) ⌝ }
 {
     put_row(rows, used, kind, 0, 0, 0, 0);
@@ -40,7 +40,7 @@ pub fn put_bare(
 
 // A name, or Abs of a new name over that name.
 fn put_name(name: Named, next: usize, rows: &mut [usize], used: usize, counter: usize) -> Drafted
-    requires { ⌜ Open (now rows) used counter × Low name ⌝ }
+    requires { ⌜ Open (now rows) used × (counter + 2 < mostNumber) × Low name ⌝ }
     ensures { λ r. ⌜ ((s : Bytes) → Put s (now (rows .entry)) (now (rows .exit)) used counter next (identity terms (nameSaid s name) counter) r) ⌝ }
 {
     match name {
@@ -79,7 +79,7 @@ pub fn put_axiom(
 ) -> Drafted
     requires { ⌜ ((l : List Formula) × (es : Entries) × (linear < length (now s)) × FormulasAt (now s) (linear + 1) (getD (now s) linear 0) l
         × EntriesAt (now s) (now places) (now counters) k es) ⌝ }
-    requires { ⌜ Open (now rows) used counter ⌝ }
+    requires { ⌜ Open (now rows) used × (counter + 2 < mostNumber) ⌝ }
     ensures { λ r. ⌜ ((l : List Formula) → (es : Entries) → FormulasAt (now (s .entry)) (linear + 1) (getD (now (s .entry)) linear 0) l
         → EntriesAt (now (s .entry)) (now (places .entry)) (now (counters .entry)) k es
         → Put (now (s .entry)) (now (rows .entry)) (now (rows .exit)) used counter next (identity terms (axiomName es l) counter) r) ⌝ }
@@ -97,7 +97,7 @@ pub fn put_over(
     inner: Drafted,
     rows: &mut [usize],
 ) -> Drafted
-    requires { ⌜ Open (now rows) (inner .used) (inner .counter) × (number < mostNumber) × (inner .part < inner .used + 2) ⌝ }
+    requires { ⌜ Open (now rows) (inner .used) × (number < mostNumber) × (inner .part < inner .used + 2) ⌝ }
     ensures { λ r. ⌜ ((s : Bytes) → (t : Term) → Drafts s (now (rows .entry)) (inner .used) (inner .part) t
         → Put s (now (rows .entry)) (now (rows .exit)) (inner .used) (inner .counter) next (over s kind number t, inner .counter) r) ⌝ }
 {
@@ -122,7 +122,7 @@ pub fn put_over(
 
 // A pair of an earlier part and the one that was made last.
 pub fn put_pair(first: usize, second: Drafted, rows: &mut [usize]) -> Drafted
-    requires { ⌜ Open (now rows) (second .used) (second .counter) × (first < second .used + 2) × (second .part < second .used + 2) ⌝ }
+    requires { ⌜ Open (now rows) (second .used) × (first < second .used + 2) × (second .part < second .used + 2) ⌝ }
     ensures { λ r. ⌜ ((s : Bytes) → (a : Term) → (b : Term) → Drafts s (now (rows .entry)) (second .used) first a
         → Drafts s (now (rows .entry)) (second .used) (second .part) b
         → Put s (now (rows .entry)) (now (rows .exit)) (second .used) (second .counter) (second .next) (two pair a b, second .counter) r) ⌝ }
@@ -146,7 +146,7 @@ pub fn put_join(
     rows: &mut [usize],
 ) -> Drafted
     requires { ⌜ ((f : Formula) × FormulaAt (now s) own f) ⌝ }
-    requires { ⌜ Open (now rows) (consumer .used) (consumer .counter) × (producer < consumer .used + 2) × (consumer .part < consumer .used + 2) ⌝ }
+    requires { ⌜ Open (now rows) (consumer .used) × (consumer .counter + 2 < mostNumber) × (producer < consumer .used + 2) × (consumer .part < consumer .used + 2) ⌝ }
     ensures { λ r. ⌜ ((f : Formula) → (a : Term) → (b : Term) → FormulaAt (now (s .entry)) own f → Drafts (now (s .entry)) (now (rows .entry)) (consumer .used) producer a
         → Drafts (now (s .entry)) (now (rows .entry)) (consumer .used) (consumer .part) b
         → Put (now (s .entry)) (now (rows .entry)) (now (rows .exit)) (consumer .used) (consumer .counter) (consumer .next) (joined terms f a b (consumer .counter)) r) ⌝ }

@@ -35,13 +35,13 @@ same-length : tie.Need-same-length
 same-length c = search needs
 
 returns : tie.Need-returns
-returns c = λ s. put-named (c .before .before .before .before .before .before .before .before .args .name) (c .before .before .before .before .before .name .given .1) (c .before .before .before .before .before .before .before .before .pre .1) (c .before .before .before .before .before .before .before .before .pre .0) (c .before .before .put-row .ensures)
+returns c = λ s. put-named (c .before .before .before .before .before .before .before .before .args .name) (c .before .before .before .before .before .name .given .1) (c .before .before .before .before .before .before .before .before .pre .2) (c .before .before .before .before .before .before .before .before .pre .0) (c .before .before .put-row .ensures)
 
 same-length-2 : tie.Need-same-length-2
 same-length-2 c = search needs
 
 returns-2 : tie.Need-returns-2
-returns-2 c = λ s. put-new-name (c .before .before .before .before .before .before .before .args .name) (c .before .before .before .before .enum-told .given .1) (c .before .before .before .before .before .before .before .pre .0) (c .before .before .put-row2 .ensures)
+returns-2 c = λ s. put-new-name (c .before .before .before .before .before .before .before .args .name) (c .before .before .before .before .enum-told .given .1) (c .before .before .before .before .before .before .before .pre .0) (c .before .before .before .before .before .before .before .pre .1) (c .before .before .put-row2 .ensures)
 
 pub put-name-spec : {M : Type 1} → statement M
 put-name-spec =
