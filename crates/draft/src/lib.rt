@@ -1,5 +1,8 @@
 // A draft of a term, and the term written from it.
+pub mod heads;
 pub mod names;
+pub mod parts;
+pub mod sizes;
 
 ghost use Prim.Native.Nat.{_+_, _*_, _<_, _≤_};
 ghost use lib.ListN.{length};

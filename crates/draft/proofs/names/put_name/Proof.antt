@@ -26,10 +26,16 @@ add-put-stem : tie.Need-add-put-stem
 add-put-stem c = search needs
 
 put-stem-requires : tie.Need-put-stem-requires
-put-stem-requires c κs = let a = c .before .before .before .before .args in simp length-set (omega (arith, c .before .before .before .before .pre .0, name-length (now (a .s)) (a .stem) (a .number)))
+put-stem-requires c κs =
+    let b = c .before .before .before .before in
+    let a = b .args in
+    simp length-set (omega (arith, b .pre .0, name-length (now (a .s)) (a .stem) (a .number)))
 
 put-number-requires : tie.Need-put-number-requires
-put-number-requires c κs = let a = c .before .before .before .before .before .before .before .before .args in omega (arith, c .before .before .before .before .before .before .before .before .pre .0, name-length (now (a .s)) (a .stem) (a .number), c .before .before .before .put-stem .ensures .ends, c .before .before .before .put-stem .kept .1 .1 .0, length-set (now (a .out)) (a .at) (c .before .before .before .before .before .name-len .result))
+put-number-requires c κs =
+    let b = c .before .before .before .before .before .before .before .before in
+    let a = b .args in
+    omega (arith, b .pre .0, name-length (now (a .s)) (a .stem) (a .number), c .before .before .before .put-stem .ensures .ends, c .before .before .before .put-stem .kept .1 .1 .0, length-set (now (a .out)) (a .at) (c .before .before .before .before .before .name-len .result))
 
 same-length : tie.Need-same-length
 same-length c = c .before .before .put-number .kept .1 .0 ∙ c .before .before .before .before .before .before .put-stem .kept .1 .1 .0 ∙ simp length-set

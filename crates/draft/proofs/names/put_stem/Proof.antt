@@ -14,7 +14,10 @@ use Rattle.draft.proofs.names.put_stem.Statement.{statement}
 use Rattle.draft.proofs.names.put_stem.Tie as tie
 
 slice-write-out : tie.Need-slice-write-out
-slice-write-out c = let a = c .before .before .before .args in omega (arith, ap length (stem-x (now (a .s)) (a .stem) (c .if1 .taken)), c .before .before .before .pre)
+slice-write-out c =
+    let b = c .before .before .before in
+    let a = b .args in
+    omega (arith, ap length (stem-x (now (a .s)) (a .stem) (c .if1 .taken)), b .pre)
 
 add-result : tie.Need-add-result
 add-result c = search needs
@@ -41,7 +44,12 @@ add-put-lower-3 : tie.Need-add-put-lower-3
 add-put-lower-3 c = let a = c .before .before .before .before .before .args in let n = c .before .stem-len .ensures .0 in omega (arith, stem-within (now (a .s)) (a .stem) (c .before .before .if1 .left) (λ e. c .if2 .left (n ∙ e)))
 
 put-lower-requires : tie.Need-put-lower-requires
-put-lower-requires c κs = let a = c .before .before .before .before .before .before .args in let n = c .before .before .stem-len .ensures .0 in let w = stem-within (now (a .s)) (a .stem) (c .before .before .before .if1 .left) (λ e. c .before .if2 .left (n ∙ e)) in (omega arith, omega arith, omega (arith, c .before .before .before .before .before .before .pre))
+put-lower-requires c κs =
+    let b = c .before .before .before .before .before .before in
+    let a = b .args in
+    let n = c .before .before .stem-len .ensures .0 in
+    let w = stem-within (now (a .s)) (a .stem) (c .before .before .before .if1 .left) (λ e. c .before .if2 .left (n ∙ e)) in
+    (omega arith, omega arith, omega (arith, b .pre))
 
 same-length-2 : tie.Need-same-length-2
 same-length-2 c = search needs

@@ -26,13 +26,19 @@ add-stem : tie.Need-add-stem
 add-stem c = search needs
 
 slice-write-out-2 : tie.Need-slice-write-out-2
-slice-write-out-2 c = let a = c .before .before .args in simp length-set (omega (arith, c .before .before .pre, x-length (a .number)))
+slice-write-out-2 c =
+    let b = c .before .before in
+    let a = b .args in
+    simp length-set (omega (arith, b .pre, x-length (a .number)))
 
 add-put-decimal : tie.Need-add-put-decimal
 add-put-decimal c = search needs
 
 put-decimal-requires : tie.Need-put-decimal-requires
-put-decimal-requires c κs = let a = c .before .before .before .args in simp length-set (omega (arith, c .before .before .before .pre, x-length (a .number)))
+put-decimal-requires c κs =
+    let b = c .before .before .before in
+    let a = b .args in
+    simp length-set (omega (arith, b .pre, x-length (a .number)))
 
 same-length : tie.Need-same-length
 same-length c = c .before .before .put-decimal .kept .1 .0 ∙ simp length-set
