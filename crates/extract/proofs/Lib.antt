@@ -10,3 +10,6 @@ pub mod Putting
 pub mod Pushing
 pub mod Premised
 pub mod Ruled
+pub mod Finishing
+pub mod Starting
+pub mod Calling

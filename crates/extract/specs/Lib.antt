@@ -6,3 +6,4 @@ pub mod Shape
 pub mod Entry
 pub mod Acts
 pub mod Walk
+pub mod Whole
