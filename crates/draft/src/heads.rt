@@ -57,7 +57,7 @@ fn put_variable(number: usize, out: &mut [u8], at: usize) -> usize
 }
 
 fn put_two_names(first: usize, second: usize, out: &mut [u8], at: usize) -> usize
-    requires { ⌜ at + length (encodeName (xName first) ‥ encodeName (xName second)) ≤ length (now out) ⌝ }
+    requires { ⌜ at + (length (encodeName (xName first)) + length (encodeName (xName second))) ≤ length (now out) ⌝ }
     ensures { λ r. ⌜ Wrote (now (out .entry)) at (encodeName (xName first) ‥ encodeName (xName second)) (now (out .exit)) r ⌝ }
 {
     let past = put_x(first, out, at);

@@ -76,7 +76,7 @@ put-two-names-requires c κs =
     let n = a .number in
     let p = a .stem in
     let k = a .kind in
-    omega (arith, b .pre .room, middle-room s n p k (c .before .before .if3 .left) (c .before .if4 .left))
+    omega (arith, b .pre .room, middle-room s n p k (c .before .before .if3 .left) (c .before .if4 .left), two-length n)
 
 same-length-4 : tie.Need-same-length-4
 same-length-4 c = search needs

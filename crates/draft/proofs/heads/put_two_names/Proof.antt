@@ -1,22 +1,17 @@
 -- `draft::heads::put_two_names` meets its contract: a name, then the other. Assumes nothing.
 use native.Mathlib.Omega.{arith}
-use lib.ListN.{length-append}
-use Rattle.rules.specs.Name.{encodeName}
 use Rattle.runs.specs.Writing.{chain}
-use Rattle.draft.specs.Draft.{xName}
 use borrow.Author.Needs.{needs}
 use Rattle.draft.proofs.heads.put_two_names.Statement.{statement}
 use Rattle.draft.proofs.heads.put_two_names.Tie as tie
 
 put-x-requires : tie.Need-put-x-requires
-put-x-requires c κs =
-    let b = c .before .before in
-    omega (arith, b .pre, length-append (encodeName (xName (b .args .first))) (encodeName (xName (b .args .second))))
+put-x-requires c κs = omega (arith, c .before .before .pre)
 
 put-x-requires-2 : tie.Need-put-x-requires-2
 put-x-requires-2 c κs =
     let b = c .before .before .before .before .before .before in
-    omega (arith, b .pre, length-append (encodeName (xName (b .args .first))) (encodeName (xName (b .args .second))), c .before .before .before .put-x .ensures .ends, c .before .before .before .put-x .kept .1 .0)
+    omega (arith, b .pre, c .before .before .before .put-x .ensures .ends, c .before .before .before .put-x .kept .1 .0)
 
 same-length : tie.Need-same-length
 same-length c = search needs
