@@ -1,1 +1,124 @@
-// Extraction of terms from proofs.
+// Extraction of terms from proofs: a walk over the checked proof makes a draft of the term, and the term is measured and written from the draft.
+ghost use mathlib.Core.Path.{_≡_};
+ghost use mathlib.Core.List.{List, []};
+ghost use Prim.Native.Nat.{ℕ, _≤_};
+ghost use lib.ListN.{length};
+ghost use Rattle.rules.specs.Limits.{limits, entryRoom};
+ghost use Rattle.rules.specs.Refusal.{refuse};
+ghost use Rattle.rules.specs.Term.{Term};
+ghost use Rattle.rules.specs.Proof.{Proof};
+ghost use Rattle.rules.specs.Extraction.{terms, extract as extractOf};
+ghost use Rattle.rules.specs.Calls.{Entry, extractCall};
+ghost use Rattle.extract.specs.Whole.{extraction, told, Finishes, Finished, Checked};
+use draft::parts::put_part;
+use draft::sizes::fits;
+use drafting::draft_rule;
+use rules::Answer;
+use rules::OUTPUT_ROOM;
+use rules::Refusal;
+use rules::SCRATCH_ROOM;
+
+mod act;
+mod drafting;
+mod entries;
+mod look;
+mod puts;
+
+// How far the first walk has come: the next place, the rows used, the counter, and the part that was made.
+pub struct Drafted {
+    pub next: usize,
+    pub used: usize,
+    pub counter: usize,
+    pub part: usize,
+}
+
+// The bytes of the term and the counter after it; or a refusal.
+pub enum Extraction {
+    Made { bytes: usize, counter: u32 },
+    Refused(Refusal),
+}
+
+const MOST_COUNTER: usize = 100_000_000;
+
+// A refusal that is about no place of an input.
+fn refused(number: u8) -> Extraction
+    ensures { λ r. ⌜ r ≡ told (refuse number 0 0) ⌝ }
+{
+    Extraction::Refused(Refusal {
+        number,
+        place: 0,
+        input: 0,
+    })
+}
+
+// The term of a draft, unless its counter or its size is over the most.
+fn finish(
+    proof: &[u8],
+    rows: &[usize],
+    draft: Drafted,
+    out: &mut [u8],
+    scratch: &mut [u8],
+) -> Extraction
+    requires { ⌜ ((t : Term) × (n : ℕ) × Finishes (now proof) (now rows) draft (now out) (t, n)) ⌝ }
+    ensures { λ r. ⌜ ((t : Term) → (n : ℕ) → Finishes (now (proof .entry)) (now (rows .entry)) draft (now (out .entry)) (t, n)
+        → Finished (t, n) (now (out .entry)) (now (scratch .entry)) r (now (out .exit)) (now (scratch .exit))) ⌝ }
+{
+    if MOST_COUNTER < draft.counter {
+        return refused(9);
+    }
+    if fits(proof, rows, draft.used, draft.part) {
+        let end = put_part(proof, rows, draft.used, draft.part, out, 0);
+        runs::clear(out, end);
+        runs::clear(scratch, 0);
+        return Extraction::Made {
+            bytes: end,
+            counter: draft.counter as u32,
+        };
+    }
+    runs::clear(scratch, 0);
+    refused(8)
+}
+
+// The term of a checked proof.
+fn extract_checked(counter: u32, proof: &[u8], out: &mut [u8], scratch: &mut [u8]) -> Extraction
+    requires { ⌜ ((p : Proof) × Checked (now proof) (now out) p) ⌝ }
+    ensures { λ r. ⌜ ((p : Proof) → Checked (now (proof .entry)) (now (out .entry)) p
+        → Finished (extractOf terms p [] counter) (now (out .entry)) (now (scratch .entry)) r (now (out .exit)) (now (scratch .exit))) ⌝ }
+{
+    let mut places = [0usize; 512];
+    let mut counters = [0usize; 512];
+    let mut rows = [0usize; 2560];
+    let draft = draft_rule(
+        proof,
+        0,
+        &mut places,
+        &mut counters,
+        0,
+        &mut rows,
+        0,
+        counter as usize,
+    );
+    finish(proof, &rows, draft, out, scratch)
+}
+
+// The term of a proof, from a counter on: its bytes in out, with zeros behind them.
+pub fn extract(counter: u32, proof: &[u8], out: &mut [u8], scratch: &mut [u8]) -> Extraction
+    ensures { λ r. ⌜ ((es : List Entry) → entryRoom limits ≤ length es
+        → r ≡ extraction (extractCall limits counter (now (proof .entry)) (now (out .entry)) (now (scratch .entry)) es .answer)
+        (extractCall limits counter (now (proof .entry)) (now (out .entry)) (now (scratch .entry)) es .counter)) ⌝ }
+    ensures { λ _. ⌜ ((es : List Entry) → entryRoom limits ≤ length es
+        → now (out .exit) ≡ extractCall limits counter (now (proof .entry)) (now (out .entry)) (now (scratch .entry)) es .output) ⌝ }
+    ensures { λ _. ⌜ ((es : List Entry) → entryRoom limits ≤ length es
+        → now (scratch .exit) ≡ extractCall limits counter (now (proof .entry)) (now (out .entry)) (now (scratch .entry)) es .scratch) ⌝ }
+{
+    if out.len() < OUTPUT_ROOM {
+        return refused(1);
+    }
+    if scratch.len() < SCRATCH_ROOM {
+        return refused(1);
+    }
+    match proof::proof_input(proof, 1) {
+        Answer::Refused(r) => Extraction::Refused(r),
+        Answer::Good(_) => extract_checked(counter, proof, out, scratch),
+    }
+}
