@@ -111,6 +111,11 @@ void patch_is_normal(const uint8_t *term, size_t term_length, uint64_t answer[PA
  * variable exactly once, inside what it covers. Value: 1 or 0. */
 void patch_is_straight(const uint8_t *term, size_t term_length, uint64_t answer[PATCH_ANSWER]);
 
+/* The term of a proof, to an output of at least PATCH_OUTPUT_ROOM bytes, by way of a scratch of at least PATCH_SCRATCH_ROOM; names are taken from
+ * `counter` on. Values: the term's length; the counter after it, for the next proof. Refused, the caller goes on with the counter that it had. */
+void patch_extract(const uint8_t *proof, size_t proof_length, uint32_t counter, uint8_t *out, size_t out_length, uint8_t *scratch,
+                   size_t scratch_length, uint64_t answer[PATCH_ANSWER]);
+
 /* The stored form of a legal term or proof, to an output of at least PATCH_STORED_ROOM bytes. Value: its length. */
 void patch_store_term(const uint8_t *term, size_t term_length, uint8_t *out, size_t out_length, uint64_t answer[PATCH_ANSWER]);
 void patch_store_proof(const uint8_t *proof, size_t proof_length, uint8_t *out, size_t out_length, uint64_t answer[PATCH_ANSWER]);

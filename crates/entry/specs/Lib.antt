@@ -2,3 +2,4 @@ pub mod Told
 pub mod Child
 pub mod Steps
 pub mod Straight
+pub mod Extraction

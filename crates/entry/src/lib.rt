@@ -20,6 +20,7 @@ use stepping::Stepped;
 use walk::child::Piece;
 
 mod files;
+mod proofs_to_terms;
 mod straight_terms;
 
 // A refusal, told as numbers.

@@ -36,11 +36,8 @@ pub enum Call {
     LoadProof,
 }
 
-/// The bytes of a lent cut entry: two numbers.
-const ENTRY: usize = 16;
-
 impl Call {
-    /// The least lengths of what the call is lent: output, scratch, cut entries.
+    /// The least lengths of what the call is lent: output, scratch.
     pub fn rooms(self) -> Vec<usize> {
         match self {
             Call::CheckFormula | Call::CheckTerm | Call::CheckProof | Call::Child | Call::IsNormal | Call::IsStraight => vec![],
@@ -48,8 +45,7 @@ impl Call {
             Call::TermText => vec![L.text_room],
             Call::FreeVars | Call::LoadTerm | Call::LoadProof => vec![L.output_room()],
             Call::StoreTerm | Call::StoreProof => vec![L.stored_room],
-            Call::Substitute | Call::Step | Call::NormalizeBounded => vec![L.output_room(), L.scratch_room],
-            Call::Extract => vec![L.output_room(), L.scratch_room, ENTRY * L.entry_room],
+            Call::Substitute | Call::Step | Call::NormalizeBounded | Call::Extract => vec![L.output_room(), L.scratch_room],
         }
     }
 }
@@ -167,13 +163,9 @@ impl Case {
             Call::IsStraight => numbers(straight::is_straight(&L, first), |yes| vec![yes as u64]),
             Call::Extract => {
                 let mut counter = self.number as u32;
-                let (out, scratch, row) = (lent(), lent(), lent());
-                let mut entries: Vec<Entry> = row.chunks_exact(ENTRY).map(entry).collect();
-                let answer = extract::extract(&L, &mut counter, first, out, scratch, &mut entries);
-                for (bytes, entry) in row.chunks_exact_mut(ENTRY).zip(&entries) {
-                    bytes[..8].copy_from_slice(&entry.place.to_le_bytes());
-                    bytes[8..].copy_from_slice(&entry.counter.to_le_bytes());
-                }
+                // the cut entries are the entry point's own, so they are never too few
+                let mut entries = vec![Entry { place: 0, counter: 0 }; L.entry_room];
+                let answer = extract::extract(&L, &mut counter, first, lent(), lent(), &mut entries);
                 [count(answer), vec![counter as u64]].concat()
             }
             Call::StoreTerm => count(stored::store(&L, Kind::Term, first, lent())),
@@ -183,9 +175,9 @@ impl Case {
         }
     }
 
-    /// What the port does; nothing for a call that has no entry point yet. Inputs and lent buffers stand at pages that nobody may touch, at the
-    /// one end or the other; the bytes around a buffer are compared where there are some.
-    pub fn port(&self) -> Option<Seen> {
+    /// What the port does. Inputs and lent buffers stand at pages that nobody may touch, at the one end or the other; the bytes around a buffer
+    /// are compared where there are some.
+    pub fn port(&self) -> Seen {
         let mut buffers = self.buffers();
         let side = if self.inputs[0].len() % 2 == 0 { Side::Start } else { Side::End };
         let lengths: Vec<usize> = self.inputs.iter().map(Vec::len).chain(buffers.iter().map(|b| b.bytes.len() - AROUND)).collect();
@@ -209,13 +201,13 @@ impl Case {
                 buffer.at_mut(side).copy_from_slice(part);
             }
             answer
-        })?;
-        Some(Seen { answer, lent: buffers })
+        });
+        Seen { answer, lent: buffers }
     }
 
-    pub fn ask_port<'a>(&self, input: &[&[u8]], lent: &mut dyn FnMut() -> &'a mut [u8]) -> Option<Vec<u64>> {
+    pub fn ask_port<'a>(&self, input: &[&[u8]], lent: &mut dyn FnMut() -> &'a mut [u8]) -> Vec<u64> {
         let first = input[0];
-        Some(match self.call {
+        match self.call {
             Call::CheckFormula => count(plain(patch::check_formula(first))),
             Call::CheckTerm => count(plain(patch::check_term(first))),
             Call::CheckProof => count(plain(patch::check_proof(first))),
@@ -240,23 +232,22 @@ impl Case {
             },
             Call::IsNormal => numbers(plain(patch::is_normal(first)), |yes| vec![yes as u64]),
             Call::IsStraight => numbers(plain(patch::is_straight(first)), |yes| vec![yes as u64]),
+            Call::Extract => {
+                let mut extractor = patch::Extractor { counter: self.number as u32 };
+                let answer = extractor.extract_to(first, lent(), lent());
+                [count(plain(answer)), vec![extractor.counter as u64]].concat()
+            }
             Call::StoreTerm => count(plain(patch::store_to(patch::Kind::Term, first, lent()))),
             Call::StoreProof => count(plain(patch::store_to(patch::Kind::Proof, first, lent()))),
             Call::LoadTerm => count(plain(patch::load_to(patch::Kind::Term, first, lent()))),
             Call::LoadProof => count(plain(patch::load_to(patch::Kind::Proof, first, lent()))),
-            _ => return None,
-        })
+        }
     }
 
     /// Whether port and model are seen to do the same.
     pub fn agrees(&self, model: &Seen) -> bool {
-        self.port().is_none_or(|port| port == *model)
+        self.port() == *model
     }
-}
-
-fn entry(bytes: &[u8]) -> Entry {
-    let number = |bytes: &[u8]| usize::from_le_bytes(bytes.try_into().unwrap());
-    Entry { place: number(&bytes[..8]), counter: number(&bytes[8..]) }
 }
 
 /// The port's refusal in the model's words.

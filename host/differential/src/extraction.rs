@@ -72,7 +72,36 @@ pub fn proof(rng: &mut Rng) -> Vec<u8> {
     proof_bytes(&made)
 }
 
+/// All that may stand before the count of premises: an Axiom over each list of at most two of A, A⊥ and 1, a Cut on one of these, on a Tensor and
+/// on a Plus, and each other rule.
+fn conclusions() -> Vec<Vec<u8>> {
+    let signed: [&[u8]; 3] = [&[1, 1, b'A'], &[2, 1, b'A'], &[5]];
+    let mut tops = vec![vec![1, 0]];
+    for a in signed {
+        tops.push([&[1, 1], a].concat());
+        tops.extend(signed.map(|b| [&[1, 2], a, b].concat()));
+        tops.push([&[2], a, &[0]].concat());
+    }
+    tops.extend([vec![2, 3, 5, 5, 0], vec![2, 8, 5, 5, 0]]);
+    tops.extend((3..=18).map(|tag| if tag == 16 || tag == 17 { vec![tag, 0, 0, 0] } else { vec![tag, 0] }));
+    tops
+}
+
+/// Proof number `index` of those of at most 3 rules over these conclusions.
+fn small(tops: &[Vec<u8>], index: u64) -> Vec<u8> {
+    let n = tops.len() as u64;
+    let top = |digit: u64| &tops[(index / n.pow(digit as u32) % n) as usize][..];
+    match index / n.pow(3) {
+        0 => [top(0), &[1], top(1), &[1], top(2), &[0]].concat(),
+        1 => [top(0), &[2], top(1), &[0], top(2), &[0]].concat(),
+        _ if index < 2 * n.pow(3) + n.pow(2) => [top(0), &[1], top(1), &[0]].concat(),
+        _ => [top(0), &[0]].concat(),
+    }
+}
+
 pub fn all() -> Verdict {
+    let tops = conclusions();
+    let every = 2 * (tops.len() as u64).pow(3) + (tops.len() as u64).pow(2) + tops.len() as u64;
     let check = |bytes: Vec<u8>| Case::new(Call::CheckProof, vec![bytes]);
     let extract = |bytes: Vec<u8>, counter: u32| Case { number: counter as u64, ..Case::new(Call::Extract, vec![bytes]) };
     let checked: Vec<Case> = bad_proofs().into_iter().map(check).collect();
@@ -92,7 +121,8 @@ pub fn all() -> Verdict {
             }
             check(bytes)
         })?
-        + random("Extract of random proofs", 60_000, |index| {
+        + random("Extract of every proof to 3 rules over a small alphabet", every, |index| extract(small(&tops, index), (index % 12) as u32))?
+        + random("Extract of random proofs", 200_000, |index| {
             let mut rng = Rng::new(0x6578_7472, index);
             let mut bytes = proof(&mut rng);
             if rng.one_in(8) {

@@ -58,7 +58,6 @@ fn main() -> ExitCode {
         }
         let start = Instant::now();
         match family() {
-            Ok(0) => println!("{name}: nothing to compare yet"),
             Ok(cases) => println!("{name}: {cases} cases equal ({:.1} s)", start.elapsed().as_secs_f32()),
             Err(difference) => {
                 println!("{name}: DIFFERENT\n{difference}");

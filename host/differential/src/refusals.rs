@@ -22,7 +22,7 @@ impl Table {
         self.cases += 1;
         self.met.insert((format!("{:?}", case.call), want[0]));
         let answers = |seen: &crate::case::Seen| seen.refusal() == want;
-        if !answers(&model) || !port.as_ref().is_none_or(|seen| answers(seen) && *seen == model) {
+        if !answers(&model) || port != model {
             self.wrong.push(format!("{why}: expected {want:?}\n{case}"));
         }
     }
@@ -182,9 +182,6 @@ fn extraction(table: &mut Table) {
     for at in 0..2 {
         table.expect("1 before 9", short(extract(&axiom, 100_000_000), at), [1, 0, 0]);
     }
-    let mut few = extract(&axiom, 0);
-    few.lent[2] -= 16;
-    table.expect("1, too few cut entries", few, [1, 0, 0]);
 }
 
 fn files(table: &mut Table, call: Call, kind: u8) {

@@ -14,7 +14,7 @@ struct Shrinking {
 pub fn smallest(case: Case) -> String {
     let mut work = Shrinking { case, until: Instant::now() + PATIENCE };
     while work.numbers() | work.runs() | work.bytes() {}
-    let port = work.case.port().expect("a call that has an entry point");
+    let port = work.case.port();
     format!("{}\n{}", work.case, work.case.model().against(&port))
 }
 

@@ -20,7 +20,7 @@ pub fn all() -> Verdict {
 
 const SEED: u64 = 0x7374_7261_6900;
 
-/// What bounded reduction answers and leaves in its output, as numbers and bytes: by the port, or by the model where the port has no entry point.
+/// What bounded reduction answers and leaves in its output, as numbers and bytes.
 struct Reduced {
     steps: u64,
     counts: [u64; 8],
@@ -30,7 +30,7 @@ struct Reduced {
 
 fn reduced(term: &[u8], limit: u64) -> Result<Reduced, String> {
     let case = Case { number: limit, ..Case::new(Call::NormalizeBounded, vec![term.to_vec()]) };
-    let seen = case.port().unwrap_or_else(|| case.model());
+    let seen = case.port();
     if seen.number() != 0 {
         return Err(format!("refused {}", seen.number()));
     }

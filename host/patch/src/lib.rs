@@ -120,6 +120,26 @@ pub fn is_straight(term: &[u8]) -> Result<bool, Refusal> {
     Ok(told(raw::is_straight(term))?[0] == 1)
 }
 
+/// Makes terms of proofs. Its counter numbers the names, and rises with each that is taken; a refusal leaves it as it was.
+#[derive(Clone, Copy, Debug, PartialEq, Eq)]
+pub struct Extractor {
+    pub counter: u32,
+}
+
+impl Extractor {
+    /// The term of a proof, to an output of at least [`OUTPUT_ROOM`] bytes, by way of a scratch of at least [`SCRATCH_ROOM`]: its length.
+    pub fn extract_to(&mut self, proof: &[u8], out: &mut [u8], scratch: &mut [u8]) -> Answer {
+        let [length, counter, ..] = told(raw::extract(proof, self.counter, out, scratch))?;
+        self.counter = counter as u32;
+        Ok(length as usize)
+    }
+
+    /// The term of a proof.
+    pub fn extract(&mut self, proof: &[u8]) -> Result<Vec<u8>, Refusal> {
+        written(OUTPUT_ROOM, |out| self.extract_to(proof, out, &mut [0; SCRATCH_ROOM]))
+    }
+}
+
 /// What a stored file holds.
 #[derive(Clone, Copy, Debug, PartialEq, Eq)]
 pub enum Kind {

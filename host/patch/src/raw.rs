@@ -32,6 +32,7 @@ entry!(step = patch_step(term) lent(out, scratch));
 entry!(normalize_bounded = patch_normalize_bounded(term) with(limit: u32) lent(out, scratch));
 entry!(is_normal = patch_is_normal(term));
 entry!(is_straight = patch_is_straight(term));
+entry!(extract = patch_extract(proof) with(counter: u32) lent(out, scratch));
 entry!(store_term = patch_store_term(term) lent(out));
 entry!(store_proof = patch_store_proof(proof) lent(out));
 entry!(load_term = patch_load_term(file) lent(out));

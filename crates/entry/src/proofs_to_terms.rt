@@ -1,0 +1,48 @@
+// The term of a proof.
+ghost use mathlib.Core.Path.{_≡_};
+ghost use mathlib.Core.List.{List};
+ghost use Prim.Native.Nat.{_≤_};
+ghost use lib.ListN.{length};
+ghost use Rattle.rules.specs.Limits.{limits, entryRoom};
+ghost use Rattle.rules.specs.Calls.{Entry, extractCall};
+ghost use Rattle.extract.specs.Whole.{extraction};
+ghost use Rattle.entry.specs.Extraction.{toldExtraction};
+use crate::tell_refusal;
+use extract::Extraction;
+use extract::extract;
+
+// A length and a counter, or a refusal, told as numbers.
+fn tell_extraction(made: Extraction, told: &mut [u64; 16])
+    ensures { λ _. ⌜ now (told .exit) ≡ toldExtraction made ⌝ }
+{
+    match made {
+        Extraction::Made { bytes, counter } => {
+            let length = bytes as u64;
+            let next = counter as u64;
+            *told = [0, 0, 0, length, next, 0, 0, 0, 0, 0, 0, 0, 0, 0, 0, 0];
+        }
+        Extraction::Refused(r) => {
+            tell_refusal(r, told);
+        }
+    }
+}
+
+// The cut entries are the call's own, so no row of them is lent, and none can be too short.
+#[no_mangle]
+pub extern "C" fn patch_extract(
+    proof: &[u8],
+    counter: u32,
+    out: &mut [u8],
+    scratch: &mut [u8],
+    answer: &mut [u64; 16],
+)
+    ensures { λ _. ⌜ ((es : List Entry) → entryRoom limits ≤ length es
+        → now (answer .exit) ≡ toldExtraction (extraction (extractCall limits counter (now (proof .entry)) (now (out .entry)) (now (scratch .entry)) es .answer)
+        (extractCall limits counter (now (proof .entry)) (now (out .entry)) (now (scratch .entry)) es .counter))) ⌝ }
+    ensures { λ _. ⌜ ((es : List Entry) → entryRoom limits ≤ length es
+        → now (out .exit) ≡ extractCall limits counter (now (proof .entry)) (now (out .entry)) (now (scratch .entry)) es .output) ⌝ }
+    ensures { λ _. ⌜ ((es : List Entry) → entryRoom limits ≤ length es
+        → now (scratch .exit) ≡ extractCall limits counter (now (proof .entry)) (now (out .entry)) (now (scratch .entry)) es .scratch) ⌝ }
+{
+    tell_extraction(extract(counter, proof, out, scratch), answer);
+}
