@@ -1,10 +1,10 @@
 -- What is printed for a file, by what opening it comes to: its content, or the refusal. Assumes nothing.
-use Prim.Native.Nat.{ℕ, _+_, _-_, _≤_}
+use Prim.Native.Nat.{ℕ, _-_, _≤_}
 use mathlib.Core.Path.{_≡_, refl, sym, ap, _∙_}
 use native.Mathlib.Omega.{arith}
 use lib.ListN.{length, take, replicate}
 use borrow.Author.Tests.{le-leb}
-use Rattle.rules.specs.Basic.{Bytes, _‥_}
+use Rattle.rules.specs.Basic.{Bytes}
 use Rattle.rules.specs.Limits.{limits}
 use Rattle.rules.specs.declared.Refusal.{Refusal}
 use Rattle.rules.specs.Refusal.{Outcome, good, refused, answered}
@@ -15,7 +15,7 @@ use Rattle.rules.specs.Stored.{opened}
 use Rattle.rules.specs.Buffers.{Wrote, bytesOr, wrote}
 use Rattle.rules.specs.Calls.{loadCall, reduceCall}
 use Rattle.rules.specs.Program.{refusalLine, patchrun}
-use Rattle.printed.specs.Printing.{Starts, printedFor, termAfter, scratchAfter}
+use Rattle.printed.specs.Printing.{printedFor, termAfter, scratchAfter}
 use Rattle.printed.proofs.Starting.{starts-append, starts-inside}
 
 -- a file that opens: its content stands at the start of the output, and is all that what follows depends on

@@ -1,6 +1,6 @@
 -- What stands at the start of a buffer: from a write, and with zeros behind it. By the laws of writes. Assumes nothing.
 use Prim.Native.Nat.{ℕ, _+_, _-_, _≤_}
-use mathlib.Core.Path.{_≡_, refl, sym, ap, _∙_}
+use mathlib.Core.Path.{_≡_, sym, ap, _∙_}
 use mathlib.Core.List.{_++_}
 use mathlib.Core.Option.{some}
 use native.Mathlib.Omega.{arith}

@@ -1,8 +1,7 @@
 -- What reduction tells, and what is printed for it: by cases of what was read and of how the reduction stopped. Assumes nothing.
 use Prim.Native.Nat.{ℕ, _≤_, _-_}
 use mathlib.Core.Path.{_≡_, refl, sym, ap, _∙_}
-use mathlib.Core.Bool.{Bool}
-use mathlib.Core.List.{_∷_, _++_}
+use mathlib.Core.List.{_∷_}
 use native.Mathlib.Omega.{arith}
 use lib.ListN.{length, take, replicate}
 use borrow.Author.Tests.{le-leb}
@@ -14,7 +13,7 @@ use Rattle.rules.specs.Term.{Term, encode}
 use Rattle.rules.specs.Text.{text}
 use Rattle.rules.specs.Reading.{readTerm}
 use Rattle.rules.specs.Reduction as rules
-use Rattle.rules.specs.Buffers.{filled, written}
+use Rattle.rules.specs.Buffers.{written}
 use Rattle.rules.specs.Calls.{ReduceCall, reduceEnding, readEnding, reduceWith, reduceCall}
 use Rattle.rules.specs.Program.{countsLine, refusalLine, report, reducedReport}
 use Rattle.laws.specs.Decoding.{TermIn, term-sound}
@@ -24,7 +23,7 @@ use Rattle.reduction.specs.declared.Reduction.{Reduction}
 use Rattle.reduction.specs.declared.Reduced.{Reduced}
 use Rattle.reduction.specs.declared.Reduced.the-variants.{Stopped, Refused}
 use Rattle.printed.specs.Printing.{printedFor}
-use Rattle.printed.specs.Reduct.{Sound, SoundReduced, reduced-sound}
+use Rattle.printed.specs.Reduct.{Sound, reduced-sound}
 use Rattle.printed.proofs.Starting.{starts-append, starts-inside}
 
 -- the first bytes of the output are a term, and it and what is told are what is printed

@@ -4,7 +4,7 @@ use mathlib.Core.Path.{_≡_}
 use lib.ListN.{length, take}
 use Rattle.rules.specs.Basic.{Bytes}
 use Rattle.rules.specs.Limits.{Limits}
-use Rattle.rules.specs.Refusal.{Outcome, good, refused, _>>=_}
+use Rattle.rules.specs.Refusal.{good, refused, _>>=_}
 use Rattle.rules.specs.Reading.{readTerm}
 use Rattle.rules.specs.Reduction.{reduce}
 use Rattle.rules.specs.Calls.{reduceCall}

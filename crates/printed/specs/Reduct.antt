@@ -1,7 +1,7 @@
 -- What bounded reduction leaves is legal and breaks no limit, so it can be read again: by induction on the limit. Assumes nothing.
 use Prim.Native.Nat.{ℕ, zero, suc}
 use mathlib.Core.Path.{_≡_, refl}
-use mathlib.Core.Bool.{Bool, true, false, _&&_}
+use mathlib.Core.Bool.{Bool, true, false}
 use Rattle.rules.specs.Limits.{Limits}
 use Rattle.rules.specs.Legal.{Legal}
 use Rattle.rules.specs.Term.{Term, fits}

@@ -1,6 +1,6 @@
 // What the program patchrun prints for a stored term: its text when reduced, and the counts; or the refusal.
 ghost use mathlib.Core.Path.{_≡_};
-ghost use mathlib.Core.List.{[], _∷_};
+ghost use mathlib.Core.List.{_∷_};
 ghost use mathlib.Core.Option.{some};
 ghost use Prim.Native.Nat.{_≤_};
 ghost use lib.ListN.{length, take};
@@ -68,7 +68,8 @@ fn print_file(file: &[u8], term: &mut [u8], scratch: &mut [u8], out: &mut [u8]) 
     }
 }
 
-// What is printed for a file, then zeros; and how long it is. The arrays' lengths are part of their types, so none is ever too short.
+// What is printed for a file, then zeros; and how long it is. The arrays' lengths are part of their types, so none is ever too short:
+// out has room for the 20,480 bytes of a term's text and for the line of the counts.
 pub fn printed(
     file: &[u8],
     term: &mut [u8; 4096],

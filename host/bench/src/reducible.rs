@@ -73,7 +73,7 @@ fn largest(term: &Term) -> usize {
 
 /// Of many, made for fewer nodes and for more, the one that comes nearest.
 fn straight(seed: u64, nodes: usize) -> Term {
-    let tries = (0..64).map(|i| terms::straight(&mut Rng::new(0x7374_7261 + seed, i), (nodes * (i as usize + 8)).div_ceil(64)));
+    let tries = (0..16).map(|i| terms::straight(&mut Rng::new(0x7374_7261 + seed, i), (nodes * (i as usize + 2)).div_ceil(16)));
     let fits = tries.filter(|t| term_nodes(t) <= 512 && term_bytes(t).len() <= 4096);
     fits.min_by_key(|t| term_nodes(t).abs_diff(nodes)).unwrap()
 }

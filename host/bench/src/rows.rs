@@ -123,11 +123,12 @@ pub fn rows() -> Vec<Row> {
 fn of_reducible(family: &str, nodes: usize) -> Vec<Row> {
     let buffers = || (RefCell::new(vec![0; patch::OUTPUT_ROOM]), RefCell::new(vec![0; patch::SCRATCH_ROOM]));
     let ((out, scratch), (last, work)) = (buffers(), buffers());
+    let inputs = reducible::inputs(family, nodes);
     vec![
         row(
             format!("step, {family}"),
             nodes,
-            reducible::inputs(family, nodes),
+            inputs.clone(),
             "Rust",
             |term: &Term, _| kept(lolli_extract::step(term)),
             move |_, bytes| kept(patch::step_to(bytes, &mut out.borrow_mut(), &mut scratch.borrow_mut()).unwrap()),
@@ -135,7 +136,7 @@ fn of_reducible(family: &str, nodes: usize) -> Vec<Row> {
         row(
             format!("reduction, {family}"),
             nodes,
-            reducible::inputs(family, nodes),
+            inputs,
             "Rust",
             |term: &Term, _| kept(lolli_extract::normalize_bounded(term, reducible::STEPS as usize)),
             move |_, bytes| {

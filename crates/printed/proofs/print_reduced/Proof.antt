@@ -1,5 +1,5 @@
 -- `printed::print_reduced` meets its contract: what reduction tells is printed, and the term that it leaves can be read again. Assumes nothing.
-use mathlib.Core.Path.{sym, _∙_}
+use mathlib.Core.Path.{sym}
 use native.Mathlib.Omega.{arith}
 use lib.ListN.{take}
 use lib.Seq.{length-take-le}

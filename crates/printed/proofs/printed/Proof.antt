@@ -1,4 +1,5 @@
 -- `printed::printed` meets its contract: zeros behind what is printed. Assumes nothing.
+use native.Mathlib.Omega.{arith}
 use denote.Ref.{now}
 use Rattle.printed.proofs.Starting.{starts-inside, starts-filled}
 use borrow.Author.Needs.{needs}
@@ -9,7 +10,9 @@ print-file-requires : tie.Need-print-file-requires
 print-file-requires c κs = search needs
 
 clear-requires : tie.Need-clear-requires
-clear-requires c κs = starts-inside (c .before .print-file .ensures .0)
+clear-requires c κs =
+    let p = c .before .print-file in
+    omega (arith, starts-inside (p .ensures .0), p .kept .1 .1 .1 .0)
 
 returns : tie.Need-returns
 returns c =
