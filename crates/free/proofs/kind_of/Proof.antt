@@ -6,8 +6,6 @@ use Rattle.walk.proofs.Names.{name-room}
 use borrow.Author.Needs.{needs}
 use Rattle.free.proofs.kind_of.Statement.{statement}
 use Rattle.free.proofs.kind_of.Tie as tie
-use Rattle.free.proofs.kind_of.Reads as reads
-use Rattle.free.proofs.kind_of.Lts as lts
 
 shared-slice-read-len : tie.Need-shared-slice-read-len
 shared-slice-read-len c = omega (arith, name-room _ (c .before .args .at) (c .before .pre))

@@ -6,10 +6,6 @@ use Rattle.free.proofs.Meeting.{guess-inside, guess-names, guess-kept}
 use borrow.Author.Needs.{needs}
 use Rattle.free.proofs.known.Statement.{statement}
 use Rattle.free.proofs.known.Tie as tie
-use Rattle.free.proofs.known.Reads as reads
-use Rattle.free.proofs.known.Lts as lts
-use Rattle.free.proofs.live.Reads as live-reads
-use Rattle.free.proofs.same_at.Reads as same-at-reads
 
 live-requires : tie.Need-live-requires
 live-requires c κs = search needs

@@ -6,11 +6,6 @@ use Rattle.free.proofs.Wholes.{starts, gathered, within, listed}
 use borrow.Author.Needs.{needs}
 use Rattle.free.proofs.list_names.Statement.{statement}
 use Rattle.free.proofs.list_names.Tie as tie
-use Rattle.free.proofs.list_names.Reads as reads
-use Rattle.free.proofs.list_names.Lts as lts
-use Rattle.free.proofs.gather.Reads as gather-reads
-use Rattle.free.proofs.write_names.Reads as write-names-reads
-use Rattle.runs.proofs.clear.Reads as clear-reads
 
 slice-aggregate-gather : tie.Need-slice-aggregate-gather
 slice-aggregate-gather c = search needs

@@ -3,8 +3,6 @@ use mathlib.Core.Logic.{inl, inr}
 use borrow.Author.Needs.{needs}
 use Rattle.free.proofs.live.Statement.{statement}
 use Rattle.free.proofs.live.Tie as tie
-use Rattle.free.proofs.live.Reads as reads
-use Rattle.free.proofs.live.Lts as lts
 
 returns : tie.Need-returns
 returns c = inl (c .if1 .taken)

@@ -5,11 +5,6 @@ use Rattle.free.proofs.Meeting.{met-kept}
 use borrow.Author.Needs.{needs}
 use Rattle.free.proofs.meet.Statement.{statement}
 use Rattle.free.proofs.meet.Tie as tie
-use Rattle.free.proofs.meet.Reads as reads
-use Rattle.free.proofs.meet.Lts as lts
-use Rattle.free.proofs.kind_of.Reads as kind-of-reads
-use Rattle.free.proofs.known.Reads as known-reads
-use Rattle.free.proofs.seek.Reads as seek-reads
 
 kind-of-requires : tie.Need-kind-of-requires
 kind-of-requires c κs = let (x, xs, l, w) = c .before .before .pre in (x, w .name)

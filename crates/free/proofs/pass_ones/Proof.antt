@@ -6,9 +6,6 @@ use Rattle.walk.proofs.Terms.{at-inside, at-small}
 use Rattle.free.proofs.Passing.{Ahead, ahead, passes-one, passes-none}
 use Rattle.free.proofs.pass_ones.Statement.{statement}
 use Rattle.free.proofs.pass_ones.Tie as tie
-use Rattle.free.proofs.pass_ones.Reads as reads
-use Rattle.free.proofs.pass_ones.Lts as lts
-use Rattle.free.proofs.is_one.Reads as is-one-reads
 
 abbrev Inv-loop : tie.InvT-loop
 Inv-loop s at i₀ i = Ahead s at i

@@ -4,9 +4,6 @@ use native.Mathlib.Omega.{arith}
 use Rattle.free.proofs.Scanning.{Left, low-small, left-all, left-none, entry, left-found, left-less}
 use Rattle.free.proofs.passed.Statement.{statement}
 use Rattle.free.proofs.passed.Tie as tie
-use Rattle.free.proofs.passed.Reads as reads
-use Rattle.free.proofs.passed.Lts as lts
-use Rattle.free.proofs.same_at.Reads as same-at-reads
 
 abbrev Inv-loop : tie.InvT-loop
 Inv-loop s at row low i₀ i = (low ≤ i) × (i ≤ 1024) × Left s at row low i

@@ -5,8 +5,6 @@ use lib.ListN.{length-set}
 use Rattle.free.proofs.Opening.{Moved, moved-none, moved-more, moved-all}
 use Rattle.free.proofs.put_in.Statement.{statement}
 use Rattle.free.proofs.put_in.Tie as tie
-use Rattle.free.proofs.put_in.Reads as reads
-use Rattle.free.proofs.put_in.Lts as lts
 
 abbrev Inv-loop : tie.InvT-loop
 Inv-loop row₀ n i p j₀ row j = (i ≤ j) × (j ≤ n) × Moved row₀ row n j

@@ -5,9 +5,6 @@ use Rattle.free.proofs.Comparing.{other-length, other-last, all-bytes}
 use borrow.Author.Needs.{needs}
 use Rattle.free.proofs.same_at.Statement.{statement}
 use Rattle.free.proofs.same_at.Tie as tie
-use Rattle.free.proofs.same_at.Reads as reads
-use Rattle.free.proofs.same_at.Lts as lts
-use Rattle.walk.proofs.same_name.Reads as same-name-reads
 
 shared-slice-read-len : tie.Need-shared-slice-read-len
 shared-slice-read-len c = omega (arith, name-room _ (c .before .before .args .at) (c .before .before .pre .0, c .before .before .pre .2))

@@ -5,11 +5,6 @@ use Rattle.free.proofs.Meeting.{sought, met-there, met-bound, met-new}
 use borrow.Author.Needs.{needs}
 use Rattle.free.proofs.seek.Statement.{statement}
 use Rattle.free.proofs.seek.Tie as tie
-use Rattle.free.proofs.seek.Reads as reads
-use Rattle.free.proofs.seek.Lts as lts
-use Rattle.free.proofs.passed.Reads as passed-reads
-use Rattle.free.proofs.put_in.Reads as put-in-reads
-use Rattle.free.proofs.slot_for.Reads as slot-for-reads
 
 slot-for-requires : tie.Need-slot-for-requires
 slot-for-requires c κs = let (x, xs, l, w) = c .before .before .before .pre .0 in (x, l, sought w)
