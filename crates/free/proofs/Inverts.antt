@@ -1,94 +1,204 @@
--- Which term a node is, from how many names and parts it has. By the seven shapes. Assumes nothing.
-use Prim.Native.Nat.{ℕ}
-use mathlib.Core.Path.{_≡_, refl}
+-- Which term a node is, from its tag, as the walk tells tags apart: by the keys of an arm, or by ranges where it has none of them.
+-- By the seven shapes.
+-- Assumes nothing.
+use Prim.Native.Nat.{ℕ, _<_, _≤_}
+use mathlib.Core.Path.{_≡_, refl, sym, ap, _∙_}
+use mathlib.Core.Bool.{Bool, true, false, _||_}
+use mathlib.Core.Logic.{_⊎_, inl, inr}
 use mathlib.Core.List.{List, [], _∷_}
 use native.Mathlib.Omega.{arith}
-use lib.ListN.{length}
+use lib.Dec.{eqb}
+use borrow.Author.Tests.{eq-eqb}
+use types.Run.{OneOf}
 use Rattle.rules.specs.Name.{Name}
-use Rattle.rules.specs.Term.{Term, var, leaf, one, two, abs, both, branch, Leaf, One, Two, Both, parts}
-use Rattle.walk.specs.Node.{names}
+use Rattle.rules.specs.Term.{Term, var, leaf, one, two, abs, both, branch, Leaf, unit, trivial, One, inl as injectLeft, inr as injectRight, fst, snd, abort, promote, derelict, Two, pair, app, discard, Both, letPair, copy}
+use Rattle.walk.specs.Node.{tag}
 
-module _ (t : Term) (n p : ℕ) (en : n ≡ length (names t)) (ep : p ≡ length (parts t)) where
-  pub is-leaf : n ≡ 0 → p ≡ 0 → (k : Leaf) × (t ≡ leaf k)
-  is-leaf a b = go t en ep
-    where
-      go : (u : Term) → n ≡ length (names u) → p ≡ length (parts u) → (k : Leaf) × (u ≡ leaf k)
-      go (leaf k) c d = (k, refl)
-      go (var x) c d = absurd (omega arith)
-      go (one k e) c d = absurd (omega arith)
-      go (two k e f) c d = absurd (omega arith)
-      go (abs x e) c d = absurd (omega arith)
-      go (both k x y e f) c d = absurd (omega arith)
-      go (branch x y e f g) c d = absurd (omega arith)
+-- k is one of the keys, as a test
+abbrev keyed : List ℕ → ℕ → Bool
+keyed [] k = false
+keyed (i ∷ is) k = eqb k i || keyed is k
 
-  pub is-var : (n ≡ 0 → ⊥) → p ≡ 0 → (x : Name) × (t ≡ var x)
-  is-var a b = go t en ep
-    where
-      go : (u : Term) → n ≡ length (names u) → p ≡ length (parts u) → (x : Name) × (u ≡ var x)
-      go (var x) c d = (x, refl)
-      go (leaf k) c d = absurd (a c)
-      go (one k e) c d = absurd (omega arith)
-      go (two k e f) c d = absurd (omega arith)
-      go (abs x e) c d = absurd (omega arith)
-      go (both k x y e f) c d = absurd (omega arith)
-      go (branch x y e f g) c d = absurd (omega arith)
+is-keyed : (is : List ℕ) (k : ℕ) → OneOf is k → keyed is k ≡ true
+is-keyed [] k h = absurd h
+is-keyed (i ∷ []) k h = rw (eq-eqb k i h)
+is-keyed (i ∷ j ∷ is) k (inl h) = rw (eq-eqb k i h)
+is-keyed (i ∷ j ∷ is) k (inr h) = go (eqb k i) (is-keyed (j ∷ is) k h)
+  where
+    go : (b : Bool) → keyed (j ∷ is) k ≡ true → (b || keyed (j ∷ is) k) ≡ true
+    go true e = refl
+    go false e = e
 
-  pub is-one : n ≡ 0 → p ≡ 1 → (k : One) × (e : Term) × (t ≡ one k e)
-  is-one a b = go t en ep
-    where
-      go : (u : Term) → n ≡ length (names u) → p ≡ length (parts u) → (k : One) × (e : Term) × (u ≡ one k e)
-      go (one k e) c d = (k, e, refl)
-      go (leaf k) c d = absurd (omega arith)
-      go (var x) c d = absurd (omega arith)
-      go (two k e f) c d = absurd (omega arith)
-      go (abs x e) c d = absurd (omega arith)
-      go (both k x y e f) c d = absurd (omega arith)
-      go (branch x y e f g) c d = absurd (omega arith)
+none : {P : Type 0} → _≡_ {A = Bool} false true → P
+none e = absurd (let z : _≡_ {A = ℕ} 0 1 = cc in omega arith)
 
-  pub is-two : n ≡ 0 → (p ≡ 0 → ⊥) → (p ≡ 1 → ⊥) → (k : Two) × (e : Term) × (f : Term) × (t ≡ two k e f)
-  is-two a b b′ = go t en ep
-    where
-      go : (u : Term) → n ≡ length (names u) → p ≡ length (parts u) → (k : Two) × (e : Term) × (f : Term) × (u ≡ two k e f)
-      go (two k e f) c d = (k, e, f, refl)
-      go (leaf k) c d = absurd (b d)
-      go (var x) c d = absurd (omega arith)
-      go (one k e) c d = absurd (b′ d)
-      go (abs x e) c d = absurd (omega arith)
-      go (both k x y e f) c d = absurd (omega arith)
-      go (branch x y e f g) c d = absurd (omega arith)
+abbrev pub leafTags : List ℕ
+leafTags = 2 ∷ 10 ∷ []
 
-  pub is-abs : n ≡ 1 → (p ≡ 0 → ⊥) → (x : Name) × (e : Term) × (t ≡ abs x e)
-  is-abs a b = go t en ep
-    where
-      go : (u : Term) → n ≡ length (names u) → p ≡ length (parts u) → (x : Name) × (e : Term) × (u ≡ abs x e)
-      go (abs x e) c d = (x, e, refl)
-      go (leaf k) c d = absurd (omega arith)
-      go (var x) c d = absurd (b d)
-      go (one k e) c d = absurd (omega arith)
-      go (two k e f) c d = absurd (omega arith)
-      go (both k x y e f) c d = absurd (omega arith)
-      go (branch x y e f g) c d = absurd (omega arith)
+abbrev pub twoTags : List ℕ
+twoTags = 3 ∷ 6 ∷ 16 ∷ []
 
-  pub is-both : n ≡ 2 → p ≡ 2 → (k : Both) × (x : Name) × (y : Name) × (e : Term) × (f : Term) × (t ≡ both k x y e f)
-  is-both a b = go t en ep
-    where
-      go : (u : Term) → n ≡ length (names u) → p ≡ length (parts u) → (k : Both) × (x : Name) × (y : Name) × (e : Term) × (f : Term) × (u ≡ both k x y e f)
-      go (both k x y e f) c d = (k, x, y, e, f, refl)
-      go (leaf k) c d = absurd (omega arith)
-      go (var x) c d = absurd (omega arith)
-      go (one k e) c d = absurd (omega arith)
-      go (two k e f) c d = absurd (omega arith)
-      go (abs x e) c d = absurd (omega arith)
-      go (branch x y e f g) c d = absurd (omega arith)
+abbrev pub bothTags : List ℕ
+bothTags = 4 ∷ 17 ∷ []
 
-  pub is-branch : n ≡ 2 → (p ≡ 2 → ⊥) → (x : Name) × (y : Name) × (e : Term) × (f : Term) × (g : Term) × (t ≡ branch x y e f g)
-  is-branch a b = go t en ep
+-- the tag is none of those
+abbrev pub Rest : ℕ → Type 0
+Rest k = ((((Unit {0} × (k ≡ 1 → ⊥)) × (OneOf leafTags k → ⊥)) × (OneOf twoTags k → ⊥)) × (k ≡ 5 → ⊥)) × (OneOf bothTags k → ⊥)
+
+module _ (t : Term) (k : ℕ) (is : k ≡ tag t) where
+  told : (ks : List ℕ) → OneOf ks k → keyed ks (tag t) ≡ true
+  told ks h = ap (keyed ks) (sym is) ∙ is-keyed ks k h
+
+  pub is-var : k ≡ 1 → (x : Name) × (t ≡ var x)
+  is-var h = go t (told (1 ∷ []) h)
     where
-      go : (u : Term) → n ≡ length (names u) → p ≡ length (parts u) → (x : Name) × (y : Name) × (e : Term) × (f : Term) × (g : Term) × (u ≡ branch x y e f g)
-      go (branch x y e f g) c d = (x, y, e, f, g, refl)
-      go (leaf k) c d = absurd (omega arith)
-      go (var x) c d = absurd (omega arith)
-      go (one k e) c d = absurd (omega arith)
-      go (two k e f) c d = absurd (omega arith)
-      go (abs x e) c d = absurd (omega arith)
-      go (both k x y e f) c d = absurd (b d)
+      go : (u : Term) → keyed (1 ∷ []) (tag u) ≡ true → (x : Name) × (u ≡ var x)
+      go (var x) e = (x, refl)
+      go (leaf unit) e = none e
+      go (leaf trivial) e = none e
+      go (one injectLeft a) e = none e
+      go (one injectRight a) e = none e
+      go (one fst a) e = none e
+      go (one snd a) e = none e
+      go (one abort a) e = none e
+      go (one promote a) e = none e
+      go (one derelict a) e = none e
+      go (two pair a b) e = none e
+      go (two app a b) e = none e
+      go (two discard a b) e = none e
+      go (abs x a) e = none e
+      go (both letPair x y a b) e = none e
+      go (both copy x y a b) e = none e
+      go (branch x y a b c) e = none e
+
+  pub is-leaf : OneOf leafTags k → (i : Leaf) × (t ≡ leaf i)
+  is-leaf h = go t (told leafTags h)
+    where
+      go : (u : Term) → keyed leafTags (tag u) ≡ true → (i : Leaf) × (u ≡ leaf i)
+      go (var x) e = none e
+      go (leaf i) e = (i, refl)
+      go (one injectLeft a) e = none e
+      go (one injectRight a) e = none e
+      go (one fst a) e = none e
+      go (one snd a) e = none e
+      go (one abort a) e = none e
+      go (one promote a) e = none e
+      go (one derelict a) e = none e
+      go (two pair a b) e = none e
+      go (two app a b) e = none e
+      go (two discard a b) e = none e
+      go (abs x a) e = none e
+      go (both letPair x y a b) e = none e
+      go (both copy x y a b) e = none e
+      go (branch x y a b c) e = none e
+
+  pub is-two : OneOf twoTags k → (i : Two) × (e : Term) × (f : Term) × (t ≡ two i e f)
+  is-two h = go t (told twoTags h)
+    where
+      go : (u : Term) → keyed twoTags (tag u) ≡ true → (i : Two) × (e : Term) × (f : Term) × (u ≡ two i e f)
+      go (var x) e = none e
+      go (leaf unit) e = none e
+      go (leaf trivial) e = none e
+      go (one injectLeft a) e = none e
+      go (one injectRight a) e = none e
+      go (one fst a) e = none e
+      go (one snd a) e = none e
+      go (one abort a) e = none e
+      go (one promote a) e = none e
+      go (one derelict a) e = none e
+      go (two i a b) e = (i, a, b, refl)
+      go (abs x a) e = none e
+      go (both letPair x y a b) e = none e
+      go (both copy x y a b) e = none e
+      go (branch x y a b c) e = none e
+
+  pub is-abs : k ≡ 5 → (x : Name) × (e : Term) × (t ≡ abs x e)
+  is-abs h = go t (told (5 ∷ []) h)
+    where
+      go : (u : Term) → keyed (5 ∷ []) (tag u) ≡ true → (x : Name) × (e : Term) × (u ≡ abs x e)
+      go (var x) e = none e
+      go (leaf unit) e = none e
+      go (leaf trivial) e = none e
+      go (one injectLeft a) e = none e
+      go (one injectRight a) e = none e
+      go (one fst a) e = none e
+      go (one snd a) e = none e
+      go (one abort a) e = none e
+      go (one promote a) e = none e
+      go (one derelict a) e = none e
+      go (two pair a b) e = none e
+      go (two app a b) e = none e
+      go (two discard a b) e = none e
+      go (abs x a) e = (x, a, refl)
+      go (both letPair x y a b) e = none e
+      go (both copy x y a b) e = none e
+      go (branch x y a b c) e = none e
+
+  pub is-both : OneOf bothTags k → (i : Both) × (x : Name) × (y : Name) × (e : Term) × (f : Term) × (t ≡ both i x y e f)
+  is-both h = go t (told bothTags h)
+    where
+      go : (u : Term) → keyed bothTags (tag u) ≡ true → (i : Both) × (x : Name) × (y : Name) × (e : Term) × (f : Term) × (u ≡ both i x y e f)
+      go (var x) e = none e
+      go (leaf unit) e = none e
+      go (leaf trivial) e = none e
+      go (one injectLeft a) e = none e
+      go (one injectRight a) e = none e
+      go (one fst a) e = none e
+      go (one snd a) e = none e
+      go (one abort a) e = none e
+      go (one promote a) e = none e
+      go (one derelict a) e = none e
+      go (two pair a b) e = none e
+      go (two app a b) e = none e
+      go (two discard a b) e = none e
+      go (abs x a) e = none e
+      go (both i x y a b) e = (i, x, y, a, b, refl)
+      go (branch x y a b c) e = none e
+
+  module _ (rest : Rest k) where
+    pub is-one : (k < 9) ⊎ ((10 ≤ k) × (k < 16)) → (i : One) × (e : Term) × (t ≡ one i e)
+    is-one h = go t is h
+      where
+        go : (u : Term) → k ≡ tag u → (k < 9) ⊎ ((10 ≤ k) × (k < 16)) → (i : One) × (e : Term) × (u ≡ one i e)
+        go (one i a) e r = (i, a, refl)
+        go (var x) e r = absurd (rest .0 .0 .0 .0 .1 e)
+        go (leaf unit) e r = absurd (rest .0 .0 .0 .1 (inl e))
+        go (leaf trivial) e r = absurd (rest .0 .0 .0 .1 (inr e))
+        go (two pair a b) e r = absurd (rest .0 .0 .1 (inl e))
+        go (two app a b) e r = absurd (rest .0 .0 .1 (inr (inl e)))
+        go (two discard a b) e r = absurd (rest .0 .0 .1 (inr (inr e)))
+        go (abs x a) e r = absurd (rest .0 .1 e)
+        go (both letPair x y a b) e r = absurd (rest .1 (inl e))
+        go (both copy x y a b) e r = absurd (rest .1 (inr e))
+        go (branch x y a b c) e (inl r) = absurd (omega arith)
+        go (branch x y a b c) e (inr r) = absurd (omega arith)
+
+    pub is-branch : (k < 1) ⊎ ((9 ≤ k) × (k < 10)) ⊎ (16 ≤ k) → (x : Name) × (y : Name) × (e : Term) × (f : Term) × (g : Term) × (t ≡ branch x y e f g)
+    is-branch h = go t is (between h)
+      where
+        between : (k < 1) ⊎ ((9 ≤ k) × (k < 10)) ⊎ (16 ≤ k) → (6 < k) → (k < 9) ⊎ ((10 ≤ k) × (k < 16)) → ⊥
+        between (inl r) m (inl q) = omega arith
+        between (inl r) m (inr q) = omega arith
+        between (inr (inl r)) m (inl q) = omega arith
+        between (inr (inl r)) m (inr q) = omega arith
+        between (inr (inr r)) m (inl q) = omega arith
+        between (inr (inr r)) m (inr q) = omega arith
+
+        go : (u : Term) → k ≡ tag u → ((6 < k) → (k < 9) ⊎ ((10 ≤ k) × (k < 16)) → ⊥) → (x : Name) × (y : Name) × (e : Term) × (f : Term) × (g : Term) × (u ≡ branch x y e f g)
+        go (branch x y a b c) e r = (x, y, a, b, c, refl)
+        go (var x) e r = absurd (rest .0 .0 .0 .0 .1 e)
+        go (leaf unit) e r = absurd (rest .0 .0 .0 .1 (inl e))
+        go (leaf trivial) e r = absurd (rest .0 .0 .0 .1 (inr e))
+        go (one injectLeft a) e r = absurd (r (omega arith) (inl (omega arith)))
+        go (one injectRight a) e r = absurd (r (omega arith) (inl (omega arith)))
+        go (one fst a) e r = absurd (r (omega arith) (inr (omega arith, omega arith)))
+        go (one snd a) e r = absurd (r (omega arith) (inr (omega arith, omega arith)))
+        go (one abort a) e r = absurd (r (omega arith) (inr (omega arith, omega arith)))
+        go (one promote a) e r = absurd (r (omega arith) (inr (omega arith, omega arith)))
+        go (one derelict a) e r = absurd (r (omega arith) (inr (omega arith, omega arith)))
+        go (two pair a b) e r = absurd (rest .0 .0 .1 (inl e))
+        go (two app a b) e r = absurd (rest .0 .0 .1 (inr (inl e)))
+        go (two discard a b) e r = absurd (rest .0 .0 .1 (inr (inr e)))
+        go (abs x a) e r = absurd (rest .0 .1 e)
+        go (both letPair x y a b) e r = absurd (rest .1 (inl e))
+        go (both copy x y a b) e r = absurd (rest .1 (inr e))

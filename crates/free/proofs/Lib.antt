@@ -1,16 +1,15 @@
 -- What the proofs of several functions use.
 mod Orders
-mod Heldness
+mod Comparing
+mod Scanning
 mod Slots
 mod Opening
+mod States
 mod Meeting
-mod Pushing
-mod Shapes
 mod Inverts
+mod Passing
 mod Moves
-mod Covering
 mod Gathers
-mod Unders
 mod Listing
 mod Wholes
 mod Calling

@@ -1,5 +1,5 @@
 -- A row opened at a slot: a turn of the loop that moves its entries up, and the names that the row holds then. Assumes nothing.
-use Prim.Native.Nat.{ℕ, zero, suc, _+_, _-_, _<_, _≤_}
+use Prim.Native.Nat.{ℕ, suc, _+_, _-_, _<_, _≤_}
 use mathlib.Core.Path.{_≡_, refl, sym, ap, _∙_}
 use mathlib.Core.Logic.{⊎-elim}
 use mathlib.Core.List.{List, [], _∷_, _++_}
@@ -8,7 +8,7 @@ use native.Mathlib.Omega.{arith}
 use lib.Dec.{ltb}
 use borrow.Author.Tests.{ltb-true, ltb-false}
 use mathlib.Core.Bool.{Bool, true, false}
-use lib.ListN.{length, getD, set, take, drop, length-set, length-append, length-take, length-drop, List·getD-append}
+use lib.ListN.{length, getD, set, take, drop, length-set, length-append, length-drop, List·getD-append}
 use lib.Seq.{getD-set-same, getD-set-other, getD-take, getD-drop, getD-append-add, length-take-le}
 use Rattle.rules.specs.Basic.{Bytes}
 use Rattle.rules.specs.Name.{Name}
@@ -21,9 +21,10 @@ pub record Moved (row₀ row : List ℕ) (n j : ℕ) : Type 0 where
   pub long : length row ≡ length row₀
   pub below : (k : ℕ) → k < j → getD row k 0 ≡ getD row₀ k 0
   pub above : (k : ℕ) → j ≤ k → k < n → getD row (k + 1) 0 ≡ getD row₀ k 0
+  pub beyond : (k : ℕ) → n < k → getD row k 0 ≡ getD row₀ k 0
 
 pub moved-none : (row : List ℕ) (n : ℕ) → Moved row row n n
-moved-none row n = record { long = refl; below = λ k h. refl; above = λ k h l. absurd (omega arith) }
+moved-none row n = record { long = refl; below = λ k h. refl; above = λ k h l. absurd (omega arith); beyond = λ k h. refl }
 
 module _ (row₀ row : List ℕ) (n i j : ℕ) (m : Moved row₀ row n j) where
   pub moved-more : i < j → j ≤ n → n < length row₀ → Moved row₀ (set row j (getD row (j - 1) 0)) n (j - 1)
@@ -32,6 +33,7 @@ module _ (row₀ row : List ℕ) (n i j : ℕ) (m : Moved row₀ row n j) where
         long = length-set row j _ ∙ m .long;
         below = λ k b. getD-set-other row j k _ 0 (λ e. omega arith) ∙ m .below k (omega arith);
         above = λ k a b. ⊎-elim (λ e. last k e) (λ e. getD-set-other row j (k + 1) _ 0 (λ q. omega arith) ∙ m .above k (omega arith) b) (eq-or-lt-of-le a);
+        beyond = λ k b. getD-set-other row j k _ 0 (λ e. omega arith) ∙ m .beyond k b;
       }
     where
       last : (k : ℕ) → j - 1 ≡ k → getD (set row j (getD row (j - 1) 0)) (k + 1) 0 ≡ getD row₀ k 0
@@ -39,12 +41,13 @@ module _ (row₀ row : List ℕ) (n i j : ℕ) (m : Moved row₀ row n j) where
           let q : k + 1 ≡ j = omega arith in
           ap (λ z. getD (set row j (getD row (j - 1) 0)) z 0) q ∙ getD-set-same row j _ 0 (omega (arith, m .long)) ∙ m .below (j - 1) (omega arith) ∙ ap (λ z. getD row₀ z 0) e
 
-  pub moved-all : i ≤ j → j ≤ i → i < length row₀ → (p : ℕ) → Opened row₀ (set row i p) n i p
-  moved-all h l r p =
+  pub moved-all : i ≤ j → j ≤ i → i ≤ n → i < length row₀ → (p : ℕ) → Opened row₀ (set row i p) n i p
+  moved-all h l m′ r p =
       record {
         below = λ k b. getD-set-other row i k p 0 (λ e. omega arith) ∙ m .below k (omega arith);
         here = getD-set-same row i p 0 (omega (arith, m .long));
         above = λ k a b. getD-set-other row i (k + 1) p 0 (λ e. omega arith) ∙ m .above k (omega arith) b;
+        beyond = λ k b. getD-set-other row i k p 0 (λ e. omega arith) ∙ m .beyond k b;
       }
 
 -- ---- the names of an opened row

@@ -1,34 +1,36 @@
 -- The walk over a whole term starts with no binder passed and no name found, and ends with the free names. Assumes nothing.
-use Prim.Native.Nat.{ℕ, _+_, _-_, _*_, _<_, _≤_}
-use mathlib.Core.Path.{_≡_, refl, sym, ap, _∙_}
-use mathlib.Core.List.{List, [], _++_}
+use Prim.Native.Nat.{ℕ, _-_, _≤_}
+use mathlib.Core.Path.{_≡_, refl, ap, _∙_}
+use mathlib.Core.List.{List, []}
 use native.Mathlib.Nat.{not-suc-le-zero}
 use native.Mathlib.Omega.{arith}
 use lib.ListN.{length, replicate}
 use lib.Seq.{sets}
 use Rattle.rules.specs.Basic.{Bytes}
-use Rattle.rules.specs.Name.{Name, encodeNames}
-use Rattle.rules.specs.Term.{Term, encode, nodes}
+use Rattle.rules.specs.Name.{encodeNames}
+use Rattle.rules.specs.Term.{Term}
 use Rattle.rules.specs.Free.{free}
 use Rattle.laws.specs.FreeSize.{free-size}
 use Rattle.runs.specs.Wrote.{Wrote}
 use Rattle.runs.specs.Writing.{filled-up, wrote-length}
 use Rattle.walk.proofs.Terms.{whole}
 use Rattle.free.specs.declared.Gathered.{Gathered}
-use Rattle.free.specs.Gather.{gather, gather-free}
-use Rattle.free.specs.Rows.{Held, Writes}
+use Rattle.free.specs.Gather.{gather-free}
+use Rattle.free.specs.Rows.{Held, Passed, Writes}
 use Rattle.free.specs.Walk.{Task, Done}
 use Rattle.free.specs.Whole.{Lists, Listed}
 
 none-held : (s : Bytes) (row : List ℕ) → Held s row 0 []
 none-held s row = record { many = refl; room = omega arith; each = λ i h. absurd (not-suc-le-zero h) }
 
-pub starts : {s out : Bytes} {t : Term} {binders row : List ℕ} → Lists s out t → length binders ≡ 1024 → length row ≡ 512 → Task s 0 binders 0 row 0 t [] []
-starts {s} {out} {t} {binders} {row} w a b =
+none-passed : (s : Bytes) (row : List ℕ) → Passed s row 1024 []
+none-passed s row = record { many = omega arith; each = λ i h. absurd (not-suc-le-zero h) }
+
+pub starts : {s out : Bytes} {t : Term} {row : List ℕ} → Lists s out t → length row ≡ 1088 → Task s 0 row 1024 0 t [] []
+starts {s} {out} {t} {row} w a =
     record {
       term = whole t s (w .bytes);
-      state = record { passed = none-held s binders; found = none-held s row; ordered = tt; short = omega (arith, w .short) };
-      deep = omega (arith, w .few);
+      state = record { passed = none-passed s row; found = none-held s row; ordered = tt; short = omega (arith, w .short); long = omega arith };
       room = omega (arith, w .few);
     }
 
@@ -36,7 +38,7 @@ module _ {s out : Bytes} {t : Term} (w : Lists s out t) where
   fits : length (encodeNames (free t)) ≤ length out
   fits = omega (arith, free-size t, w .short, ap length (w .bytes), w .room)
 
-  pub gathered : {binders row : List ℕ} {r : Gathered} → Done s 0 binders 0 row 0 t [] [] r → Writes s row (r .count) out (free t)
+  pub gathered : {row : List ℕ} {r : Gathered} → Done s 0 row 1024 0 t [] [] r → Writes s row (r .count) out (free t)
   gathered {row = row} {r = r} z = record { held = rw (gather-free t) at (z .state .found); room = fits }
 
   module _ {out₁ : Bytes} {p : ℕ} (x : Wrote out 0 (encodeNames (free t)) out₁ p) where

@@ -1,25 +1,24 @@
 -- Free names in one walk from the left: what is met is put into one ordered list, unless a binder passed on the way covers it.
 -- It gathers the free names: both lists are ordered, and their members are the same. Assumes nothing.
-use Prim.Native.Nat.{ℕ}
 use mathlib.Core.Path.{_≡_, refl, sym, ap, _∙_}
 use mathlib.Core.Bool.{Bool, true, false, not, _&&_, _||_}
 use mathlib.Core.List.{List, [], _∷_}
-use Rattle.rules.specs.Basic.{if_then_else_, _‥_}
+use Rattle.rules.specs.Basic.{if_then_else_}
 use Rattle.rules.specs.Name.{Name, same}
 use Rattle.rules.specs.Term.{Term, var, leaf, one, two, abs, both, branch}
 use Rattle.rules.specs.Free.{insert, union, without, free}
 use Rattle.free.specs.Ordered.{same-eq, elem, Ordered, by-members}
-use Rattle.free.specs.Members.{or-false, or-swap, elem-insert, elem-union, elem-without, ordered-insert, ordered-free}
+use Rattle.free.specs.Members.{or-false, elem-insert, elem-union, elem-without, ordered-insert, ordered-free}
 
--- the names of t that are free and not among the binders passed, the outermost first, put into a list
+-- the names of t that are free and not among the binders passed, the nearest first, put into a list
 unfoldable pub gather : (passed : List Name) → Term → List Name → List Name
 gather ns (var x) l = if elem x ns then l else insert x l
 gather ns (leaf k) l = l
 gather ns (one k e) l = gather ns e l
 gather ns (two k a b) l = gather ns b (gather ns a l)
-gather ns (abs x e) l = gather (ns ‥ x ∷ []) e l
-gather ns (both k x y e b) l = gather (ns ‥ x ∷ y ∷ []) b (gather ns e l)
-gather ns (branch x y e a b) l = gather (ns ‥ y ∷ []) b (gather (ns ‥ x ∷ []) a (gather ns e l))
+gather ns (abs x e) l = gather (x ∷ ns) e l
+gather ns (both k x y e b) l = gather (y ∷ x ∷ ns) b (gather ns e l)
+gather ns (branch x y e a b) l = gather (y ∷ ns) b (gather (x ∷ ns) a (gather ns e l))
 
 pub ordered-gather : (ns : List Name) (t : Term) (l : List Name) → Ordered l → Ordered (gather ns t l)
 unfolding gather
@@ -79,18 +78,6 @@ bits-branch false false false y false true b = refl
 bits-branch false false false true false false b = refl
 bits-branch false false false false false false b = refl
 
--- one binder more, and two
-pub elem-one : (z : Name) (ns : List Name) (x : Name) → elem z (ns ‥ x ∷ []) ≡ (same z x || elem z ns)
-unfolding elem
-elem-one z [] x = refl
-elem-one z (y ∷ ns) x = ap (λ m. same z y || m) (elem-one z ns x) ∙ or-swap (same z y) (same z x) (elem z ns)
-
-elem-pair : (z : Name) (ns : List Name) (x y : Name) → elem z (ns ‥ x ∷ y ∷ []) ≡ (same z y || (same z x || elem z ns))
-unfolding elem
-elem-pair z [] x y = or-swap (same z x) (same z y) false
-elem-pair z (w ∷ ns) x y =
-    ap (λ m. same z w || m) (elem-pair z ns x y) ∙ or-swap (same z w) (same z y) (same z x || elem z ns) ∙ ap (λ m. same z y || m) (or-swap (same z w) (same z x) (elem z ns))
-
 pub elem-gather : (z : Name) (ns : List Name) (t : Term) (l : List Name) → elem z (gather ns t l) ≡ (elem z l || (not (elem z ns) && elem z (free t)))
 unfolding gather free elem
 elem-gather z ns (var x) l = go (elem x ns) refl (same z x) refl
@@ -110,19 +97,18 @@ elem-gather z ns (two k a b) l =
     elem-gather z ns b (gather ns a l) ∙ ap (λ m. m || (not (elem z ns) && elem z (free b))) (elem-gather z ns a l)
     ∙ bits-two (elem z l) (elem z ns) (elem z (free a)) (elem z (free b)) ∙ ap (λ m. elem z l || (not (elem z ns) && m)) (sym (elem-union z (free a) (free b)))
 elem-gather z ns (abs x e) l =
-    elem-gather z (ns ‥ x ∷ []) e l ∙ ap (λ m. elem z l || (not m && elem z (free e))) (elem-one z ns x) ∙ bits-abs (elem z l) (elem z ns) (same z x) (elem z (free e)) ∙ ap (λ m. elem z l || (not (elem z ns) && m)) (sym (elem-without z x (free e)))
+    elem-gather z (x ∷ ns) e l ∙ bits-abs (elem z l) (elem z ns) (same z x) (elem z (free e)) ∙ ap (λ m. elem z l || (not (elem z ns) && m)) (sym (elem-without z x (free e)))
 elem-gather z ns (both k x y e b) l =
-    elem-gather z (ns ‥ x ∷ y ∷ []) b (gather ns e l) ∙ ap (λ m. elem z (gather ns e l) || (not m && elem z (free b))) (elem-pair z ns x y)
+    elem-gather z (y ∷ x ∷ ns) b (gather ns e l)
     ∙ ap (λ m. m || (not (same z y || (same z x || elem z ns)) && elem z (free b))) (elem-gather z ns e l)
     ∙ bits-both (elem z l) (elem z ns) (same z x) (same z y) (elem z (free e)) (elem z (free b))
     ∙ ap (λ m. elem z l || (not (elem z ns) && (elem z (free e) || (not (same z x) && m)))) (sym (elem-without z y (free b)))
     ∙ ap (λ m. elem z l || (not (elem z ns) && (elem z (free e) || m))) (sym (elem-without z x (without y (free b))))
     ∙ ap (λ m. elem z l || (not (elem z ns) && m)) (sym (elem-union z (free e) (without x (without y (free b)))))
 elem-gather z ns (branch x y e a b) l =
-    elem-gather z (ns ‥ y ∷ []) b (gather (ns ‥ x ∷ []) a (gather ns e l))
-    ∙ ap (λ m. elem z (gather (ns ‥ x ∷ []) a (gather ns e l)) || (not m && elem z (free b))) (elem-one z ns y)
+    elem-gather z (y ∷ ns) b (gather (x ∷ ns) a (gather ns e l))
     ∙ ap (λ m. m || (not (same z y || elem z ns) && elem z (free b)))
-    (elem-gather z (ns ‥ x ∷ []) a (gather ns e l) ∙ ap (λ m. elem z (gather ns e l) || (not m && elem z (free a))) (elem-one z ns x) ∙ ap (λ m. m || (not (same z x || elem z ns) && elem z (free a))) (elem-gather z ns e l))
+    (elem-gather z (x ∷ ns) a (gather ns e l) ∙ ap (λ m. m || (not (same z x || elem z ns) && elem z (free a))) (elem-gather z ns e l))
     ∙ bits-branch (elem z l) (elem z ns) (same z x) (same z y) (elem z (free e)) (elem z (free a)) (elem z (free b))
     ∙ ap (λ m. elem z l || (not (elem z ns) && (elem z (free e) || m)))
     (ap (λ m. m || (not (same z y) && elem z (free b))) (sym (elem-without z x (free a))) ∙ ap (λ m. elem z (without x (free a)) || m) (sym (elem-without z y (free b)))

@@ -1,6 +1,7 @@
 pub mod Ordered
 pub mod Members
 pub mod Gather
+pub mod Ones
 pub mod Search
 pub mod Order
 pub mod Rows

@@ -11,7 +11,7 @@ use lib.ListN.{length, getD, take, drop}
 use Rattle.rules.specs.Name.{Name, same, before}
 use Rattle.rules.specs.Free.{insert}
 use Rattle.free.specs.Ordered.{same-eq, Trichotomy, is, below, above, compare, before-trans, elem, Below, Ordered, by-members}
-use Rattle.free.specs.Members.{elem-insert, ordered-insert, same-swap}
+use Rattle.free.specs.Members.{elem-insert, ordered-insert}
 
 true-false : {P : Type 0} → _≡_ {A = Bool} true false → P
 true-false q = absurd (let z : _≡_ {A = ℕ} 0 1 = cc in omega arith)
@@ -57,7 +57,7 @@ module _ (x : Name) (l : List Name) (o : Ordered l) (lo hi m : ℕ) (w : Between
 
 -- ---- a name that is there already
 
-elem-at : (x : Name) (l : List Name) (i : ℕ) → i < length l → same x (at l i) ≡ true → elem x l ≡ true
+pub elem-at : (x : Name) (l : List Name) (i : ℕ) → i < length l → same x (at l i) ≡ true → elem x l ≡ true
 unfolding elem
 elem-at x [] i h e = absurd (not-suc-le-zero h)
 elem-at x (y ∷ l) zero h e = rw e

@@ -1,19 +1,21 @@
-// Free names, gathered in one walk: the places of the binders passed and of the names found stand in two rows,
-// the names found in order.
+// Free names, gathered in one walk. The places that it keeps stand in one row: those of the names found from its start on, in order;
+// those of the binders passed up to BINDERS, the nearest first; behind them a guess for each kind of name where in the row it stands.
 ghost use mathlib.Core.Path.{_≡_};
-ghost use mathlib.Core.List.{List, [], _∷_};
-ghost use Rattle.rules.specs.Basic.{_‥_};
-ghost use Prim.Native.Nat.{_+_, _*_, _≤_, _<_};
-ghost use lib.ListN.{length};
-ghost use Rattle.rules.specs.Name.{Name, encodeNames};
+ghost use mathlib.Core.Bool.{true};
+ghost use mathlib.Core.List.{List};
+ghost use Rattle.rules.specs.Basic.{if_then_else_, _==_};
+ghost use Prim.Native.Nat.{_+_, _-_, _*_, _≤_, _<_};
+ghost use lib.ListN.{length, set};
+ghost use Rattle.rules.specs.Name.{Name, same as sameName, encodeNames};
 ghost use Rattle.runs.specs.Wrote.{Wrote};
 ghost use Rattle.rules.specs.Term.{Term};
 ghost use Rattle.rules.specs.Free.{insert};
 ghost use Rattle.walk.specs.Place.{NameAt, TermAt};
 ghost use Rattle.free.specs.Ordered.{elem};
 ghost use Rattle.free.specs.Order.{orderOf};
-ghost use Rattle.free.specs.Rows.{Held, Sought, Goes, Opened, Pushes, Writes};
-ghost use Rattle.free.specs.Walk.{Meets, Met, Shaped, Task, Done, Covers};
+ghost use Rattle.free.specs.Rows.{Passed, Scanned, Sought, Goes, Opened, Writes};
+ghost use Rattle.free.specs.Ones.{oneAfter, ones};
+ghost use Rattle.free.specs.Walk.{Live, Meets, Met, Task, Done};
 ghost use Rattle.free.specs.Whole.{Lists, Listed};
 ghost use Rattle.rules.specs.Limits.{limits};
 ghost use Rattle.rules.specs.Refusal.{answered};
@@ -21,6 +23,9 @@ ghost use Rattle.rules.specs.Calls.{freeVarsCall};
 use rules::Answer;
 use rules::OUTPUT_ROOM;
 use rules::Refusal;
+
+// Where the places of the binders end in the row.
+const BINDERS: usize = 1024;
 
 // How one name stands to another: before it, the same, or after it.
 pub enum Stands {
@@ -52,23 +57,40 @@ fn order(a: &[u8], b: &[u8]) -> Stands
     Stands::Same
 }
 
-// Whether the name at `at` is one of those whose places are the first n of the row; from the last one, which is the nearest binder.
-fn passed(s: &[u8], at: usize, row: &[u16], n: usize) -> bool
-    requires { ⌜ ((x : Name) × (xs : List Name) × NameAt (now s) at x × Held (now s) (now row) n xs) ⌝ }
-    ensures { λ r. ⌜ ((x : Name) → (xs : List Name) → NameAt (now (s .entry)) at x → Held (now (s .entry)) (now (row .entry)) n xs → r ≡ elem x xs) ⌝ }
+// Whether the names at two places are the same; the last byte tells most of them apart.
+fn same_at(s: &[u8], at: usize, other: usize) -> bool
+    requires { ⌜ ((x : Name) × (y : Name) × NameAt (now s) at x × NameAt (now s) other y) ⌝ }
+    ensures { λ r. ⌜ ((x : Name) → (y : Name) → NameAt (now (s .entry)) at x → NameAt (now (s .entry)) other y → r ≡ sameName x y) ⌝ }
 {
     let len = s[at] as usize;
+    if s[other] as usize != len {
+        return false;
+    }
+    let last = at + len;
+    let last_other = other + len;
+    if s[last] != s[last_other] {
+        return false;
+    }
     let from = at + 1;
     let end = from + len;
-    let mut i = n;
-    while 0 < i {
-        i -= 1;
+    walk::same_name(s, other, &s[from..end])
+}
+
+// Where in the row the nearest binder passed of the name at `at` stands; BINDERS if there is none.
+fn passed(s: &[u8], at: usize, row: &[u16], low: usize) -> usize
+    requires { ⌜ ((x : Name) × (xs : List Name) × NameAt (now s) at x × Passed (now s) (now row) low xs) ⌝ }
+    requires { ⌜ 1024 ≤ length (now row) ⌝ }
+    ensures { λ r. ⌜ ((x : Name) → (xs : List Name) → NameAt (now (s .entry)) at x → Passed (now (s .entry)) (now (row .entry)) low xs → Scanned x xs r) ⌝ }
+{
+    let mut i = low;
+    while i < BINDERS {
         let p = row[i] as usize;
-        if walk::same_name(s, p, &s[from..end]) {
-            return true;
+        if same_at(s, at, p) {
+            return i;
         }
+        i += 1;
     }
-    false
+    i
 }
 
 // Where a name goes in a row of names in order, and whether it is there already.
@@ -129,30 +151,110 @@ fn put_in(row: &mut [u16], n: usize, i: usize, p: u16)
     row[i] = p;
 }
 
-// Puts the name at `at` among the first n of the row, unless it is there, and says how many there are then.
-fn add(s: &[u8], at: usize, row: &mut [u16], n: usize) -> usize
-    requires { ⌜ ((x : Name) × (xs : List Name) × Sought (now s) at (now row) n x xs) ⌝ }
-    requires { ⌜ (n < length (now row)) × (length (now s) ≤ 65536) ⌝ }
-    ensures { λ r. ⌜ ((x : Name) → (xs : List Name) → Sought (now (s .entry)) at (now (row .entry)) n x xs → Held (now (s .entry)) (now (row .exit)) r (insert x xs)) ⌝ }
+// Whether an entry of the row is a name found or a binder passed.
+fn live(g: usize, low: usize, n: usize) -> bool
+    ensures { λ r. ⌜ Live g low n r ⌝ }
+{
+    if g < n {
+        return true;
+    }
+    if g < low {
+        return false;
+    }
+    if g < BINDERS {
+        return true;
+    }
+    false
+}
+
+// Whether the entry g of the row shows that meeting the name at `at` changes nothing: it is found already, or a binder passed is of that name.
+fn known(s: &[u8], at: usize, row: &[u16], low: usize, n: usize, g: usize) -> bool
+    requires { ⌜ ((x : Name) × (xs : List Name) × (l : List Name) × Meets (now s) at (now row) low n x xs l) ⌝ }
+    ensures { λ r. ⌜ ((x : Name) → (xs : List Name) → (l : List Name) → Meets (now (s .entry)) at (now (row .entry)) low n x xs l → r ≡ true → (if elem x xs then l else insert x l) ≡ l) ⌝ }
+{
+    if live(g, low, n) {
+        let p = row[g] as usize;
+        return same_at(s, at, p);
+    }
+    false
+}
+
+// The kind of the name at `at`, of 64.
+fn kind_of(s: &[u8], at: usize) -> usize
+    requires { ⌜ ((x : Name) × NameAt (now s) at x) ⌝ }
+    ensures { λ r. ⌜ r < 64 ⌝ }
+{
+    let len = s[at] as usize;
+    let last = at + len;
+    let middle = at + (len + 1) / 2;
+    (s[middle] as usize + s[last] as usize * 4 + len) % 64
+}
+
+// The name at `at`, of a variable: put into the row unless it is there already or a binder passed is of that name. Where it stands is kept as the guess.
+fn seek(s: &[u8], at: usize, row: &mut [u16], low: usize, n: usize, guess: usize) -> usize
+    requires { ⌜ ((x : Name) × (xs : List Name) × (l : List Name) × Meets (now s) at (now row) low n x xs l) ⌝ }
+    requires { ⌜ (1024 ≤ guess) × (guess < 1088) ⌝ }
+    ensures { λ r. ⌜ ((x : Name) → (xs : List Name) → (l : List Name) → Meets (now (s .entry)) at (now (row .entry)) low n x xs l → Met (now (s .entry)) (now (row .exit)) low n x xs l r) ⌝ }
 {
     let slot = slot_for(s, at, row, n);
+    let i = slot.at;
     if slot.there {
+        row[guess] = i as u16;
         return n;
     }
-    let i = slot.at;
+    let b = passed(s, at, row, low);
+    if b < BINDERS {
+        row[guess] = b as u16;
+        return n;
+    }
     put_in(row, n, i, at as u16);
+    row[guess] = i as u16;
     n + 1
 }
 
-// The name at `at`, of a variable: put into the row unless a binder passed is of that name.
-fn meet(s: &[u8], at: usize, binders: &[u16], depth: usize, row: &mut [u16], n: usize) -> usize
-    requires { ⌜ ((x : Name) × (xs : List Name) × (l : List Name) × Meets (now s) at (now binders) depth (now row) n x xs l) ⌝ }
-    ensures { λ r. ⌜ ((x : Name) → (xs : List Name) → (l : List Name) → Meets (now (s .entry)) at (now (binders .entry)) depth (now (row .entry)) n x xs l → Met (now (s .entry)) (now (row .exit)) n x xs l r) ⌝ }
+// The name at `at`, of a variable: the guess is tried first.
+fn meet(s: &[u8], at: usize, row: &mut [u16], low: usize, n: usize) -> usize
+    requires { ⌜ ((x : Name) × (xs : List Name) × (l : List Name) × Meets (now s) at (now row) low n x xs l) ⌝ }
+    ensures { λ r. ⌜ ((x : Name) → (xs : List Name) → (l : List Name) → Meets (now (s .entry)) at (now (row .entry)) low n x xs l → Met (now (s .entry)) (now (row .exit)) low n x xs l r) ⌝ }
 {
-    if passed(s, at, binders, depth) {
+    let guess = BINDERS + kind_of(s, at);
+    let g = row[guess] as usize;
+    if known(s, at, row, low, n, g) {
         return n;
     }
-    add(s, at, row, n)
+    seek(s, at, row, low, n, guess)
+}
+
+// Puts the place of a binder's name before those from low on, and says where it stands.
+fn push(row: &mut [u16], low: usize, at: usize) -> usize
+    requires { ⌜ (0 < low) × (low ≤ length (now row)) × (at < 65536) ⌝ }
+    ensures { λ r. ⌜ (r ≡ low - 1) × (now (row .exit) ≡ set (now (row .entry)) (low - 1) at) ⌝ }
+{
+    let to = low - 1;
+    row[to] = at as u16;
+    to
+}
+
+// The tags of nodes with one part and no names: a bit each.
+const ONES: usize = 63872;
+
+fn is_one(tag: usize) -> bool
+    requires { ⌜ tag < 32 ⌝ }
+    ensures { λ r. ⌜ r ≡ (oneAfter tag == 1) ⌝ }
+{
+    (ONES >> tag) % 2 == 1
+}
+
+// The place of the first node from `at` on that has not just one part: what lies between has no names.
+fn pass_ones(s: &[u8], at: usize) -> usize
+    requires { ⌜ ((t : Term) × TermAt (now s) at t) ⌝ }
+    ensures { λ r. ⌜ ((t : Term) → TermAt (now (s .entry)) at t → r ≡ at + ones t) ⌝ }
+{
+    let mut i = at;
+    while is_one(s[i] as usize) {
+        i += 1;
+    }
+    i
 }
 
 // Where a walk has come to, and how many names the row then holds.
@@ -161,130 +263,69 @@ pub struct Gathered {
     pub count: usize,
 }
 
-// Puts the place of a binder's name behind the first n of the row.
-fn push(s: &[u8], at: usize, row: &mut [u16], n: usize)
-    requires { ⌜ ((x : Name) × (xs : List Name) × Pushes (now s) at (now row) n x xs) ⌝ }
-    ensures { λ _. ⌜ ((x : Name) → (xs : List Name) → Pushes (now (s .entry)) at (now (row .entry)) n x xs → Held (now (s .entry)) (now (row .exit)) (n + 1) (xs ‥ x ∷ [])) ⌝ }
+// Puts the free names of the term at `at` into the row, but for those of the binders passed, which stand from low on.
+// It calls itself on each part but the last, which takes the node's place.
+fn gather(s: &[u8], at: usize, row: &mut [u16], low: usize, n: usize) -> Gathered
+    requires { ⌜ ((t : Term) × (xs : List Name) × (l : List Name) × Task (now s) at (now row) low n t xs l) ⌝ }
+    ensures { λ r. ⌜ ((t : Term) → (xs : List Name) → (l : List Name) → Task (now (s .entry)) at (now (row .entry)) low n t xs l → Done (now (s .entry)) at (now (row .exit)) low n t xs l r) ⌝ }
 {
-    row[n] = at as u16;
-}
-
-// A node: how many names and parts it has, where its second name stands, and where its parts start.
-pub struct Shape {
-    pub names: usize,
-    pub parts: usize,
-    pub second: usize,
-    pub start: usize,
-}
-
-fn shape_of(s: &[u8], at: usize) -> Shape
-    requires { ⌜ ((t : Term) × TermAt (now s) at t) ⌝ }
-    ensures { λ r. ⌜ ((t : Term) → TermAt (now (s .entry)) at t → Shaped at t r) ⌝ }
-{
-    let tag = s[at] as usize;
-    let names = walk::names_of(tag);
-    let parts = walk::parts_of(tag);
-    let first = at + 1;
-    if names == 0 {
-        return Shape {
-            names,
-            parts,
-            second: first,
-            start: first,
-        };
-    }
-    let second = walk::after_names(s, first, 1);
-    if names == 1 {
-        return Shape {
-            names,
-            parts,
-            second,
-            start: second,
-        };
-    }
-    let start = walk::after_names(s, second, 1);
-    Shape {
-        names,
-        parts,
-        second,
-        start,
-    }
-}
-
-// Puts the free names of the term at `at` into the row, but for those of the binders passed.
-fn gather(
-    s: &[u8],
-    at: usize,
-    binders: &mut [u16],
-    depth: usize,
-    row: &mut [u16],
-    n: usize,
-) -> Gathered
-    requires { ⌜ ((t : Term) × (xs : List Name) × (l : List Name) × Task (now s) at (now binders) depth (now row) n t xs l) ⌝ }
-    ensures { λ r. ⌜ ((t : Term) → (xs : List Name) → (l : List Name) → Task (now (s .entry)) at (now (binders .entry)) depth (now (row .entry)) n t xs l → Done (now (s .entry)) at (now (binders .exit)) depth (now (row .exit)) n t xs l r) ⌝ }
-{
-    let node = shape_of(s, at);
-    let names = node.names;
-    let parts = node.parts;
-    let start = node.start;
-    if parts == 0 {
-        if names == 0 {
-            return Gathered {
-                next: start,
-                count: n,
-            };
+    let mut i = at;
+    let mut b = low;
+    let mut k = n;
+    loop {
+        let first = i + 1;
+        match s[i] {
+            1 => {
+                let next = walk::after_names(s, first, 1);
+                let count = meet(s, first, row, b, k);
+                return Gathered { next, count };
+            }
+            2 | 10 => {
+                return Gathered {
+                    next: first,
+                    count: k,
+                };
+            }
+            7 | 8 | 11 | 12 | 13 | 14 | 15 => {
+                i = pass_ones(s, first);
+                continue;
+            }
+            3 | 6 | 16 => {
+                let a = gather(s, first, row, b, k);
+                i = a.next;
+                k = a.count;
+                continue;
+            }
+            5 => {
+                b = push(row, b, first);
+                i = walk::after_names(s, first, 1);
+                continue;
+            }
+            4 | 17 => {
+                let second = walk::after_names(s, first, 1);
+                let start = walk::after_names(s, second, 1);
+                let a = gather(s, start, row, b, k);
+                i = a.next;
+                k = a.count;
+                let c = push(row, b, first);
+                b = push(row, c, second);
+                continue;
+            }
+            _ => {
+                let second = walk::after_names(s, first, 1);
+                let start = walk::after_names(s, second, 1);
+                let a = gather(s, start, row, b, k);
+                let left = a.next;
+                let found = a.count;
+                let c = push(row, b, first);
+                let d = gather(s, left, row, c, found);
+                i = d.next;
+                k = d.count;
+                b = push(row, b, second);
+                continue;
+            }
         }
-        let k = meet(s, at + 1, binders, depth, row, n);
-        return Gathered {
-            next: start,
-            count: k,
-        };
     }
-    if names == 0 {
-        let a = gather(s, start, binders, depth, row, n);
-        if parts == 1 {
-            return a;
-        }
-        let m = a.next;
-        let k = a.count;
-        return gather(s, m, binders, depth, row, k);
-    }
-    if names == 1 {
-        push(s, at + 1, binders, depth);
-        return gather(s, start, binders, depth + 1, row, n);
-    }
-    let second = node.second;
-    gather_under(s, at, second, start, parts, binders, depth, row, n)
-}
-
-// The same of a node of two names: both cover its second part, or each covers one of two.
-fn gather_under(
-    s: &[u8],
-    at: usize,
-    second: usize,
-    start: usize,
-    parts: usize,
-    binders: &mut [u16],
-    depth: usize,
-    row: &mut [u16],
-    n: usize,
-) -> Gathered
-    requires { ⌜ ((t : Term) × (xs : List Name) × (l : List Name) × Covers (now s) at second start parts (now binders) depth (now row) n t xs l) ⌝ }
-    ensures { λ r. ⌜ ((t : Term) → (xs : List Name) → (l : List Name) → Covers (now (s .entry)) at second start parts (now (binders .entry)) depth (now (row .entry)) n t xs l → Done (now (s .entry)) at (now (binders .exit)) depth (now (row .exit)) n t xs l r) ⌝ }
-{
-    let a = gather(s, start, binders, depth, row, n);
-    let m = a.next;
-    let k = a.count;
-    push(s, at + 1, binders, depth);
-    if parts == 2 {
-        push(s, second, binders, depth + 1);
-        return gather(s, m, binders, depth + 2, row, k);
-    }
-    let b = gather(s, m, binders, depth + 1, row, k);
-    let i = b.next;
-    let j = b.count;
-    push(s, second, binders, depth);
-    gather(s, i, binders, depth + 1, row, j)
 }
 
 // Writes the names whose places are the first n of the row, each with its length byte.
@@ -308,9 +349,8 @@ fn list_names(term: &[u8], out: &mut [u8]) -> usize
     requires { ⌜ ((t : Term) × Lists (now term) (now out) t) ⌝ }
     ensures { λ r. ⌜ ((t : Term) → Lists (now (term .entry)) (now (out .entry)) t → Listed t (now (out .entry)) (now (out .exit)) r) ⌝ }
 {
-    let mut binders = [0u16; 1024];
-    let mut row = [0u16; 512];
-    let found = gather(term, 0, &mut binders, 0, &mut row, 0);
+    let mut row = [0u16; 1088];
+    let found = gather(term, 0, &mut row, BINDERS, 0);
     let end = write_names(term, &row, found.count, out);
     runs::clear(out, end);
     end

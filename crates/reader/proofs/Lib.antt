@@ -6,6 +6,7 @@ pub mod Depth
 pub mod Node
 pub mod Rest
 pub mod Turn
+pub mod Ones
 pub mod Whole
 pub mod Bare
 pub mod Marks

@@ -54,6 +54,9 @@ module _ {H A : Type 0} (F : Layout H A) (most : ℕ) (s : Bytes) where
   unfolding Rest
   rest-is c u at = refl
 
+  pub rest-same : {c d u v : ℕ} → c ≡ d → u ≡ v → (at : ℕ) → Rest c u at ≡ Rest d v at
+  rest-same {c} {d} {u} {v} e i at = ap (λ k. Rest k u at) e ∙ ap (λ k. Rest d k at) i
+
   pub rest-one : (u at : ℕ) → view (node F most most u at (drop at s)) ≡ Rest 1 u at
   unfolding Rest times
   rest-one u at = sym (view-made (node F most most u at (drop at s)) (λ x. more 0 x tt))

@@ -17,9 +17,12 @@ use Rattle.laws.specs.Same.{both-true}
 use Rattle.reader.specs.Form.{layoutOf, Term, Formula}
 use Rattle.reader.specs.Classes.{Letters, Classes, codeAt}
 
--- digits, letters and `_`
+-- digits, letters and `_` put into a table
+unfoldable pub lettersIn : Bytes → Bytes
+lettersIn t = sets (sets (sets (sets t 48 (replicate 10 1)) 65 (replicate 26 3)) 95 (replicate 1 3)) 97 (replicate 26 3)
+
 unfoldable pub letterTable : Bytes
-letterTable = sets (sets (sets (sets (replicate 256 0) 48 (replicate 10 1)) 65 (replicate 26 3)) 95 (replicate 1 3)) 97 (replicate 26 3)
+letterTable = lettersIn (replicate 256 0)
 
 abbrev pub termTags : Bytes
 termTags = 0 ∷ 12 ∷ 4 ∷ 68 ∷ 84 ∷ 44 ∷ 68 ∷ 36 ∷ 36 ∷ 116 ∷ 4 ∷ 36 ∷ 36 ∷ 36 ∷ 36 ∷ 36 ∷ 68 ∷ 84 ∷ []
@@ -70,13 +73,13 @@ module _ (t : Bytes) (size : length t ≡ 256) (leading : every leadTest 0 t ≡
   tested F tagged = record { letters = tested-letters; tagged = λ b h. eqb-true _ _ (at (tagTest F) t tagged b (rw size h)) }
 
 pub letter-classes : Letters letterTable
-unfolding letterTable leads follows
+unfolding letterTable lettersIn leads follows
 letter-classes = tested-letters letterTable refl refl refl
 
 pub term-classes : Classes (layoutOf Term) (sets letterTable 0 termTags)
-unfolding letterTable leads follows
+unfolding letterTable lettersIn leads follows
 term-classes = tested (sets letterTable 0 termTags) refl refl refl terms refl
 
 pub formula-classes : Classes (layoutOf Formula) (sets letterTable 0 formulaTags)
-unfolding letterTable leads follows
+unfolding letterTable lettersIn leads follows
 formula-classes = tested (sets letterTable 0 formulaTags) refl refl refl formulas refl

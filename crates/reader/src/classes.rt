@@ -1,5 +1,6 @@
 // What a byte may be, by a table: 1 that it follows in a name, 2 that it leads one, 4 that it is a tag, 8 for each of its names, 32 for each of its parts.
 ghost use mathlib.Core.Path.{_≡_};
+ghost use mathlib.Core.Bool.{true};
 ghost use Prim.Native.Nat.{_-_, _≤_};
 ghost use lib.ListN.{length, replicate};
 ghost use lib.Seq.{sets};
@@ -7,7 +8,7 @@ ghost use Rattle.rules.specs.Layout.{headAt};
 ghost use Rattle.rules.specs.Name.{leads as leadsName, follows as followsName};
 ghost use Rattle.reader.specs.Form.{layoutOf};
 ghost use Rattle.reader.specs.Classes.{Letters, Classes, codeAt};
-ghost use Rattle.reader.specs.Tables.{letterTable};
+ghost use Rattle.reader.specs.Tables.{lettersIn, letterTable};
 use crate::Form;
 
 const DIGIT: u8 = 1;
@@ -83,21 +84,28 @@ fn put_tags(t: &mut [u8; 256], tags: &[u8])
 }
 
 // The bytes of names: digits, letters and `_`.
+fn put_letters(t: &mut [u8; 256])
+    ensures { λ _. ⌜ now (t .exit) ≡ lettersIn (now (t .entry)) ⌝ }
+{
+    mark(t, 48, 58, DIGIT);
+    mark(t, 65, 91, LETTER);
+    mark(t, 95, 96, LETTER);
+    mark(t, 97, 123, LETTER);
+}
+
 pub fn letter_table() -> [u8; 256]
     ensures { λ r. ⌜ r ≡ letterTable ⌝ }
 {
     let mut t = [0u8; 256];
-    mark(&mut t, 48, 58, DIGIT);
-    mark(&mut t, 65, 91, LETTER);
-    mark(&mut t, 95, 96, LETTER);
-    mark(&mut t, 97, 123, LETTER);
+    put_letters(&mut t);
     t
 }
 
 pub fn table_of(form: Form) -> [u8; 256]
     ensures { λ r. ⌜ Classes (layoutOf form) r ⌝ }
 {
-    let mut t = letter_table();
+    let mut t = [0u8; 256];
+    put_letters(&mut t);
     match form {
         Form::Term => {
             put_tags(&mut t, &TERM_TAGS);
@@ -129,4 +137,12 @@ pub fn code_of(form: Form, t: &[u8; 256], b: u8) -> usize
     ensures { λ r. ⌜ r ≡ codeAt (layoutOf form) (headAt (layoutOf form .heads) b) ⌝ }
 {
     (t[b as usize] / 4) as usize
+}
+
+// Whether a tag has one part and no names.
+pub fn is_one(form: Form, t: &[u8; 256], b: u8) -> bool
+    requires { ⌜ Classes (layoutOf form) (now t) ⌝ }
+    ensures { λ r. ⌜ (r ≡ true → codeAt (layoutOf form) (headAt (layoutOf form .heads) b) ≡ 9) ⌝ }
+{
+    t[b as usize] == TAG + PART
 }

@@ -4,10 +4,6 @@ use Rattle.free.proofs.Calling.{short-buffer, bad-term, lists, good-ter
 use borrow.Author.Needs.{needs}
 use Rattle.free.proofs.free_vars.Statement.{statement}
 use Rattle.free.proofs.free_vars.Tie as tie
-use Rattle.free.proofs.free_vars.Reads as reads
-use Rattle.free.proofs.free_vars.Lts as lts
-use Rattle.free.proofs.list_names.Reads as list-names-reads
-use Rattle.reader.proofs.term_input.Reads as term-input-reads
 
 returns : tie.Need-returns
 returns c = short-buffer (c .before .before .before .args .term .now) (c .before .before .before .args .out .now) (c .if1 .taken)

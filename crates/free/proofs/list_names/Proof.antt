@@ -6,42 +6,33 @@ use Rattle.free.proofs.Wholes.{starts, gathered, within, listed}
 use borrow.Author.Needs.{needs}
 use Rattle.free.proofs.list_names.Statement.{statement}
 use Rattle.free.proofs.list_names.Tie as tie
-use Rattle.free.proofs.list_names.Reads as reads
-use Rattle.free.proofs.list_names.Lts as lts
-use Rattle.free.proofs.gather.Reads as gather-reads
-use Rattle.free.proofs.write_names.Reads as write-names-reads
-use Rattle.runs.proofs.clear.Reads as clear-reads
 
 slice-aggregate-gather : tie.Need-slice-aggregate-gather
 slice-aggregate-gather c = search needs
 
-slice-aggregate-gather-2 : tie.Need-slice-aggregate-gather-2
-slice-aggregate-gather-2 c = search needs
-
 gather-requires : tie.Need-gather-requires
-gather-requires c κs = let (t, w) = c .before .before .before .before .pre in (t, [], [], starts w refl refl)
+gather-requires c κs = let (t, w) = c .before .before .before .pre in (t, [], [], starts w refl)
 
 slice-aggregate-write-names : tie.Need-slice-aggregate-write-names
 slice-aggregate-write-names c = search needs
 
 write-names-requires : tie.Need-write-names-requires
-write-names-requires c κs = let (t, w) = c .before .before .before .before .before .before .before .before .before .pre in (free t, gathered w (c .before .before .before .before .gather .ensures t [] [] (starts w refl refl)))
+write-names-requires c κs = let (t, w) = c .before .before .before .before .before .before .before .pre in (free t, gathered w (c .before .before .before .gather .ensures t [] [] (starts w refl)))
 
 clear-requires : tie.Need-clear-requires
-clear-requires c κs = let (t, w) = c .before .before .before .before .before .before .before .before .before .before .before .before .before .pre in within w (c .before .before .before .write-names .ensures (free t) (gathered w (c .before .before .before .before .before .before .before .before .gather .ensures t [] [] (starts w refl refl))))
+clear-requires c κs = let (t, w) = c .before .before .before .before .before .before .before .before .before .before .before .pre in within w (c .before .before .before .write-names .ensures (free t) (gathered w (c .before .before .before .before .before .before .before .gather .ensures t [] [] (starts w refl))))
 
 same-length : tie.Need-same-length
 same-length c = search needs
 
 returns : tie.Need-returns
-returns c = λ t w. listed w (c .before .before .before .before .before .before .write-names .ensures (free t) (gathered w (c .before .before .before .before .before .before .before .before .before .before .before .gather .ensures t [] [] (starts w refl refl)))) (c .before .before .clear .ensures)
+returns c = λ t w. listed w (c .before .before .before .before .before .before .write-names .ensures (free t) (gathered w (c .before .before .before .before .before .before .before .before .before .before .gather .ensures t [] [] (starts w refl)))) (c .before .before .clear .ensures)
 
 pub list-names-spec : {M : Type 1} → statement M
 list-names-spec =
     tie.close
     (tie.spec
     slice-aggregate-gather
-    slice-aggregate-gather-2
     gather-requires
     slice-aggregate-write-names
     write-names-requires

@@ -1,28 +1,56 @@
--- `free::meet` meets its contract, by what `passed` and `add` ensure. Assumes nothing.
-use mathlib.Core.Path.{_≡_, sym, _∙_}
-use Rattle.free.proofs.Meeting.{meet-passed, meet-new}
+-- `free::meet` meets its contract, by what `known` and `seek` ensure. Assumes nothing.
+use native.Mathlib.Omega.{arith}
+use Prim.Native.Nat.{_+_}
+use Rattle.free.proofs.Meeting.{met-kept}
 use borrow.Author.Needs.{needs}
 use Rattle.free.proofs.meet.Statement.{statement}
 use Rattle.free.proofs.meet.Tie as tie
-use Rattle.free.proofs.meet.Reads as reads
-use Rattle.free.proofs.meet.Lts as lts
-use Rattle.free.proofs.add.Reads as add-reads
-use Rattle.free.proofs.passed.Reads as passed-reads
 
-passed-requires : tie.Need-passed-requires
-passed-requires c κs = let (x, xs, l, w) = c .before .before .before .pre in (x, xs, w .name, w .state .passed)
+kind-of-requires : tie.Need-kind-of-requires
+kind-of-requires c κs = let (x, xs, l, w) = c .before .before .pre in (x, w .name)
 
-returns : tie.Need-returns
-returns c = λ x xs l w. meet-passed x xs l _ _ _ _ _ _ w (sym (c .before .passed .ensures x xs (w .name) (w .state .passed)) ∙ c .if1 .taken)
+add-guess : tie.Need-add-guess
+add-guess c = search needs
 
-add-requires : tie.Need-add-requires
-add-requires c κs = let (x, xs, l, w) = c .before .before .before .before .before .before .pre in ((x, l, record { name = w .name; held = w .state .found; ordered = w .state .ordered }), (w .room, w .state .short))
+mul-g : tie.Need-mul-g
+mul-g c = let (x, xs, l, w) = c .before .before .before .pre in omega (arith, w .state .long)
+
+slice-read-g : tie.Need-slice-read-g
+slice-read-g c = let (x, xs, l, w) = c .before .before .before .before .pre in omega (arith, w .state .long)
+
+cast-g : tie.Need-cast-g
+cast-g c = omega (arith, c .slice-known2 .given (1024 + c .before .kind-of .result))
+
+known-requires : tie.Need-known-requires
+known-requires c κs = search needs
 
 same-length : tie.Need-same-length
 same-length c = search needs
 
+returns : tie.Need-returns
+returns c = λ x xs l w. met-kept w (c .before .known .ensures x xs l w (c .if1 .taken))
+
+seek-requires : tie.Need-seek-requires
+seek-requires c κs = search needs
+
+same-length-2 : tie.Need-same-length-2
+same-length-2 c = search needs
+
 returns-2 : tie.Need-returns-2
-returns-2 c = λ x xs l w. meet-new x xs l _ _ _ _ _ _ _ _ w (sym (c .before .before .before .before .before .passed .ensures x xs (w .name) (w .state .passed)) ∙ c .before .before .before .before .if1 .left) (c .before .before .add .ensures x l (record { name = w .name; held = w .state .found; ordered = w .state .ordered }))
+returns-2 c = search needs
 
 pub meet-spec : {M : Type 1} → statement M
-meet-spec = tie.close (tie.spec passed-requires returns add-requires same-length returns-2)
+meet-spec =
+    tie.close
+    (tie.spec
+    kind-of-requires
+    add-guess
+    mul-g
+    slice-read-g
+    cast-g
+    known-requires
+    same-length
+    returns
+    seek-requires
+    same-length-2
+    returns-2)

@@ -7,8 +7,6 @@ use Rattle.free.specs.Order.{orderOf}
 use Rattle.free.proofs.Orders.{order-longer, order-less, order-more, order-next, order-begins, order-same}
 use Rattle.free.proofs.order.Statement.{statement}
 use Rattle.free.proofs.order.Tie as tie
-use Rattle.free.proofs.order.Reads as reads
-use Rattle.free.proofs.order.Lts as lts
 
 abbrev Inv-loop : tie.InvT-loop
 Inv-loop a b i₀ i = (i ≤ length a) × (orderOf a b ≡ orderOf (drop i a) (drop i b))

@@ -8,9 +8,6 @@ use Rattle.walk.proofs.Names.{name-room}
 use Rattle.free.proofs.Slots.{Aims, aims-all, middle, aims-right, aims-left, hits, misses}
 use Rattle.free.proofs.slot_for.Statement.{statement}
 use Rattle.free.proofs.slot_for.Tie as tie
-use Rattle.free.proofs.slot_for.Reads as reads
-use Rattle.free.proofs.slot_for.Lts as lts
-use Rattle.free.proofs.order.Reads as order-reads
 
 abbrev Inv-loop : tie.InvT-loop
 Inv-loop s at row n len from end lo₀ hi₀ lo hi = (lo ≤ hi) × (hi ≤ n) × Aims s at row n lo hi

@@ -7,9 +7,6 @@ use Rattle.walk.proofs.Names.{name-room}
 use Rattle.free.proofs.Listing.{Listed, listed-none, entry-name, entry-room, listed-more, listed-all}
 use Rattle.free.proofs.write_names.Statement.{statement}
 use Rattle.free.proofs.write_names.Tie as tie
-use Rattle.free.proofs.write_names.Reads as reads
-use Rattle.free.proofs.write_names.Lts as lts
-use Rattle.runs.proofs.copy.Reads as copy-reads
 
 abbrev Inv-loop : tie.InvT-loop
 Inv-loop s row n out₀ i₀ to₀ out i to = (i ≤ n) × (length out ≡ length out₀) × Listed s row n out₀ out i to

@@ -1,11 +1,11 @@
 -- `classes::table_of` meets its contract: the tables are right. Assumes nothing.
-use Rattle.reader.specs.Tables.{term-classes, formula-classes}
+use Rattle.reader.specs.Tables.{letterTable, term-classes, formula-classes}
 use borrow.Author.Needs.{needs}
 use Rattle.reader.proofs.classes.table_of.Statement.{statement}
 use Rattle.reader.proofs.classes.table_of.Tie as tie
 
-letter-table-requires : tie.Need-letter-table-requires
-letter-table-requires c κs = search needs
+put-letters-requires : tie.Need-put-letters-requires
+put-letters-requires c κs = search needs
 
 enum-told : tie.Need-enum-told
 enum-told c = search needs
@@ -26,16 +26,18 @@ put-tags-requires-2 : tie.Need-put-tags-requires-2
 put-tags-requires-2 c κs = search needs
 
 returns : tie.Need-returns
-returns c = rw (c .before .before .before .enum-told .given .1, c .put-tags .ensures, c .before .before .before .before .before .letter-table .ensures) term-classes
+unfolding letterTable
+returns c = rw (c .before .before .before .enum-told .given .1, c .put-tags .ensures, c .before .before .before .before .before .put-letters .ensures) term-classes
 
 returns-2 : tie.Need-returns-2
-returns-2 c = rw (c .before .before .before .enum-told2 .given .1, c .put-tags2 .ensures, c .before .before .before .before .before .letter-table .ensures) formula-classes
+unfolding letterTable
+returns-2 c = rw (c .before .before .before .enum-told2 .given .1, c .put-tags2 .ensures, c .before .before .before .before .before .put-letters .ensures) formula-classes
 
 pub table-of-spec : {M : Type 1} → statement M
 table-of-spec =
     tie.close
     (tie.spec
-    letter-table-requires
+    put-letters-requires
     enum-told
     slice-aggregate-put-tags
     put-tags-requires
