@@ -29,7 +29,7 @@ fill-tag (inSource k x y b) t = refl
 fill-tag (inBody x y e) t = refl
 fill-tag (inScrutinee x y l r) t = refl
 
-fill-names : (f : Hole) (t : Term) → names (fill f t) ≡ holeNames f
+pub fill-names : (f : Hole) (t : Term) → names (fill f t) ≡ holeNames f
 fill-names (inOne k) t = refl
 fill-names (inLeft k b) t = refl
 fill-names (inRight k a) t = refl
@@ -38,7 +38,7 @@ fill-names (inSource k x y b) t = refl
 fill-names (inBody x y e) t = refl
 fill-names (inScrutinee x y l r) t = refl
 
-fill-parts : (f : Hole) (t : Term) → parts (fill f t) ≡ passed f ++ t ∷ ahead f
+pub fill-parts : (f : Hole) (t : Term) → parts (fill f t) ≡ passed f ++ t ∷ ahead f
 fill-parts (inOne k) t = refl
 fill-parts (inLeft k b) t = refl
 fill-parts (inRight k a) t = refl

@@ -2,3 +2,4 @@
 pub mod Holes
 pub mod Contexts
 pub mod Onward
+mod Sights

@@ -1,2 +1,4 @@
 pub mod Hole
 pub mod Quiet
+pub mod Seen
+pub mod Standing

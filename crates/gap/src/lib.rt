@@ -1,4 +1,5 @@
-// Reduction that goes on where it stands: the moves of the search.
-pub fn nothing() -> usize {
-    0
-}
+// Reduction that goes on where it stands. What the search for a redex has passed stands in the output, what it has yet to see at the end
+// of the scratch: a contraction moves neither, and the search never goes back further than to the node above.
+pub mod moves;
+pub mod place;
+pub mod sight;
