@@ -3,3 +3,7 @@ pub mod Holes
 pub mod Contexts
 pub mod Onward
 mod Sights
+mod Buffers
+mod Entries
+mod Passes
+mod Tops

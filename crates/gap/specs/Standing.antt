@@ -28,6 +28,7 @@ pub record Sides (l r : Bytes) (c : Above) (out scratch stack : List ℕ) (o i d
   pub left : take o out ≡ l
   pub long : o ≡ length l
   pub right : drop i scratch ≡ r
+  pub inside : i ≤ length scratch
   pub held : Held stack c
   pub depth : d ≡ length c
   pub room : outputRoom limits ≤ length out
