@@ -1,6 +1,6 @@
 -- A hole: the bytes and the nodes around it, when its node is a redex, and that a step in it is a step of the node.
 -- By cases on the shapes of nodes. Assumes nothing.
-use Prim.Native.Nat.{ℕ, suc, _+_}
+use Prim.Native.Nat.{ℕ, suc, _+_, _<_}
 use mathlib.Core.Path.{_≡_, refl, sym, ap, _∙_}
 use mathlib.Core.Bool.{Bool, true, false}
 use mathlib.Core.Option.{Option}
@@ -8,7 +8,7 @@ use mathlib.Core.List.{List, [], _∷_, _++_, append-assoc, append-nil}
 use native.Mathlib.Omega.{arith}
 use lib.ListN.{length, length-append}
 use Rattle.rules.specs.Name.{Name, encodeNames}
-use Rattle.rules.specs.Term.{Term, one, two, abs, both, branch, One, inl, inr, fst, snd, abort, promote, derelict, Two, pair, app, discard, Both, letPair, copy, encode, size, nodes, parts}
+use Rattle.rules.specs.Term.{Term, one, two, abs, both, branch, One, inl, inr, fst, snd, abort, promote, derelict, Two, pair, app, discard, Both, letPair, copy, oneTag, encode, size, nodes, parts}
 use Rattle.rules.specs.declared.Rule.{Rule}
 use Rattle.rules.specs.Step.{Contraction, no, by, contract, Stepped, normal, found, here, orElse, inPart, nameBytes, step}
 use Rattle.walk.specs.Node.{tag, names, head, encodeAll}
@@ -75,6 +75,29 @@ fill-nodes (inAbs x) t = omega arith
 fill-nodes (inSource k x y b) t = omega arith
 fill-nodes (inBody x y e) t = omega arith
 fill-nodes (inScrutinee x y l r) t = omega arith
+
+one-small : (k : One) → oneTag k < 18
+one-small inl = omega arith
+one-small inr = omega arith
+one-small fst = omega arith
+one-small snd = omega arith
+one-small abort = omega arith
+one-small promote = omega arith
+one-small derelict = omega arith
+
+pub hole-small : (f : Hole) → holeTag f < 18
+hole-small (inOne k) = one-small k
+hole-small (inLeft pair b) = omega arith
+hole-small (inLeft app b) = omega arith
+hole-small (inLeft discard b) = omega arith
+hole-small (inRight pair a) = omega arith
+hole-small (inRight app a) = omega arith
+hole-small (inRight discard a) = omega arith
+hole-small (inAbs x) = omega arith
+hole-small (inSource letPair x y b) = omega arith
+hole-small (inSource copy x y b) = omega arith
+hole-small (inBody x y e) = omega arith
+hole-small (inScrutinee x y l r) = omega arith
 
 -- ---- when the node is a redex
 

@@ -7,3 +7,4 @@ mod Buffers
 mod Entries
 mod Passes
 mod Tops
+mod Ups

@@ -64,7 +64,7 @@ follows (inBody x y b) t e = last (λ z. absurd (not-empty b [] z)) (λ a s. rw 
 follows (inScrutinee x y l m) t e = last (λ _. refl) (λ a s. rw (asleep (inScrutinee x y l m) t a, s))
 
 -- how many parts follow the first
-pub ahead-count : (f : Hole) → passed f ≡ [] → length (ahead f) ≡ partsAfter (holeTag f) - 1
+pub ahead-count : (f : Hole) → passed f ≡ [] → partsAfter (holeTag f) ≡ suc (length (ahead f))
 ahead-count (inOne inl) e = refl
 ahead-count (inOne inr) e = refl
 ahead-count (inOne fst) e = refl

@@ -66,7 +66,7 @@ module _ {w : Term} {out scratch stack : List ℕ} {o i d : ℕ} (k : Top w out 
   t = k .part
 
   -- the bytes on the left
-  left-long : o ≡ length (lefts c) + (length (before f) + size t)
+  pub left-long : o ≡ length (lefts c) + (length (before f) + size t)
   left-long =
       omega (arith, k .sides .long, length-append (lefts c ++ before f) (encode t), length-append (lefts c) (before f))
 
@@ -83,21 +83,27 @@ module _ {w : Term} {out scratch stack : List ℕ} {o i d : ℕ} (k : Top w out 
         fits-few w (k .fits),
       )
 
-  pub in-stack : d - 1 < length stack
-  in-stack = omega (arith, k .sides .depth, depth-below c (fill f t), ap nodes (k .is), fits-few w (k .fits), k .sides .stack-room)
+  pub depth-few : d ≤ 512
+  depth-few = omega (arith, k .sides .depth, depth-below c (fill f t), ap nodes (k .is), fits-few w (k .fits))
 
-  marked : getD stack (d - 1) 0 ≡ mark (length (passed f)) (length (lefts c))
+  pub in-stack : d - 1 < length stack
+  in-stack = omega (arith, depth-few, k .sides .depth, k .sides .stack-room)
+
+  pub marked : getD stack (d - 1) 0 ≡ mark (length (passed f)) (length (lefts c))
   marked =
       let e : d - 1 ≡ length c = omega (arith, k .sides .depth) in
       ap (λ (j : ℕ). getD stack j 0) e ∙ k .sides .held .0
 
   -- a mark that is no place is that of a second part
-  pub at-the-second : getD stack (d - 1) 0 ≡ 8192 → Stage f → ahead f ≡ []
-  at-the-second e (at-first p) =
+  pub not-first : getD stack (d - 1) 0 ≡ 8192 → passed f ≡ [] → ⊥
+  not-first e p =
       let m : getD stack (d - 1) 0 ≡ length (lefts c) = marked ∙ ap (λ (z : List Term). mark (length z) (length (lefts c))) p in
-      absurd (omega (arith, m, e, left-long, sides-short))
+      omega (arith, m, e, left-long, sides-short)
+
+  pub at-the-second : getD stack (d - 1) 0 ≡ 8192 → Stage f → ahead f ≡ []
+  at-the-second e (at-first p) = absurd (not-first e p)
   at-the-second e (at-second p a) = a
 
-  at-the-first : (getD stack (d - 1) 0 ≡ 8192 → ⊥) → Stage f → passed f ≡ []
+  pub at-the-first : (getD stack (d - 1) 0 ≡ 8192 → ⊥) → Stage f → passed f ≡ []
   at-the-first ne (at-first p) = p
   at-the-first ne (at-second p a) = absurd (ne (marked ∙ ap (λ (n : ℕ). mark n (length (lefts c))) p))
