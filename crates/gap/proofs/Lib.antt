@@ -8,3 +8,4 @@ mod Entries
 mod Passes
 mod Tops
 mod Ups
+mod Seeking

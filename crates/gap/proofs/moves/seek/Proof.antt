@@ -1,84 +1,70 @@
+-- `gap::moves::seek` meets its contract. The loop's invariant: the search stands where it is in the whole in which it began, or has come to the
+-- end. The measure is what it has yet to see. Assumes nothing.
+use Prim.Native.Nat.{_-_}
+use mathlib.Core.Path.{refl, _∙_}
+use native.Mathlib.Omega.{arith}
+use lib.ListN.{length}
+use borrow.Author.Needs.{needs}
+use Rattle.gap.proofs.Seeking.{Seeking, begins, since, stands-at, in-scratch, entering, passing, reducing, inside-past, behind-past, found, out-of}
 use Rattle.gap.proofs.moves.seek.Statement.{statement}
 use Rattle.gap.proofs.moves.seek.Tie as tie
-use Rattle.gap.proofs.moves.seek.Reads as reads
-use Rattle.gap.proofs.moves.seek.Lts as lts
-use Rattle.gap.proofs.moves.enter.Reads as enter-reads
-use Rattle.gap.proofs.moves.pass.Reads as pass-reads
-use Rattle.gap.proofs.sight.see.Reads as see-reads
 
 abbrev Inv-loop : tie.InvT-loop
-Inv-loop scratch at out₀ to stack₀ under place₀ out stack place = ?
+Inv-loop scratch at out₀ to stack₀ under place₀ out stack place = Seeking scratch out₀ stack₀ to at under out stack place
 
 abbrev μ-loop : tie.MeasureT-loop
-μ-loop scratch at out₀ to stack₀ under place₀ out stack place = ?
+μ-loop scratch at out₀ to stack₀ under place₀ out stack place = length scratch - place .i
 
--- src/moves.rt:115:5
 loop-holds : tie.Need-loop-holds Inv-loop μ-loop
-loop-holds c = ?
+loop-holds c = record { same-out = refl; same-stack = refl; carries = λ w s. begins s }
 
--- src/moves.rt:119:15
 see-requires : tie.Need-see-requires Inv-loop μ-loop
-see-requires c κs = ?
+see-requires c κs = let a = (c .before .before .before .before .before .pre) in let s = (c .before .loop) .inv .carries (a .0) (a .1) .goes ((c .loop-test) .taken) in (s .at, stands-at s)
 
--- src/moves.rt:121:17
 enum-told : tie.Need-enum-told Inv-loop μ-loop
-enum-told c = ?
+enum-told c = search needs
 
--- src/moves.rt:121:17
 same-length : tie.Need-same-length Inv-loop μ-loop
-same-length c = ?
+same-length c = (c .before .before .before .before .loop) .inv .same-out
 
--- src/moves.rt:121:17
 same-length-2 : tie.Need-same-length-2 Inv-loop μ-loop
-same-length-2 c = ?
+same-length-2 c = (c .before .before .before .before .loop) .inv .same-stack
 
--- src/moves.rt:121:17
 returns : tie.Need-returns Inv-loop μ-loop
-returns c = ?
+returns c = λ w a. found _ ((c .before .before .before .loop-test) .taken) (reducing ((c .before .before .before .before .loop) .inv .carries w a .goes ((c .before .before .before .loop-test) .taken)) ((c .before .before .see) .ensures) ((c .enum-told) .given .1))
 
--- src/moves.rt:123:26
 enum-known-start : tie.Need-enum-known-start Inv-loop μ-loop
-enum-known-start c = ?
+enum-known-start c = search needs
 
--- src/moves.rt:124:17
 enter-requires : tie.Need-enter-requires Inv-loop μ-loop
-enter-requires c κs = ?
+enter-requires c κs = let a = (c .before .before .before .before .before .before .before .before .before .before .before .pre) in (a .0, entering ((c .before .before .before .before .before .before .before .loop) .inv .carries (a .0) (a .1) .goes ((c .before .before .before .before .before .before .loop-test) .taken)) ((c .before .before .before .before .before .see) .ensures) _ ((c .before .before .before .start) .given .1))
 
--- src/moves.rt:115:5
 loop-less : tie.Need-loop-less Inv-loop μ-loop
-loop-less c = ?
+loop-less c = let a = (c .before .before .before .before .before .before .before .before .before .before .before .before .before .before .before .before .pre) in let s = (c .before .before .before .before .before .before .before .before .before .before .before .before .loop) .inv .carries (a .0) (a .1) .goes ((c .before .before .before .before .before .before .before .before .before .before .before .loop-test) .taken) in omega (arith, in-scratch s, inside-past s ((c .before .before .before .before .before .before .before .before .before .before .see) .ensures) _ ((c .before .before .before .before .before .before .before .before .start) .given .1), (c .before .before .before .before .enter) .ensures (a .0) (entering s ((c .before .before .before .before .before .before .before .before .before .before .see) .ensures) _ ((c .before .before .before .before .before .before .before .before .start) .given .1)) .past)
 
--- src/moves.rt:115:5
 loop-again : tie.Need-loop-again Inv-loop μ-loop
-loop-again c = ?
+loop-again c = record { same-out = (c .before .before .before .before .enter) .kept .1 .1 .1 .0 ∙ (c .before .before .before .before .before .before .before .before .before .before .before .before .loop) .inv .same-out; same-stack = (c .before .before .before .before .enter) .kept .1 .1 .1 .1 .1 .0 ∙ (c .before .before .before .before .before .before .before .before .before .before .before .before .loop) .inv .same-stack; carries = λ w a. since ((c .before .before .before .before .enter) .ensures w (entering ((c .before .before .before .before .before .before .before .before .before .before .before .before .loop) .inv .carries w a .goes ((c .before .before .before .before .before .before .before .before .before .before .before .loop-test) .taken)) ((c .before .before .before .before .before .before .before .before .before .before .see) .ensures) _ ((c .before .before .before .before .before .before .before .before .start) .given .1))) }
 
--- src/moves.rt:127:26
 enum-known-next : tie.Need-enum-known-next Inv-loop μ-loop
-enum-known-next c = ?
+enum-known-next c = search needs
 
--- src/moves.rt:128:17
 pass-requires : tie.Need-pass-requires Inv-loop μ-loop
-pass-requires c κs = ?
+pass-requires c κs = let a = (c .before .before .before .before .before .before .before .before .before .before .before .pre) in (a .0, passing ((c .before .before .before .before .before .before .before .loop) .inv .carries (a .0) (a .1) .goes ((c .before .before .before .before .before .before .loop-test) .taken)) ((c .before .before .before .before .before .see) .ensures) _ ((c .before .before .before .next) .given .1))
 
--- src/moves.rt:115:5
 loop-less-2 : tie.Need-loop-less-2 Inv-loop μ-loop
-loop-less-2 c = ?
+loop-less-2 c = let a = (c .before .before .before .before .before .before .before .before .before .before .before .before .before .before .before .before .pre) in let s = (c .before .before .before .before .before .before .before .before .before .before .before .before .loop) .inv .carries (a .0) (a .1) .goes ((c .before .before .before .before .before .before .before .before .before .before .before .loop-test) .taken) in omega (arith, in-scratch s, behind-past s ((c .before .before .before .before .before .before .before .before .before .before .see) .ensures) _ ((c .before .before .before .before .before .before .before .before .next) .given .1), (c .before .before .before .before .pass) .ensures (a .0) (passing s ((c .before .before .before .before .before .before .before .before .before .before .see) .ensures) _ ((c .before .before .before .before .before .before .before .before .next) .given .1)) .past)
 
--- src/moves.rt:115:5
 loop-again-2 : tie.Need-loop-again-2 Inv-loop μ-loop
-loop-again-2 c = ?
+loop-again-2 c = record { same-out = (c .before .before .before .before .pass) .kept .1 .1 .1 .0 ∙ (c .before .before .before .before .before .before .before .before .before .before .before .before .loop) .inv .same-out; same-stack = (c .before .before .before .before .pass) .kept .1 .1 .1 .1 .1 .0 ∙ (c .before .before .before .before .before .before .before .before .before .before .before .before .loop) .inv .same-stack; carries = λ w a. since ((c .before .before .before .before .pass) .ensures w (passing ((c .before .before .before .before .before .before .before .before .before .before .before .before .loop) .inv .carries w a .goes ((c .before .before .before .before .before .before .before .before .before .before .before .loop-test) .taken)) ((c .before .before .before .before .before .before .before .before .before .before .see) .ensures) _ ((c .before .before .before .before .before .before .before .before .next) .given .1))) }
 
--- src/moves.rt:98:1
 same-length-3 : tie.Need-same-length-3 Inv-loop μ-loop
-same-length-3 c = ?
+same-length-3 c = (c .before .loop) .inv .same-out
 
--- src/moves.rt:98:1
 same-length-4 : tie.Need-same-length-4 Inv-loop μ-loop
-same-length-4 c = ?
+same-length-4 c = (c .before .loop) .inv .same-stack
 
--- src/moves.rt:98:1
 returns-2 : tie.Need-returns-2 Inv-loop μ-loop
-returns-2 c = ?
+returns-2 c = λ w a. out-of _ ((c .loop-test) .left) ((c .before .loop) .inv .carries w a)
 
 pub seek-spec : {M : Type 1} → statement M
 seek-spec =
