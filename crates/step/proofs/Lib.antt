@@ -5,8 +5,9 @@ pub mod Seeks
 mod Searching
 mod Puts
 mod Turning
+pub mod Rows
 mod Standing
 mod Layouts
-mod Forms
+pub mod Forms
 mod Takings
 mod Spots

@@ -1,21 +1,17 @@
--- A redex where it stands: the bytes and nodes around it, and its parts, which follow the heads of the node and of its first part in a row.
--- Assumes nothing.
-use Prim.Native.Nat.{ℕ, suc, _+_, _-_, _<_, _≤_}
+-- A redex where it stands: the bytes and nodes around it, and its parts, which stand in a row. Assumes nothing.
+use Prim.Native.Nat.{ℕ, _+_, _-_, _≤_}
 use mathlib.Core.Path.{_≡_, refl, sym, ap, _∙_}
-use mathlib.Core.Bool.{Bool, true, false}
-use mathlib.Core.List.{List, [], _∷_, _++_, append-nil}
+use mathlib.Core.Bool.{true}
+use mathlib.Core.List.{[], _++_, append-nil}
 use native.Mathlib.Omega.{arith}
 use lib.ListN.{length, take, drop, length-append}
-use lib.Seq.{slice, take-at, drop-at}
+use lib.Seq.{slice, drop-at}
 use Rattle.rules.specs.Basic.{Bytes}
 use Rattle.rules.specs.Limits.{limits}
-use Rattle.rules.specs.Name.{Name, encodeName}
-use Rattle.rules.specs.Term.{Term, encode, nodes, size, parts, fits}
-use Rattle.rules.specs.Step.{nameBytes}
-use Rattle.walk.specs.Node.{head, encodeAll}
-use Rattle.walk.specs.Place.{TermAt, TermsAt, NameAt}
-use Rattle.walk.proofs.Names.{drop-app, long}
-use Rattle.walk.proofs.Terms.{apart-size, at-end, at-parts, first, others, unrolled}
+use Rattle.rules.specs.Term.{Term, encode, nodes, size, fits}
+use Rattle.walk.specs.Place.{TermAt}
+use Rattle.walk.proofs.Names.{drop-app}
+use Rattle.walk.proofs.Terms.{at-end}
 use Rattle.substitution.proofs.Writes.{slice-is}
 use Rattle.step.specs.Around.{Frame}
 use Rattle.step.specs.Made.{Between, Given, Keeping}
@@ -24,15 +20,7 @@ use Rattle.step.specs.Redex.{Redex}
 use Rattle.step.specs.declared.spans.Two.{Two}
 use Rattle.step.specs.declared.spans.Three.{Three}
 use Rattle.step.proofs.Puts.{within, fits-yes, whole-long}
-
--- the bytes of a name, and of a term, as a part of a slice
-pub name-part : (s : Bytes) (p q : ℕ) (x : Name) → NameAt s p x → q ≡ p + nameBytes x → take (q - (p + 1)) (drop (p + 1) s) ≡ x
-name-part s p q x w e =
-    let d : drop (p + 1) s ≡ x ++ w .rest = drop-app (length x ∷ []) _ s p (p + 1) (w .bytes) refl in
-    ap (λ (z : Bytes). take (q - (p + 1)) z) d ∙ take-at x (w .rest) (q - (p + 1)) (omega arith)
-
-pub term-part : (s : Bytes) (p q : ℕ) (u : Term) → TermAt s p u → q ≡ p + size u → take (q - p) (drop p s) ≡ encode u
-term-part s p q u w e = ap (λ (z : Bytes). take (q - p) z) (w .bytes) ∙ take-at (encode u) (w .rest) (q - p) (omega arith)
+use Rattle.step.proofs.Rows.{term-part, InTwo, InThree, a-at, b-at, first-at, second-at, third-at}
 
 module _ {src : Bytes} {n place : ℕ} {out : Bytes} {f : Term → Term} {t : Term} (j : Redex src n place out f t) where
   bytes : src ≡ j .frame .left ++ (encode t ++ j .frame .right)
@@ -108,24 +96,7 @@ module _ {src : Bytes} {n place : ℕ} {out : Bytes} {f : Term → Term} {t : Te
           room = j .room;
         }
 
-  -- ---- the parts in a row: those of the first part, then the others
-
-  pub row : (u : Term) (ts : List Term) → parts t ≡ u ∷ ts → (h h′ k : ℕ) → h ≡ place + length (head t) → h′ ≡ h + length (head u) → k ≡ length (parts u) + length ts → TermsAt src h′ k (parts u ++ ts)
-  row u ts e h h′ k eh eh′ ek =
-      unrolled src h (length (u ∷ ts)) u ts (rw e at (at-parts src place t redex-at h (length (parts t)) eh refl)) h′ k eh′ (ek ∙ omega arith)
-
--- a and b, and a, b and d, are the parts of t in a row, behind so many heads
-pub record InTwo (src : Bytes) (place at heads : ℕ) (t a b : Term) : Type 0 where
-  pub row : TermsAt src at 2 (a ∷ b ∷ [])
-  pub past : place ≤ at
-  pub ends : at + size a + size b ≡ place + size t
-  pub count : nodes t ≡ heads + (nodes a + nodes b)
-
-pub record InThree (src : Bytes) (place at heads : ℕ) (t a b d : Term) : Type 0 where
-  pub row : TermsAt src at 3 (a ∷ b ∷ d ∷ [])
-  pub past : place ≤ at
-  pub ends : at + size a + size b + size d ≡ place + size t
-  pub count : nodes t ≡ heads + (nodes a + nodes b + nodes d)
+-- ---- parts in a row
 
 module _ {src : Bytes} {n place : ℕ} {out : Bytes} {f : Term → Term} {t : Term} (j : Redex src n place out f t) where
   module _ {at heads : ℕ} {a b : Term} (i : InTwo src place at heads t a b) {r : Two} (m : MeasuredTwo at a b r) where
@@ -151,29 +122,23 @@ module _ {src : Bytes} {n place : ℕ} {out : Bytes} {f : Term → Term} {t : Te
     others-two : n - heads - r .a - r .b + nodes t ≡ n
     others-two = omega (arith, m .a-nodes, m .b-nodes, i .count, sizes j .nodes)
 
-    a-at : TermAt src at a
-    a-at = first src at 2 a (b ∷ []) (i .row)
-
-    b-at : TermAt src (r .second) b
-    b-at = first src (r .second) 1 b [] (others src at 2 a (b ∷ []) (i .row) (r .second) (m .second))
-
     pub around-two : Between src place (r .end) (n - heads - r .a - r .b) f
     around-two = between j (r .end) (n - heads - r .a - r .b) ends-two others-two
 
     pub a-given : Given (take (r .second - at) (drop at src)) (r .a) a
-    a-given = given j at (r .second) (r .a) a a-at (m .second) (m .a-nodes) (omega (arith, i .count))
+    a-given = given j at (r .second) (r .a) a (a-at i m) (m .second) (m .a-nodes) (omega (arith, i .count))
 
     pub b-given : Given (take (r .end - r .second) (drop (r .second) src)) (r .b) b
-    b-given = given j (r .second) (r .end) (r .b) b b-at (m .end) (m .b-nodes) (omega (arith, i .count))
+    b-given = given j (r .second) (r .end) (r .b) b (b-at i m) (m .end) (m .b-nodes) (omega (arith, i .count))
 
     pub a-kept : Keeping src place (r .end) (n - heads - r .a - r .b) at (r .second) (r .a) out f a
     a-kept =
-        keeping j at (r .second) (r .a) a a-at (m .second) (m .a-nodes) (omega (arith, i .count)) (r .end) (n - heads - r .a - r .b) ends-two others-two
+        keeping j at (r .second) (r .a) a (a-at i m) (m .second) (m .a-nodes) (omega (arith, i .count)) (r .end) (n - heads - r .a - r .b) ends-two others-two
         (omega (arith, i .ends, i .past))
 
     pub b-kept : Keeping src place (r .end) (n - heads - r .a - r .b) (r .second) (r .end) (r .b) out f b
     b-kept =
-        keeping j (r .second) (r .end) (r .b) b b-at (m .end) (m .b-nodes) (omega (arith, i .count)) (r .end) (n - heads - r .a - r .b) ends-two others-two
+        keeping j (r .second) (r .end) (r .b) b (b-at i m) (m .end) (m .b-nodes) (omega (arith, i .count)) (r .end) (n - heads - r .a - r .b) ends-two others-two
         (omega (arith, i .ends, i .past))
 
   module _ {at heads : ℕ} {a b d : Term} (i : InThree src place at heads t a b d) {r : Three} (m : MeasuredThree at a b d r) where
@@ -194,21 +159,16 @@ module _ {src : Bytes} {n place : ℕ} {out : Bytes} {f : Term → Term} {t : Te
           nodes = omega (arith, m .a-nodes, m .b-nodes, m .c-nodes, i .count, sizes j .nodes);
         }
 
-    later : TermsAt src (r .second) 2 (b ∷ d ∷ [])
-    later = others src at 3 a (b ∷ d ∷ []) (i .row) (r .second) (m .second)
-
     pub around-three : Between src place (r .end) (n - heads - r .a - r .b - r .c) f
     around-three =
         between j (r .end) (n - heads - r .a - r .b - r .c) (omega (arith, m .second, m .third, m .end, i .ends))
         (omega (arith, m .a-nodes, m .b-nodes, m .c-nodes, i .count, sizes j .nodes))
 
     pub first-given : Given (take (r .second - at) (drop at src)) (r .a) a
-    first-given = given j at (r .second) (r .a) a (first src at 3 a (b ∷ d ∷ []) (i .row)) (m .second) (m .a-nodes) (omega (arith, i .count))
+    first-given = given j at (r .second) (r .a) a (first-at i m) (m .second) (m .a-nodes) (omega (arith, i .count))
 
     pub second-given : Given (take (r .third - r .second) (drop (r .second) src)) (r .b) b
-    second-given = given j (r .second) (r .third) (r .b) b (first src (r .second) 2 b (d ∷ []) later) (m .third) (m .b-nodes) (omega (arith, i .count))
+    second-given = given j (r .second) (r .third) (r .b) b (second-at i m) (m .third) (m .b-nodes) (omega (arith, i .count))
 
     pub third-given : Given (take (r .end - r .third) (drop (r .third) src)) (r .c) d
-    third-given =
-        given j (r .third) (r .end) (r .c) d (first src (r .third) 1 d [] (others src (r .second) 2 b (d ∷ []) later (r .third) (m .third))) (m .end) (m .c-nodes)
-        (omega (arith, i .count))
+    third-given = given j (r .third) (r .end) (r .c) d (third-at i m) (m .end) (m .c-nodes) (omega (arith, i .count))
