@@ -6,6 +6,7 @@ mod Sights
 mod Buffers
 mod Entries
 mod Passes
+mod Marks
 mod Tops
 mod Ups
 mod Seeking

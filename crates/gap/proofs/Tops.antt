@@ -1,30 +1,20 @@
--- Up from a term that has no step, by the mark of the node above it: to its second part; or its other parts go over, and it has no step
--- either. Assumes nothing.
-use Prim.Native.Nat.{ℕ, suc, _+_, _-_, _≤_, _<_}
-use mathlib.Core.Path.{_≡_, refl, sym, subst, ap, _∙_}
-use mathlib.Core.Bool.{true, false}
-use mathlib.Core.List.{List, [], _∷_, _++_, append-assoc, append-nil}
+-- Behind a term that has no step: the nearest node above it; or none, and the whole has no step. Assumes nothing.
+use Prim.Native.Nat.{ℕ, _+_, _-_, _≤_, _<_}
+use mathlib.Core.Path.{_≡_, ap, _∙_}
+use mathlib.Core.Bool.{true}
+use mathlib.Core.List.{List, [], _∷_, _++_, append-assoc}
 use native.Mathlib.Omega.{arith}
-use lib.ListN.{length, take, drop, set, getD, length-append, length-set}
-use lib.Seq.{length-sets, getD-take, getD-at, slice}
-use Rattle.rules.specs.Basic.{Bytes}
+use lib.ListN.{length, getD, length-append}
 use Rattle.rules.specs.Limits.{limits}
 use Rattle.rules.specs.Term.{Term, encode, nodes, size, fits}
 use Rattle.rules.specs.Step.{normal, step}
-use Rattle.runs.specs.Wrote.{Wrote}
-use Rattle.runs.specs.Writing.{slice-is}
-use Rattle.walk.specs.Node.{encodeAll, partsAfter}
-use Rattle.walk.specs.Place.{TermsAt}
-use Rattle.walk.proofs.Names.{drop-app, long}
-use Rattle.walk.proofs.Terms.{Some, SkipIs}
-use Rattle.step.specs.Searched.{entersAfter}
-use Rattle.gap.specs.Hole.{Hole, fill, holeTag, holeNames, passed, ahead, before, behind, Above, plug, lefts, rights}
+use Rattle.walk.proofs.Names.{long}
+use Rattle.gap.specs.Hole.{Hole, fill, before, behind, Above, plug, lefts, rights}
 use Rattle.gap.specs.Quiet.{Entered, Asleep, Quiet}
-use Rattle.gap.specs.Standing.{mark, Held, Sides, Standing, Done, Ended, Goes}
-use Rattle.gap.proofs.Holes.{fill-encode}
+use Rattle.gap.specs.Standing.{Sides, Done, Ended}
 use Rattle.gap.proofs.Contexts.{plug-size, depth-below}
-use Rattle.gap.proofs.Onward.{Second, Follows, second, last, follows, ahead-count, Stage, at-first, at-second, stage, second-before, second-behind}
-use Rattle.gap.proofs.Buffers.{wrote-left, fits-few, held-set, held-below}
+use Rattle.gap.proofs.Buffers.{fits-few}
+use Rattle.gap.proofs.Marks.{Under}
 
 -- the nearest node above
 pub record Top (w : Term) (out scratch stack : List ℕ) (o i d : ℕ) : Type 0 where
@@ -66,7 +56,7 @@ module _ {w : Term} {out scratch stack : List ℕ} {o i d : ℕ} (k : Top w out 
   t = k .part
 
   -- the bytes on the left
-  pub left-long : o ≡ length (lefts c) + (length (before f) + size t)
+  left-long : o ≡ length (lefts c) + (length (before f) + size t)
   left-long =
       omega (arith, k .sides .long, length-append (lefts c ++ before f) (encode t), length-append (lefts c) (before f))
 
@@ -89,21 +79,13 @@ module _ {w : Term} {out scratch stack : List ℕ} {o i d : ℕ} (k : Top w out 
   pub in-stack : d - 1 < length stack
   in-stack = omega (arith, depth-few, k .sides .depth, k .sides .stack-room)
 
-  pub marked : getD stack (d - 1) 0 ≡ mark (length (passed f)) (length (lefts c))
-  marked =
+  pub under : Under f c (encode t) out stack o d
+  under =
       let e : d - 1 ≡ length c = omega (arith, k .sides .depth) in
-      ap (λ (j : ℕ). getD stack j 0) e ∙ k .sides .held .0
-
-  -- a mark that is no place is that of a second part
-  pub not-first : getD stack (d - 1) 0 ≡ 8192 → passed f ≡ [] → ⊥
-  not-first e p =
-      let m : getD stack (d - 1) 0 ≡ length (lefts c) = marked ∙ ap (λ (z : List Term). mark (length z) (length (lefts c))) p in
-      omega (arith, m, e, left-long, sides-short)
-
-  pub at-the-second : getD stack (d - 1) 0 ≡ 8192 → Stage f → ahead f ≡ []
-  at-the-second e (at-first p) = absurd (not-first e p)
-  at-the-second e (at-second p a) = a
-
-  pub at-the-first : (getD stack (d - 1) 0 ≡ 8192 → ⊥) → Stage f → passed f ≡ []
-  at-the-first ne (at-first p) = p
-  at-the-first ne (at-second p a) = absurd (ne (marked ∙ ap (λ (n : ℕ). mark n (length (lefts c))) p))
+      record {
+        left = k .sides .left ∙ append-assoc (lefts c) (before f) (encode t);
+        long = left-long;
+        short = omega (arith, sides-short);
+        room = k .sides .room;
+        marked = ap (λ (j : ℕ). getD stack j 0) e ∙ k .sides .held .0;
+      }

@@ -5,9 +5,8 @@ use mathlib.Core.Bool.{true, false}
 use mathlib.Core.List.{List, [], _∷_, _++_, append-assoc, append-nil}
 use native.Mathlib.Omega.{arith}
 use lib.ListN.{length, take, drop, set, getD, length-append, length-set}
-use lib.Seq.{length-sets, getD-take, getD-at, slice}
+use lib.Seq.{length-sets, slice}
 use Rattle.rules.specs.Basic.{Bytes}
-use Rattle.rules.specs.Name.{encodeNames}
 use Rattle.rules.specs.Term.{Term, encode, size}
 use Rattle.rules.specs.Step.{normal, step}
 use Rattle.runs.specs.Wrote.{Wrote}
@@ -17,13 +16,14 @@ use Rattle.walk.specs.Place.{TermsAt}
 use Rattle.walk.proofs.Names.{drop-app, long}
 use Rattle.walk.proofs.Terms.{Some, SkipIs}
 use Rattle.step.specs.Searched.{entersAfter}
-use Rattle.gap.specs.Hole.{Hole, fill, holeTag, holeNames, passed, ahead, before, behind, Above, plug, lefts, rights}
+use Rattle.gap.specs.Hole.{Hole, fill, holeTag, passed, ahead, before, behind, Above, plug, lefts, rights}
 use Rattle.gap.specs.Quiet.{Quiet}
 use Rattle.gap.specs.Standing.{mark, Standing, Done, Ended, Goes}
-use Rattle.gap.proofs.Holes.{fill-encode, hole-small}
-use Rattle.gap.proofs.Onward.{Second, Follows, second, last, follows, ahead-count, stage, second-before, second-behind}
+use Rattle.gap.proofs.Holes.{fill-encode}
+use Rattle.gap.proofs.Onward.{Second, Follows, second, last, follows, ahead-count, second-before, second-behind}
 use Rattle.gap.proofs.Buffers.{wrote-left, held-set}
-use Rattle.gap.proofs.Tops.{Top, left-long, sides-short, in-stack, marked, not-first, at-the-first, at-the-second}
+use Rattle.gap.proofs.Marks.{not-first, none-ahead, none-passed, tag-is}
+use Rattle.gap.proofs.Tops.{Top, sides-short, in-stack, under}
 
 module _ {w : Term} {out scratch stack : List ℕ} {o i d : ℕ} (k : Top w out scratch stack o i d) where
   abbrev f : Hole
@@ -81,40 +81,21 @@ module _ {w : Term} {out scratch stack : List ℕ} {o i d : ℕ} (k : Top w out 
   -- the hole is the second part
   pub from-second : getD stack (d - 1) 0 ≡ 8192 → Done w out scratch stack o i (d - 1)
   from-second e =
-      let a : ahead f ≡ [] = at-the-second k e (stage f) in
+      let a : ahead f ≡ [] = none-ahead (under k) e in
       let b : behind f ≡ [] = ap (λ (z : List Term). encodeAll z) a in
-      up (rests (λ x q. not-first k e q)) (subst (λ (z : Bytes). Wrote out o z out o) (sym b) (wrote-none out o)) (omega (arith, ap (λ (z : Bytes). length z) b))
+      up (rests (λ x q. not-first (under k) e q)) (subst (λ (z : Bytes). Wrote out o z out o) (sym b) (wrote-none out o)) (omega (arith, ap (λ (z : Bytes). length z) b))
 
   module _ (ne : getD stack (d - 1) 0 ≡ 8192 → ⊥) where
-    first : passed f ≡ []
-    first = at-the-first k ne (stage f)
-
-    pub started : getD stack (d - 1) 0 ≡ length (lefts c)
-    started = marked k ∙ ap (λ (z : List Term). mark (length z) (length (lefts c))) first
-
-    pub start-inside : getD stack (d - 1) 0 < length out
-    start-inside = omega (arith, started, left-long k, sides-short k, k .sides .room)
-
-    pub tag-is : getD out (getD stack (d - 1) 0) 0 ≡ holeTag f
-    tag-is =
-        let l : getD stack (d - 1) 0 < o = omega (arith, started, left-long k) in
-        sym (getD-take o out (getD stack (d - 1) 0) 0 l)
-        ∙ ap (λ (z : Bytes). getD z (getD stack (d - 1) 0) 0) (k .sides .left ∙ append-assoc (lefts c) (before f) (encode t))
-        ∙ getD-at (lefts c) (holeTag f) ((encodeNames (holeNames f) ++ encodeAll (passed f)) ++ encode t) 0 (getD stack (d - 1) 0) (sym started)
-
-    pub tag-small : getD out (getD stack (d - 1) 0) 0 < 18
-    tag-small = omega (arith, tag-is, hole-small f)
-
     module _ (n : ℕ) (en : n ≡ entersAfter (getD out (getD stack (d - 1) 0) 0)) where
       enters : n ≡ entersAfter (holeTag f)
-      enters = en ∙ ap (λ (j : ℕ). entersAfter j) tag-is
+      enters = en ∙ ap (λ (j : ℕ). entersAfter j) (tag-is (under k) ne)
 
       -- on to the second part
       pub to-second : n ≡ 2 → Standing w out scratch (set stack (d - 1) 8192) o i d
       to-second z = go (follows f t (k .enters))
         where
           go : Follows f t → Standing w out scratch (set stack (d - 1) 8192) o i d
-          go (last e l) = absurd (omega (arith, e first, enters, z))
+          go (last e l) = absurd (omega (arith, e (none-passed (under k) ne), enters, z))
           go (second g b e s) =
               let v = k .sides in
               let q : (lefts c ++ before f) ++ encode t ≡ lefts c ++ before g = append-assoc (lefts c) (before f) (encode t) ∙ ap (λ (y : Bytes). lefts c ++ y) (sym (second-before s)) in
@@ -141,7 +122,7 @@ module _ {w : Term} {out scratch stack : List ℕ} {o i d : ℕ} (k : Top w out 
       -- or the others go over
       module _ (p : ℕ) (ep : p ≡ partsAfter (getD out (getD stack (d - 1) 0) 0)) where
         count : p ≡ suc (length (ahead f))
-        count = ep ∙ ap (λ (j : ℕ). partsAfter j) tag-is ∙ ahead-count f first
+        count = ep ∙ ap (λ (j : ℕ). partsAfter j) (tag-is (under k) ne) ∙ ahead-count f (none-passed (under k) ne)
 
         pub some-part : 1 ≤ p
         some-part = omega (arith, count)

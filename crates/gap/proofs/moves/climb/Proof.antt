@@ -4,8 +4,9 @@ use Prim.Native.Nat.{_-_}
 use mathlib.Core.Path.{refl, _∙_}
 use native.Mathlib.Omega.{arith}
 use lib.ListN.{length-set}
-use Rattle.gap.proofs.Tops.{top, ended, depth-few, in-stack}
-use Rattle.gap.proofs.Ups.{Climbing, goes-on, goes-out, from-second, start-inside, tag-small, to-second, some-part, some-row, up-room, from-first}
+use Rattle.gap.proofs.Marks.{start-inside, tag-small}
+use Rattle.gap.proofs.Tops.{top, ended, depth-few, in-stack, under}
+use Rattle.gap.proofs.Ups.{Climbing, goes-on, goes-out, from-second, to-second, some-part, some-row, up-room, from-first}
 use Rattle.gap.proofs.moves.climb.Statement.{statement}
 use Rattle.gap.proofs.moves.climb.Tie as tie
 
@@ -37,13 +38,13 @@ cast-start : tie.Need-cast-start Inv-loop μ-loop
 cast-start c = let a = (c .before .before .before .before .before .before .before .pre) in let k = top ((c .before .before .before .loop) .inv .carries (a .0) (a .1)) ((c .before .before .loop-test) .taken) in omega (arith, (c .before .slice-known3) .given ((c .before .before .before .loop) .depth - 1))
 
 slice-read-tag : tie.Need-slice-read-tag Inv-loop μ-loop
-slice-read-tag c = let a = (c .before .before .before .before .before .before .before .before .pre) in let k = top ((c .before .before .before .before .loop) .inv .carries (a .0) (a .1)) ((c .before .before .before .loop-test) .taken) in start-inside k ((c .before .if1) .left)
+slice-read-tag c = let a = (c .before .before .before .before .before .before .before .before .pre) in let k = top ((c .before .before .before .before .loop) .inv .carries (a .0) (a .1)) ((c .before .before .before .loop-test) .taken) in start-inside (under k) ((c .before .if1) .left)
 
 cast-tag : tie.Need-cast-tag Inv-loop μ-loop
-cast-tag c = let a = (c .before .before .before .before .before .before .before .before .pre) in let k = top ((c .before .before .before .before .loop) .inv .carries (a .0) (a .1)) ((c .before .before .before .loop-test) .taken) in omega (arith, tag-small k ((c .before .if1) .left))
+cast-tag c = let a = (c .before .before .before .before .before .before .before .before .pre) in let k = top ((c .before .before .before .before .loop) .inv .carries (a .0) (a .1)) ((c .before .before .before .loop-test) .taken) in omega (arith, tag-small (under k) ((c .before .if1) .left))
 
 enters-of-requires : tie.Need-enters-of-requires Inv-loop μ-loop
-enters-of-requires c κs = let a = (c .before .before .before .before .before .before .before .before .pre) in let k = top ((c .before .before .before .before .loop) .inv .carries (a .0) (a .1)) ((c .before .before .before .loop-test) .taken) in omega (arith, tag-small k ((c .before .if1) .left))
+enters-of-requires c κs = let a = (c .before .before .before .before .before .before .before .before .pre) in let k = top ((c .before .before .before .before .loop) .inv .carries (a .0) (a .1)) ((c .before .before .before .loop-test) .taken) in omega (arith, tag-small (under k) ((c .before .if1) .left))
 
 mul-stack : tie.Need-mul-stack Inv-loop μ-loop
 mul-stack c = let a = (c .before .before .before .before .before .before .before .before .before .before .pre) in let k = top ((c .before .before .before .before .before .before .loop) .inv .carries (a .0) (a .1)) ((c .before .before .before .before .before .loop-test) .taken) in omega (arith, depth-few k)
@@ -61,7 +62,7 @@ returns : tie.Need-returns Inv-loop μ-loop
 returns c = λ w d. goes-on _ ((c .before .before .before .before .before .before .loop) .inv .past) (to-second (top ((c .before .before .before .before .before .before .loop) .inv .carries w d) ((c .before .before .before .before .before .loop-test) .taken)) ((c .before .before .before .if1) .left) _ ((c .before .enters-of) .ensures) ((c .if2) .taken))
 
 parts-of-requires : tie.Need-parts-of-requires Inv-loop μ-loop
-parts-of-requires c κs = let a = (c .before .before .before .before .before .before .before .before .before .before .pre) in let k = top ((c .before .before .before .before .before .before .loop) .inv .carries (a .0) (a .1)) ((c .before .before .before .before .before .loop-test) .taken) in omega (arith, tag-small k ((c .before .before .before .if1) .left))
+parts-of-requires c κs = let a = (c .before .before .before .before .before .before .before .before .before .before .pre) in let k = top ((c .before .before .before .before .before .before .loop) .inv .carries (a .0) (a .1)) ((c .before .before .before .before .before .loop-test) .taken) in omega (arith, tag-small (under k) ((c .before .before .before .if1) .left))
 
 sub-skip : tie.Need-sub-skip Inv-loop μ-loop
 sub-skip c = let a = (c .before .before .before .before .before .before .before .before .before .before .before .pre) in let k = top ((c .before .before .before .before .before .before .before .loop) .inv .carries (a .0) (a .1)) ((c .before .before .before .before .before .before .loop-test) .taken) in some-part k ((c .before .before .before .before .if1) .left) _ ((c .before .before .enters-of) .ensures) _ ((c .parts-of) .ensures)
