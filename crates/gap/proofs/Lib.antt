@@ -10,3 +10,4 @@ mod Marks
 mod Tops
 mod Ups
 mod Seeking
+mod Waking

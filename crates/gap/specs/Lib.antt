@@ -2,3 +2,4 @@ pub mod Hole
 pub mod Quiet
 pub mod Seen
 pub mod Standing
+pub mod Fired

@@ -10,7 +10,7 @@ use Rattle.rules.specs.Limits.{limits, outputRoom, scratchRoom}
 use Rattle.rules.specs.Term.{Term, encode, size, fits}
 use Rattle.rules.specs.Step.{normal, step}
 use Rattle.gap.specs.Hole.{Hole, fill, passed, Above, plug, lefts, rights}
-use Rattle.gap.specs.Quiet.{Entered, Quiet}
+use Rattle.gap.specs.Quiet.{Entered, Asleep, Quiet}
 use Rattle.gap.specs.Seen.{Contracts, Opens, Rests}
 use Rattle.gap.specs.declared.place.Place.{Place}
 
@@ -54,10 +54,10 @@ pub record Done (w : Term) (out scratch stack : List ℕ) (o i d : ℕ) : Type 0
   pub fits : fits limits w ≡ true
   pub sides : Sides (lefts above ++ encode at) (rights above) above out scratch stack o i d
 
--- a new term has come to stand there, so the nearest node may be a redex
+-- a new term has come to stand there, so the nearest node may be a redex if that is its first part
 abbrev pub Nearly : Above → Term → Type 0
 Nearly [] t = Unit {0}
-Nearly (f ∷ c) t = Entered f × Quiet c (fill f t)
+Nearly (f ∷ c) t = Entered f × ((passed f ≡ [] → ⊥) → Asleep f t) × Quiet c (fill f t)
 
 pub record Landed (w : Term) (out scratch stack : List ℕ) (o i d : ℕ) : Type 0 where
   pub above : Above
