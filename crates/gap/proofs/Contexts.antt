@@ -14,7 +14,7 @@ use Rattle.walk.specs.Node.{tag}
 use Rattle.walk.proofs.Terms.{apart-size}
 use Rattle.step.specs.Searched.{reduces}
 use Rattle.step.specs.Around.{Frame}
-use Rattle.gap.specs.Hole.{Hole, inOne, inLeft, inRight, inAbs, inSource, inBody, inScrutinee, fill, holeTag, before, behind, Above, plug, lefts, rights}
+use Rattle.gap.specs.Hole.{Hole, inOne, inLeft, inRight, inAbs, inSource, inBody, inScrutinee, fill, holeTag, passed, before, behind, Above, plug, lefts, rights}
 use Rattle.gap.specs.Quiet.{firstPart, Entered, Asleep, Quiet, Steps}
 use Rattle.gap.proofs.Holes.{fill-tag, fill-encode, holeNodes, fill-nodes, fill-steps}
 
@@ -95,3 +95,13 @@ quiet-tag (f ∷ c) t u e q =
 
 pub only-nearest : (f : Hole) (c : Above) (t u : Term) → Quiet (f ∷ c) t → Quiet c (fill f u)
 only-nearest f c t u q = quiet-tag c (fill f t) (fill f u) (fill-tag f u ∙ sym (fill-tag f t)) (q .2)
+
+-- a hole that is no first part does not decide
+pub first-same : (f : Hole) (t u : Term) → (passed f ≡ [] → ⊥) → Asleep f t → Asleep f u
+first-same (inOne k) t u ne a = absurd (ne refl)
+first-same (inLeft k b) t u ne a = absurd (ne refl)
+first-same (inRight k b) t u ne a = a
+first-same (inAbs x) t u ne a = absurd (ne refl)
+first-same (inSource k x y b) t u ne a = absurd (ne refl)
+first-same (inBody x y b) t u ne a = a
+first-same (inScrutinee x y l r) t u ne a = absurd (ne refl)

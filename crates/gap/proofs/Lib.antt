@@ -11,3 +11,4 @@ mod Tops
 mod Ups
 mod Seeking
 mod Waking
+mod Firings
