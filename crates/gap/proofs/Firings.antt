@@ -10,9 +10,9 @@ use lib.ListN.{length, take, drop}
 use lib.Seq.{sets, length-sets, slice}
 use Rattle.rules.specs.Basic.{Bytes, if_then_else_}
 use Rattle.rules.specs.Limits.{limits}
-use Rattle.rules.specs.Term.{Term, var, leaf, one, two, abs, both, branch, inl, inr, fst, snd, abort, promote, derelict, pair, app, discard, letPair, copy, encode, nodes, size, fits}
+use Rattle.rules.specs.Term.{Term, encode, nodes, size, fits}
 use Rattle.rules.specs.declared.Rule.{Rule}
-use Rattle.rules.specs.Step.{no, by, contract, step, halfFits, stepFits}
+use Rattle.rules.specs.Step.{halfFits, stepFits}
 use Rattle.laws.specs.Same.{both-true}
 use Rattle.runs.specs.Wrote.{Wrote}
 use Rattle.walk.proofs.Names.{drop-app, long}
@@ -26,31 +26,11 @@ use Rattle.gap.specs.Seen.{Contracts}
 use Rattle.gap.specs.Standing.{Standing, Nearly, Landed}
 use Rattle.gap.specs.Fired.{Firing, Lands, Over}
 use Rattle.gap.specs.declared.place.Place.{Place}
-use Rattle.gap.proofs.Contexts.{plug-frame, plug-steps, plug-size, only-nearest, first-same}
+use Rattle.gap.proofs.Contexts.{plug-frame, plug-size, only-nearest, first-same}
 use Rattle.gap.proofs.Buffers.{wrote-left, wrote-right, fits-few}
+use Rattle.gap.proofs.Redexes.{redex-steps}
 use Rattle.gap.proofs.Entries.{sides-size, whole-short}
 use Rattle.gap.proofs.Seeking.{stands-at}
-
-nothing : {r : Rule} {h : Option Term} {u : Term} → no ≡ by r h u → ⊥
-nothing e = let z : _≡_ {A = ℕ} 0 1 = cc in omega arith
-
--- a term that contracts steps so
-contract-steps : (t : Term) (r : Rule) (h : Option Term) (u : Term) → contract t ≡ by r h u → Steps t r h u
-unfolding step contract
-contract-steps (var x) r h u e = absurd (nothing e)
-contract-steps (leaf k) r h u e = absurd (nothing e)
-contract-steps (abs x a) r h u e = absurd (nothing e)
-contract-steps (one inl a) r h u e = absurd (nothing e)
-contract-steps (one inr a) r h u e = absurd (nothing e)
-contract-steps (one promote a) r h u e = absurd (nothing e)
-contract-steps (one abort a) r h u e = absurd (nothing e)
-contract-steps (one fst a) r h u e = record { place = 0; is = rw e }
-contract-steps (one snd a) r h u e = record { place = 0; is = rw e }
-contract-steps (one derelict a) r h u e = record { place = 0; is = rw e }
-contract-steps (two k a b) r h u e = record { place = 0; is = rw e }
-contract-steps (both letPair x y a b) r h u e = record { place = 0; is = rw e }
-contract-steps (both copy x y a b) r h u e = record { place = 0; is = rw e }
-contract-steps (branch x y a l m) r h u e = record { place = 0; is = rw e }
 
 -- whatever comes to stand there, only the nearest node may wake
 nearly : (c : Above) (t u : Term) → Quiet c t → Nearly c u
@@ -106,9 +86,7 @@ module _ {w : Term} {out scratch stack : List ℕ} {o i d n : ℕ} {places half 
       }
 
   steps : Steps w (x .rule) (x .half) next
-  steps =
-      subst (λ (z : Term). Steps z (x .rule) (x .half) next) (sym (s .is))
-      (plug-steps (x .rule) (x .half) (s .above) t u (s .quiet) (contract-steps t (x .rule) (x .half) u (x .is)))
+  steps = redex-steps (e .reducing)
 
   -- the test is the rules'
   abbrev test : Bool

@@ -11,4 +11,6 @@ mod Tops
 mod Ups
 mod Seeking
 mod Waking
+pub mod Redexes
 mod Firings
+pub mod Wholes
