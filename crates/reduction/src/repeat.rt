@@ -71,7 +71,18 @@ fn go_on(
                 length: runs::copy(scratch, at, scratch.len(), out, passed),
             };
         }
-        match fire(out, passed, scratch, at, stack, place.depth, nodes, places, half, made) {
+        match fire(
+            out,
+            passed,
+            scratch,
+            at,
+            stack,
+            place.depth,
+            nodes,
+            places,
+            half,
+            made,
+        ) {
             Fired::Outgrown => {
                 return Repeated::Outgrown {
                     steps,
