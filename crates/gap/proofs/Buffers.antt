@@ -1,12 +1,12 @@
 -- The two buffers and the stack as lists: what a run of bytes leaves on the left and on the right of where it was written, and what a
 -- mark leaves of the marks below it. Assumes nothing.
-use Prim.Native.Nat.{ℕ, zero, suc, _+_, _-_, _≤_, _<_}
-use mathlib.Core.Path.{_≡_, refl, sym, ap, _∙_}
-use mathlib.Core.Bool.{true, _&&_}
+use Prim.Native.Nat.{ℕ, _+_, _-_, _≤_, _<_}
+use mathlib.Core.Path.{_≡_, sym, ap, _∙_}
+use mathlib.Core.Bool.{true}
 use mathlib.Core.List.{List, [], _∷_, _++_, append-assoc}
 use native.Mathlib.Omega.{arith}
 use lib.ListN.{length, take, drop, set, getD, length-append}
-use lib.Seq.{sets, sets-eq, length-sets, length-take-le, take-at, drop-at, getD-set-same, getD-set-other, slice}
+use lib.Seq.{sets-eq, length-take-le, take-at, drop-at, getD-set-same, getD-set-other}
 use borrow.Author.Tests.{leb-true}
 use Rattle.rules.specs.Basic.{Bytes, _≤?_}
 use Rattle.rules.specs.Limits.{limits}

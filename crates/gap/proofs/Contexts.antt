@@ -1,21 +1,19 @@
 -- The nodes above a place: the bytes and nodes around it; a step there is a step of the whole; and whatever comes to stand there,
 -- all nodes but the nearest stay as they are. By induction on the nodes above. Assumes nothing.
-use Prim.Native.Nat.{ℕ, zero, suc, _+_, _<_}
+use Prim.Native.Nat.{ℕ, _+_, _<_}
 use mathlib.Core.Path.{_≡_, refl, sym, ap, _∙_}
 use mathlib.Core.Option.{Option}
-use mathlib.Core.List.{List, [], _∷_, _++_, append-assoc, append-nil}
+use mathlib.Core.List.{[], _∷_, _++_, append-assoc, append-nil}
 use native.Mathlib.Omega.{arith}
 use lib.ListN.{length, length-append}
 use Rattle.rules.specs.Basic.{Bytes}
 use Rattle.rules.specs.Term.{Term, var, leaf, one, two, abs, both, branch, encode, size, nodes}
 use Rattle.rules.specs.declared.Rule.{Rule}
-use Rattle.rules.specs.Step.{normal, step}
 use Rattle.walk.specs.Node.{tag}
-use Rattle.walk.proofs.Terms.{apart-size}
 use Rattle.step.specs.Searched.{reduces}
 use Rattle.step.specs.Around.{Frame}
 use Rattle.gap.specs.Hole.{Hole, inOne, inLeft, inRight, inAbs, inSource, inBody, inScrutinee, fill, holeTag, passed, before, behind, Above, plug, lefts, rights}
-use Rattle.gap.specs.Quiet.{firstPart, Entered, Asleep, Quiet, Steps}
+use Rattle.gap.specs.Quiet.{firstPart, Asleep, Quiet, Steps}
 use Rattle.gap.proofs.Holes.{fill-tag, fill-encode, holeNodes, fill-nodes, fill-steps}
 
 -- ---- bytes and nodes

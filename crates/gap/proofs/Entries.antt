@@ -1,17 +1,17 @@
 -- Into a node: its head goes over to the output, its mark onto the stack, and the search stands at its first part. Assumes nothing.
-use Prim.Native.Nat.{ℕ, suc, _+_, _-_, _≤_, _<_}
-use mathlib.Core.Path.{_≡_, refl, sym, subst, ap, _∙_}
+use Prim.Native.Nat.{ℕ, _+_, _-_, _≤_, _<_}
+use mathlib.Core.Path.{_≡_, subst, ap, _∙_}
 use mathlib.Core.Bool.{true}
-use mathlib.Core.List.{List, [], _∷_, _++_, append-assoc}
+use mathlib.Core.List.{List, _∷_, _++_, append-assoc}
 use native.Mathlib.Omega.{arith}
-use lib.ListN.{length, take, drop, set, length-append, length-drop, length-set}
+use lib.ListN.{length, drop, set, length-append, length-set}
 use lib.Seq.{length-sets, slice}
 use Rattle.rules.specs.Basic.{Bytes}
 use Rattle.rules.specs.Term.{Term, encode, nodes, size}
 use Rattle.runs.specs.Wrote.{Wrote}
 use Rattle.runs.specs.Writing.{slice-is}
 use Rattle.walk.proofs.Names.{drop-app, long}
-use Rattle.gap.specs.Hole.{Hole, fill, passed, before, behind, Above, plug, lefts, rights}
+use Rattle.gap.specs.Hole.{Hole, before, behind, plug, lefts, rights}
 use Rattle.gap.specs.Quiet.{Quiet}
 use Rattle.gap.specs.Standing.{Sides, Standing, Goes, Entering}
 use Rattle.gap.proofs.Holes.{fill-encode}

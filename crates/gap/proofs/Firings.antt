@@ -3,10 +3,9 @@
 use Prim.Native.Nat.{ℕ, _+_, _-_, _≤_}
 use mathlib.Core.Path.{_≡_, refl, sym, subst, ap, _∙_}
 use mathlib.Core.Bool.{Bool, true, false, _&&_}
-use mathlib.Core.Option.{Option}
 use mathlib.Core.List.{List, [], _∷_, _++_}
 use native.Mathlib.Omega.{arith}
-use lib.ListN.{length, take, drop}
+use lib.ListN.{length}
 use lib.Seq.{sets, length-sets, slice}
 use Rattle.rules.specs.Basic.{Bytes, if_then_else_}
 use Rattle.rules.specs.Limits.{limits}
@@ -16,12 +15,12 @@ use Rattle.rules.specs.Step.{halfFits, stepFits}
 use Rattle.laws.specs.Same.{both-true}
 use Rattle.runs.specs.Wrote.{Wrote}
 use Rattle.walk.proofs.Names.{drop-app, long}
-use Rattle.contracting.specs.Beside.{fitsAround, frame-nodes-after, step-fits-in-frame}
+use Rattle.contracting.specs.Beside.{fitsAround, step-fits-in-frame}
 use Rattle.contracting.specs.Contracts as contracting
 use Rattle.contracting.specs.declared.Contracted.{Contracted}
 use Rattle.contracting.specs.declared.Contracted.the-variants.{Made, Outgrown}
-use Rattle.gap.specs.Hole.{Hole, passed, fill, Above, plug, lefts, rights}
-use Rattle.gap.specs.Quiet.{Asleep, Quiet, Steps}
+use Rattle.gap.specs.Hole.{Above, plug, rights}
+use Rattle.gap.specs.Quiet.{Quiet, Steps}
 use Rattle.gap.specs.Seen.{Contracts}
 use Rattle.gap.specs.Standing.{Standing, Nearly, Landed}
 use Rattle.gap.specs.Fired.{Firing, Lands, Over}

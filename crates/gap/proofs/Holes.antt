@@ -1,22 +1,21 @@
 -- A hole: the bytes and the nodes around it, when its node is a redex, and that a step in it is a step of the node.
 -- By cases on the shapes of nodes. Assumes nothing.
-use Prim.Native.Nat.{ℕ, suc, _+_, _<_}
+use Prim.Native.Nat.{ℕ, _+_, _<_}
 use mathlib.Core.Path.{_≡_, refl, sym, ap, _∙_}
-use mathlib.Core.Bool.{Bool, true, false}
+use mathlib.Core.Bool.{false}
 use mathlib.Core.Option.{Option}
-use mathlib.Core.List.{List, [], _∷_, _++_, append-assoc, append-nil}
+use mathlib.Core.List.{List, _∷_, _++_, append-assoc}
 use native.Mathlib.Omega.{arith}
-use lib.ListN.{length, length-append}
 use Rattle.rules.specs.Name.{Name, encodeNames}
-use Rattle.rules.specs.Term.{Term, one, two, abs, both, branch, One, inl, inr, fst, snd, abort, promote, derelict, Two, pair, app, discard, Both, letPair, copy, oneTag, encode, size, nodes, parts}
+use Rattle.rules.specs.Term.{Term, One, inl, inr, fst, snd, abort, promote, derelict, pair, app, discard, letPair, copy, oneTag, encode, size, nodes, parts}
 use Rattle.rules.specs.declared.Rule.{Rule}
-use Rattle.rules.specs.Step.{Contraction, no, by, contract, Stepped, normal, found, here, orElse, inPart, nameBytes, step}
+use Rattle.rules.specs.Step.{Contraction, no, by, contract, nameBytes, step}
 use Rattle.walk.specs.Node.{tag, names, head, encodeAll}
 use Rattle.walk.proofs.Terms.{apart, encodeAll-append}
 use Rattle.step.specs.Searched.{reduces}
 use Rattle.step.proofs.Firsts.{contracts, wants-pair, wants-abs, wants-promote, wants-injection, wants-nothing}
 use Rattle.gap.specs.Hole.{Hole, inOne, inLeft, inRight, inAbs, inSource, inBody, inScrutinee, fill, holeTag, holeNames, passed, ahead, before, behind}
-use Rattle.gap.specs.Quiet.{firstPart, NotAbort, Entered, Asleep, Steps}
+use Rattle.gap.specs.Quiet.{firstPart, Entered, Asleep, Steps}
 
 -- ---- the bytes and the nodes
 

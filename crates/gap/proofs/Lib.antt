@@ -1,9 +1,9 @@
 -- What the proofs of several functions use, here and in the crates above.
-pub mod Holes
-pub mod Contexts
-pub mod Onward
+mod Holes
+mod Contexts
+mod Onward
 mod Sights
-mod Buffers
+pub mod Buffers
 mod Entries
 mod Passes
 mod Marks

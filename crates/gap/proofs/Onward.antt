@@ -4,10 +4,10 @@ use Prim.Native.Nat.{ℕ, suc, _+_, _-_}
 use mathlib.Core.Path.{_≡_, refl, sym, ap, _∙_}
 use mathlib.Core.List.{List, [], _∷_, _++_, append-assoc, append-nil}
 use native.Mathlib.Omega.{arith}
-use lib.ListN.{length, length-append}
+use lib.ListN.{length}
 use Rattle.rules.specs.Basic.{Bytes}
 use Rattle.rules.specs.Name.{Name, encodeNames}
-use Rattle.rules.specs.Term.{Term, One, inl, inr, fst, snd, abort, promote, derelict, Two, pair, app, discard, Both, letPair, copy, encode}
+use Rattle.rules.specs.Term.{Term, inl, inr, fst, snd, abort, promote, derelict, Two, pair, app, discard, letPair, copy, encode}
 use Rattle.rules.specs.Step.{normal, step}
 use Rattle.walk.specs.Node.{encodeAll, partsAfter}
 use Rattle.step.specs.Searched.{entersAfter}

@@ -1,12 +1,12 @@
 -- Behind a term that has no step: it goes over to the output. Assumes nothing.
-use Prim.Native.Nat.{ℕ, _+_, _-_, _≤_, _<_}
-use mathlib.Core.Path.{_≡_, sym, ap, _∙_}
+use Prim.Native.Nat.{ℕ, _+_, _-_, _≤_}
+use mathlib.Core.Path.{_≡_, ap, _∙_}
 use mathlib.Core.List.{List, _++_}
 use native.Mathlib.Omega.{arith}
 use lib.ListN.{length, length-append}
 use lib.Seq.{length-sets, slice}
 use Rattle.rules.specs.Basic.{Bytes}
-use Rattle.rules.specs.Term.{Term, encode, size}
+use Rattle.rules.specs.Term.{Term, encode}
 use Rattle.runs.specs.Wrote.{Wrote}
 use Rattle.runs.specs.Writing.{slice-is}
 use Rattle.walk.proofs.Names.{drop-app, long}

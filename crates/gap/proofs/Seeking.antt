@@ -1,16 +1,16 @@
 -- The search for the first redex: in the whole in which it began it stands where it is, or has come to the end. Assumes nothing.
-use Prim.Native.Nat.{ℕ, _+_, _-_, _≤_, _<_}
-use mathlib.Core.Path.{_≡_, refl, sym, subst, ap, _∙_}
+use Prim.Native.Nat.{ℕ, _-_, _<_}
+use mathlib.Core.Path.{_≡_, sym, subst, _∙_}
 use mathlib.Core.Bool.{true, false}
-use mathlib.Core.List.{List, _++_}
+use mathlib.Core.List.{List}
 use native.Mathlib.Omega.{arith}
 use lib.ListN.{length}
-use Rattle.rules.specs.Term.{Term, encode, size}
+use Rattle.rules.specs.Term.{Term}
 use Rattle.walk.specs.Place.{TermAt}
 use Rattle.walk.proofs.Terms.{apart-size, at-inside}
 use Rattle.gap.specs.Hole.{rights}
-use Rattle.gap.specs.Seen.{Contracts, Opens, Rests, Sees}
-use Rattle.gap.specs.Standing.{Standing, Ended, Goes, Entering, Passing, Reducing, Finds}
+use Rattle.gap.specs.Seen.{Sees}
+use Rattle.gap.specs.Standing.{Standing, Goes, Entering, Passing, Reducing, Finds}
 use Rattle.gap.specs.declared.place.Place.{Place}
 use Rattle.gap.specs.declared.sight.Seen.{Seen}
 use Rattle.gap.specs.declared.sight.Seen.the-variants.{Passed, Redex, Inside}

@@ -5,18 +5,18 @@ use mathlib.Core.Path.{_≡_, refl, sym, ap, _∙_}
 use mathlib.Core.Bool.{Bool, true, false}
 use mathlib.Core.List.{List, [], _∷_, _++_, append-nil}
 use native.Mathlib.Omega.{arith}
-use lib.ListN.{length, getD, drop}
+use lib.ListN.{length, getD}
 use Rattle.rules.specs.Name.{Name, encodeNames}
-use Rattle.rules.specs.Term.{Term, var, leaf, one, two, abs, both, branch, unit, trivial, inl, inr, fst, snd, abort, promote, derelict, pair, app, discard, letPair, copy, size, parts, encode}
+use Rattle.rules.specs.Term.{Term, var, leaf, one, two, abs, both, branch, unit, trivial, inl, inr, fst, snd, abort, promote, derelict, pair, app, discard, letPair, copy, parts}
 use Rattle.rules.specs.Step.{Contraction, no, by, contract, normal, step}
 use Rattle.walk.specs.Node.{tag, names, head, encodeAll, namesAfter, partsAfter}
 use Rattle.walk.specs.Place.{TermAt, TermsAt}
-use Rattle.walk.proofs.Names.{AfterIs, drop-app}
+use Rattle.walk.proofs.Names.{AfterIs}
 use Rattle.walk.proofs.Terms.{Some, SkipIs, apart-size, at-tag, at-small, at-count-parts, at-parts, starts, first}
 use Rattle.step.specs.Searched.{entersAfter, reduces}
 use Rattle.step.proofs.Firsts.{contracts}
 use Rattle.gap.specs.Hole.{Hole, inOne, inLeft, inRight, inAbs, inSource, inBody, inScrutinee, fill, holeTag, holeNames, passed, ahead, before}
-use Rattle.gap.specs.Quiet.{firstPart, Entered, Asleep}
+use Rattle.gap.specs.Quiet.{firstPart, Entered}
 use Rattle.gap.specs.Seen.{Contracts, Opens, Rests}
 use Rattle.gap.proofs.Holes.{fill-tag, fill-names, fill-parts, fill-contracts}
 

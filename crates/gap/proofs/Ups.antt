@@ -1,13 +1,13 @@
 -- Up from a term that has no step: to the second part of the node above, or behind that node, whose other parts go over. Assumes nothing.
-use Prim.Native.Nat.{ℕ, suc, _+_, _-_, _≤_, _<_}
-use mathlib.Core.Path.{_≡_, refl, sym, subst, ap, _∙_}
+use Prim.Native.Nat.{ℕ, suc, _+_, _-_, _≤_}
+use mathlib.Core.Path.{_≡_, sym, subst, ap, _∙_}
 use mathlib.Core.Bool.{true, false}
-use mathlib.Core.List.{List, [], _∷_, _++_, append-assoc, append-nil}
+use mathlib.Core.List.{List, [], _∷_, _++_, append-assoc}
 use native.Mathlib.Omega.{arith}
-use lib.ListN.{length, take, drop, set, getD, length-append, length-set}
+use lib.ListN.{length, set, getD, length-append, length-set}
 use lib.Seq.{length-sets, slice}
 use Rattle.rules.specs.Basic.{Bytes}
-use Rattle.rules.specs.Term.{Term, encode, size}
+use Rattle.rules.specs.Term.{Term, encode}
 use Rattle.rules.specs.Step.{normal, step}
 use Rattle.runs.specs.Wrote.{Wrote}
 use Rattle.runs.specs.Writing.{slice-is, wrote-none}
@@ -20,7 +20,7 @@ use Rattle.gap.specs.Hole.{Hole, fill, holeTag, passed, ahead, before, b
 use Rattle.gap.specs.Quiet.{Quiet}
 use Rattle.gap.specs.Standing.{mark, Standing, Done, Ended, Goes}
 use Rattle.gap.proofs.Holes.{fill-encode}
-use Rattle.gap.proofs.Onward.{Second, Follows, second, last, follows, ahead-count, second-before, second-behind}
+use Rattle.gap.proofs.Onward.{Follows, second, last, follows, ahead-count, second-before, second-behind}
 use Rattle.gap.proofs.Buffers.{wrote-left, held-set}
 use Rattle.gap.proofs.Marks.{not-first, none-ahead, none-passed, tag-is}
 use Rattle.gap.proofs.Tops.{Top, sides-short, in-stack, under}

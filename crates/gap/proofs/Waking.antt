@@ -1,6 +1,6 @@
 -- A new term stands where the search stands. If it makes a redex of the nearest node, the node's head comes back in front of it. Assumes nothing.
 use Prim.Native.Nat.{ℕ, _+_, _-_, _≤_, _<_}
-use mathlib.Core.Path.{_≡_, refl, sym, subst, ap, _∙_}
+use mathlib.Core.Path.{_≡_, sym, ap, _∙_}
 use mathlib.Core.Bool.{Bool, true, false}
 use mathlib.Core.List.{List, [], _∷_, _++_, append-assoc, append-nil}
 use native.Mathlib.Omega.{arith}
@@ -15,14 +15,14 @@ use Rattle.walk.specs.Place.{TermAt}
 use Rattle.walk.proofs.Names.{long}
 use Rattle.walk.proofs.Terms.{at-tag, at-small, at-inside}
 use Rattle.step.specs.Searched.{reduces}
-use Rattle.gap.specs.Hole.{Hole, fill, holeTag, passed, before, behind, Above, plug, lefts, rights}
+use Rattle.gap.specs.Hole.{Hole, fill, passed, before, behind, Above, plug, lefts, rights}
 use Rattle.gap.specs.Quiet.{firstPart, Entered, Asleep, Quiet}
 use Rattle.gap.specs.Standing.{Sides, Standing, Nearly, Landed}
 use Rattle.gap.proofs.Holes.{fill-encode}
 use Rattle.gap.proofs.Contexts.{plug-size, depth-below}
 use Rattle.gap.proofs.Sights.{first-is}
 use Rattle.gap.proofs.Buffers.{wrote-right, fits-few}
-use Rattle.gap.proofs.Marks.{Under, not-first, none-passed, started, start-before, tag-is, tag-small}
+use Rattle.gap.proofs.Marks.{Under, not-first, none-passed, started, start-before, tag-is}
 
 -- the nearest node above
 pub record Nearest (w : Term) (out scratch stack : List ℕ) (o i d : ℕ) : Type 0 where

@@ -2,7 +2,7 @@
 use Prim.Native.Nat.{ℕ, _+_, _-_, _≤_}
 use mathlib.Core.Path.{_≡_, refl, sym, ap, _∙_}
 use mathlib.Core.Bool.{true}
-use mathlib.Core.List.{List, [], _++_, append-nil}
+use mathlib.Core.List.{List, [], _++_}
 use native.Mathlib.Omega.{arith}
 use lib.ListN.{length, take, drop, length-drop}
 use lib.Seq.{length-sets, slice, take-length, drop-length}
@@ -10,10 +10,10 @@ use Rattle.rules.specs.Basic.{Bytes}
 use Rattle.rules.specs.Limits.{limits, outputRoom, scratchRoom}
 use Rattle.rules.specs.Term.{Term, encode, size, fits}
 use Rattle.runs.specs.Wrote.{Wrote}
-use Rattle.gap.specs.Hole.{lefts, rights}
+use Rattle.gap.specs.Hole.{rights}
 use Rattle.gap.specs.Standing.{Standing}
 use Rattle.gap.proofs.Contexts.{plug-encode}
-use Rattle.gap.proofs.Buffers.{wrote-left, wrote-right, fits-few}
+use Rattle.gap.proofs.Buffers.{wrote-left, wrote-right}
 use Rattle.gap.proofs.Entries.{sides-size, whole-short}
 
 module _ {w : Term} {out scratch stack : List ℕ} {o i d : ℕ} (s : Standing w out scratch stack o i d) where

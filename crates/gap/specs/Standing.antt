@@ -9,7 +9,7 @@ use Rattle.rules.specs.Basic.{Bytes}
 use Rattle.rules.specs.Limits.{limits, outputRoom, scratchRoom}
 use Rattle.rules.specs.Term.{Term, encode, size, fits}
 use Rattle.rules.specs.Step.{normal, step}
-use Rattle.gap.specs.Hole.{Hole, fill, passed, Above, plug, lefts, rights}
+use Rattle.gap.specs.Hole.{fill, passed, Above, plug, lefts, rights}
 use Rattle.gap.specs.Quiet.{Entered, Asleep, Quiet}
 use Rattle.gap.specs.Seen.{Contracts, Opens, Rests}
 use Rattle.gap.specs.declared.place.Place.{Place}

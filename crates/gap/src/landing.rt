@@ -1,5 +1,4 @@
 // A redex is contracted where the search stands. What it becomes is put in its place, at the start of what the search has yet to see.
-ghost use mathlib.Core.Path.{_≡_};
 ghost use Rattle.rules.specs.Term.{Term};
 ghost use Rattle.gap.specs.Standing.{Standing, Landed};
 ghost use Rattle.gap.specs.Fired.{Firing, Fires};

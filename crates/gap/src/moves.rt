@@ -1,5 +1,4 @@
 // The moves of the search: into a node, on behind a term that has no step, and up.
-ghost use mathlib.Core.Path.{_≡_};
 ghost use Rattle.rules.specs.Term.{Term};
 ghost use Rattle.gap.specs.Standing.{Standing, Done, Entering, Passing, Goes, Finds};
 use crate::place::Place;

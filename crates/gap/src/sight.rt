@@ -1,5 +1,4 @@
 // One look at a node.
-ghost use mathlib.Core.Path.{_≡_};
 ghost use Rattle.rules.specs.Term.{Term};
 ghost use Rattle.walk.specs.Place.{TermAt};
 ghost use Rattle.gap.specs.Seen.{Sees};

@@ -1,12 +1,12 @@
 -- From a term that was read to the loop's start, and from the loop's answer to the call's: zeros behind the term that stands in the output,
 -- and in the scratch. Assumes nothing.
 use Prim.Native.Nat.{ℕ, _+_, _-_, _≤_}
-use mathlib.Core.Path.{_≡_, refl, sym, ap, _∙_}
+use mathlib.Core.Path.{_≡_, sym, ap, _∙_}
 use mathlib.Core.Bool.{Bool}
-use mathlib.Core.List.{List, _++_, append-nil}
+use mathlib.Core.List.{_++_, append-nil}
 use native.Mathlib.Omega.{arith}
 use lib.ListN.{length, take, drop, replicate, length-replicate}
-use lib.Seq.{sets, sets-eq, length-sets, slice, take-length, drop-length}
+use lib.Seq.{sets, sets-eq, slice, take-length, drop-length}
 use Rattle.rules.specs.Basic.{Bytes}
 use Rattle.rules.specs.Limits.{limits, scratchRoom}
 use Rattle.rules.specs.Term.{Term, encode, size}
@@ -15,7 +15,7 @@ use Rattle.rules.specs.Reduction.{Reduced, stopped, outgrew}
 use Rattle.runs.specs.Wrote.{Wrote}
 use Rattle.substitution.proofs.Writes.{zeros}
 use Rattle.step.specs.Taken.{Reads}
-use Rattle.stepping.proofs.Taking.{fits-bytes}
+use Rattle.gap.proofs.Buffers.{fits-few}
 use Rattle.reduction.specs.Answers.{Reducing}
 use Rattle.gap.proofs.Wholes.{stands-first}
 use Rattle.reduction.specs.Repeating.{Begun, last, repeatedOf, Repeats}
@@ -34,7 +34,7 @@ bytes-long = omega (arith, length-replicate {A = ℕ} 4096 0)
 module _ {term : Bytes} {n : ℕ} {out : Bytes} {t : Term} (d : Reads term n out t) (scratch : Bytes) (h : scratchRoom limits ≤ length scratch) where
   pub begin-room : (length term ≤ length scratch) × (length scratch - length term + (length term - 0) ≤ length scratch)
   begin-room =
-      let l : length term ≤ 4096 = omega (arith, ap (λ (z : Bytes). length z) (d .whole), fits-bytes t (d .fits)) in
+      let l : length term ≤ 4096 = omega (arith, ap (λ (z : Bytes). length z) (d .whole), fits-few t (d .fits)) in
       (omega arith, omega arith)
 
   pub begun : {scratch₁ stack places half made : Bytes} {p : ℕ} → Wrote scratch (length scratch - length term) (slice 0 (length term) term) scratch₁ p
@@ -72,7 +72,7 @@ over (outgrew n t) e = (cc, cc)
 module _ {d : Reduced} {out₁ : Bytes} {r : Repeated} (w : Repeats d out₁ r) (out : Bytes) (same : length out₁ ≡ length out) (h : 4096 ≤ length out) where
   behind : (l : ℕ) → l ≡ size (last d) → {out₂ : Bytes} → out₂ ≡ sets out₁ l (replicate (length out₁ - l) 0) → out₂ ≡ encode (last d) ++ replicate (length out - size (last d)) 0
   behind l e {out₂} z =
-      z ∙ zeros-behind out₁ (encode (last d)) l (rw e (w .bytes)) e (omega (arith, fits-bytes (last d) (w .fits)))
+      z ∙ zeros-behind out₁ (encode (last d)) l (rw e (w .bytes)) e (omega (arith, fits-few (last d) (w .fits)))
       ∙ ap (λ (k : ℕ). encode (last d) ++ replicate (k - size (last d)) 0) same
 
   module _ {n : ℕ} {c : Counts} {b : Bool} {l : ℕ} (e : r ≡ Stopped n c b l) where
@@ -80,7 +80,7 @@ module _ {d : Reduced} {out₁ : Bytes} {r : Repeated} (w : Repeats d out₁ r) 
     at-stop = stops d (sym e ∙ w .says)
 
     pub stop-room : l ≤ length out₁
-    stop-room = omega (arith, at-stop .1, fits-bytes (last d) (w .fits))
+    stop-room = omega (arith, at-stop .1, fits-few (last d) (w .fits))
 
     module _ (scratch scratch₁ : Bytes) {scratch₂ out₂ : Bytes} (p : length scratch₁ ≡ length scratch) (q : scratch₂ ≡ sets scratch₁ 0 (replicate (length scratch₁ - 0) 0)) (z : out₂ ≡ sets out₁ l (replicate (length out₁ - l) 0)) where
       pub stop : Reducing d out scratch (IsStopped (record { steps = n; counts = c; normal = b; length = l })) out₂ scratch₂
@@ -97,7 +97,7 @@ module _ {d : Reduced} {out₁ : Bytes} {r : Repeated} (w : Repeats d out₁ r) 
     at-over = over d (sym e ∙ w .says)
 
     pub over-room : l ≤ length out₁
-    over-room = omega (arith, at-over .1, fits-bytes (last d) (w .fits))
+    over-room = omega (arith, at-over .1, fits-few (last d) (w .fits))
 
     module _ (scratch scratch₁ : Bytes) {scratch₂ out₂ : Bytes} (p : length scratch₁ ≡ length scratch) (q : scratch₂ ≡ sets scratch₁ 0 (replicate (length scratch₁ - 0) 0)) (z : out₂ ≡ sets out₁ l (replicate (length out₁ - l) 0)) where
       pub outgrow : Reducing d out scratch (IsRefused (record { number = 8; place = n; input = 0 }) l) out₂ scratch₂

@@ -6,23 +6,23 @@ use mathlib.Core.Bool.{Bool, true, false, not}
 use mathlib.Core.List.{List}
 use native.Mathlib.Numerals.{add-one}
 use native.Mathlib.Omega.{arith}
-use lib.ListN.{length, take}
+use lib.ListN.{length}
 use lib.Seq.{slice}
 use Rattle.rules.specs.Basic.{Bytes}
 use Rattle.rules.specs.Limits.{limits, outputRoom}
-use Rattle.rules.specs.Term.{Term, encode, nodes, size}
+use Rattle.rules.specs.Term.{Term, nodes}
 use Rattle.rules.specs.declared.Rule.{Rule}
 use Rattle.rules.specs.declared.Counts.{Counts}
 use Rattle.rules.specs.Step.{Stepped, normal, step, isNormal}
-use Rattle.rules.specs.Reduction.{Reduced, stopped, outgrew, noCounts, plus, reduceFrom, reduce}
+use Rattle.rules.specs.Reduction.{stopped, noCounts, plus, reduceFrom, reduce}
 use Rattle.runs.specs.Wrote.{Wrote}
-use Rattle.gap.specs.Standing.{Standing, Ended, Reducing, Finds}
+use Rattle.gap.specs.Standing.{Standing, Ended, Reducing}
 use Rattle.gap.specs.Fired.{Firing, Fires, Lands, Over}
 use Rattle.gap.specs.declared.landing.Fired.{Fired}
 use Rattle.gap.specs.declared.landing.Fired.the-variants.{Made, Outgrown as TooLarge}
 use Rattle.gap.specs.declared.place.Place.{Place}
 use Rattle.gap.proofs.Redexes.{redex-steps}
-use Rattle.gap.proofs.Wholes.{join-room, join-long, join-bytes}
+use Rattle.gap.proofs.Wholes.{join-long, join-bytes}
 use Rattle.reduction.specs.Repeating.{Begun, Repeats}
 use Rattle.reduction.specs.Carried.{at-limit, at-normal, at-found, at-over}
 use Rattle.reduction.specs.declared.repeat.Repeated.the-variants.{Stopped, Outgrown}

@@ -1,6 +1,5 @@
 // Steps up to the limit. The search for a redex goes on where the last contraction was: what it has passed stands in the output, what it has
 // yet to see at the end of the scratch.
-ghost use mathlib.Core.Path.{_≡_};
 ghost use Prim.Native.Nat.{_≤_};
 ghost use lib.ListN.{length};
 ghost use Rattle.rules.specs.Limits.{limits, scratchRoom};
