@@ -1,43 +1,53 @@
--- From the loop's answer to the call's: zeros behind the term that stands in the output, and in the scratch. Assumes nothing.
+-- From a term that was read to the loop's start, and from the loop's answer to the call's: zeros behind the term that stands in the output,
+-- and in the scratch. Assumes nothing.
 use Prim.Native.Nat.{ℕ, _+_, _-_, _≤_}
 use mathlib.Core.Path.{_≡_, sym, ap, _∙_}
 use mathlib.Core.Bool.{Bool}
 use mathlib.Core.List.{_++_, append-nil}
 use native.Mathlib.Omega.{arith}
 use lib.ListN.{length, take, drop, replicate, length-replicate}
-use lib.Seq.{sets, sets-eq, length-sets, slice, take-length, drop-length}
+use lib.Seq.{sets, sets-eq, slice, take-length, drop-length}
 use Rattle.rules.specs.Basic.{Bytes}
 use Rattle.rules.specs.Limits.{limits, scratchRoom}
 use Rattle.rules.specs.Term.{Term, encode, size}
 use Rattle.rules.specs.declared.Counts.{Counts}
 use Rattle.rules.specs.Reduction.{Reduced, stopped, outgrew}
 use Rattle.runs.specs.Wrote.{Wrote}
-use Rattle.substitution.proofs.Writes.{wrote-part, zeros}
+use Rattle.substitution.proofs.Writes.{zeros}
 use Rattle.step.specs.Taken.{Reads}
-use Rattle.stepping.proofs.Taking.{fits-bytes}
+use Rattle.gap.proofs.Buffers.{fits-few}
 use Rattle.reduction.specs.Answers.{Reducing}
-use Rattle.reduction.specs.Repeating.{Stands, last, repeatedOf, Repeats}
+use Rattle.gap.proofs.Wholes.{stands-first}
+use Rattle.reduction.specs.Repeating.{Begun, last, repeatedOf, Repeats}
 use Rattle.reduction.specs.declared.repeat.Repeated.{Repeated}
 use Rattle.reduction.specs.declared.repeat.Repeated.the-variants.{Stopped, Outgrown}
 use Rattle.reduction.specs.declared.Reduced.the-variants.{Stopped as IsStopped, Refused as IsRefused}
 
-module _ {term : Bytes} {n : ℕ} {out : Bytes} {t : Term} (d : Reads term n out t) where
-  pub room : 0 + (length term - 0) ≤ length out
-  room = omega (arith, ap (λ (z : Bytes). length z) (d .whole), fits-bytes t (d .fits), d .room)
+-- the arrays that the loop works in
+pub stack-long : limits .nodes ≤ length (replicate {A = ℕ} 512 0)
+stack-long = omega (arith, length-replicate {A = ℕ} 512 0)
 
-  pub starts : {scratch : Bytes} {out₁ : Bytes} {l : ℕ} → scratchRoom limits ≤ length scratch → Wrote out 0 (slice 0 (length term) term) out₁ l → Stands out₁ l n scratch t
-  starts {scratch} {out₁} {l} k w =
-      let e : slice 0 (length term) term ≡ encode t = take-length term ∙ d .whole in
-      let v : Wrote out 0 (encode t) out₁ l = record { holds = w .holds ∙ ap (λ (z : Bytes). sets out 0 z) e; ends = w .ends ∙ ap (λ (z : Bytes). 0 + length z) e } in
-      let x : l - 0 ≡ l = omega arith in
-      let m : l ≡ size t = v .ends ∙ omega arith in
+pub bytes-long : 4096 ≤ length (replicate {A = ℕ} 4096 0)
+bytes-long = omega (arith, length-replicate {A = ℕ} 4096 0)
+
+-- a term that was read, put at the end of the scratch
+module _ {term : Bytes} {n : ℕ} {out : Bytes} {t : Term} (d : Reads term n out t) (scratch : Bytes) (h : scratchRoom limits ≤ length scratch) where
+  pub begin-room : (length term ≤ length scratch) × (length scratch - length term + (length term - 0) ≤ length scratch)
+  begin-room =
+      let l : length term ≤ 4096 = omega (arith, ap (λ (z : Bytes). length z) (d .whole), fits-few t (d .fits)) in
+      (omega arith, omega arith)
+
+  pub begun : {scratch₁ stack places half made : Bytes} {p : ℕ} → Wrote scratch (length scratch - length term) (slice 0 (length term) term) scratch₁ p
+      → limits .nodes ≤ length stack → 4096 ≤ length places → 4096 ≤ length half → 4096 ≤ length made → Begun t out scratch₁ stack (length scratch - length term) n places half made
+  begun {scratch₁} {p = p} w a b c e =
+      let q : slice 0 (length term) term ≡ encode t = take-length term ∙ d .whole in
+      let v : Wrote scratch (length scratch - length term) (encode t) scratch₁ p = rw q at w in
       record {
-        bytes = rw x at (wrote-part v (omega (arith, m, fits-bytes t (d .fits), d .room)));
-        long = m;
+        stands = stands-first t (d .fits) v (omega (arith, ap (λ (z : Bytes). length z) (d .whole), begin-room)) (d .room) h a;
         count = d .count;
-        fits = d .fits;
-        room = omega (arith, d .room, ap (λ (z : Bytes). length z) (w .holds), length-sets out 0 (slice 0 (length term) term));
-        scratch-room = omega arith;
+        places-room = b;
+        half-room = c;
+        made-room = e;
       }
 
 zeros-behind : (out xs : Bytes) (l : ℕ) → take l out ≡ xs → l ≡ length xs → l ≤ length out → sets out l (replicate (length out - l) 0) ≡ xs ++ replicate (length out - length xs) 0
@@ -62,7 +72,7 @@ over (outgrew n t) e = (cc, cc)
 module _ {d : Reduced} {out₁ : Bytes} {r : Repeated} (w : Repeats d out₁ r) (out : Bytes) (same : length out₁ ≡ length out) (h : 4096 ≤ length out) where
   behind : (l : ℕ) → l ≡ size (last d) → {out₂ : Bytes} → out₂ ≡ sets out₁ l (replicate (length out₁ - l) 0) → out₂ ≡ encode (last d) ++ replicate (length out - size (last d)) 0
   behind l e {out₂} z =
-      z ∙ zeros-behind out₁ (encode (last d)) l (rw e (w .bytes)) e (omega (arith, fits-bytes (last d) (w .fits)))
+      z ∙ zeros-behind out₁ (encode (last d)) l (rw e (w .bytes)) e (omega (arith, fits-few (last d) (w .fits)))
       ∙ ap (λ (k : ℕ). encode (last d) ++ replicate (k - size (last d)) 0) same
 
   module _ {n : ℕ} {c : Counts} {b : Bool} {l : ℕ} (e : r ≡ Stopped n c b l) where
@@ -70,7 +80,7 @@ module _ {d : Reduced} {out₁ : Bytes} {r : Repeated} (w : Repeats d out₁ r) 
     at-stop = stops d (sym e ∙ w .says)
 
     pub stop-room : l ≤ length out₁
-    stop-room = omega (arith, at-stop .1, fits-bytes (last d) (w .fits))
+    stop-room = omega (arith, at-stop .1, fits-few (last d) (w .fits))
 
     module _ (scratch scratch₁ : Bytes) {scratch₂ out₂ : Bytes} (p : length scratch₁ ≡ length scratch) (q : scratch₂ ≡ sets scratch₁ 0 (replicate (length scratch₁ - 0) 0)) (z : out₂ ≡ sets out₁ l (replicate (length out₁ - l) 0)) where
       pub stop : Reducing d out scratch (IsStopped (record { steps = n; counts = c; normal = b; length = l })) out₂ scratch₂
@@ -87,7 +97,7 @@ module _ {d : Reduced} {out₁ : Bytes} {r : Repeated} (w : Repeats d out₁ r) 
     at-over = over d (sym e ∙ w .says)
 
     pub over-room : l ≤ length out₁
-    over-room = omega (arith, at-over .1, fits-bytes (last d) (w .fits))
+    over-room = omega (arith, at-over .1, fits-few (last d) (w .fits))
 
     module _ (scratch scratch₁ : Bytes) {scratch₂ out₂ : Bytes} (p : length scratch₁ ≡ length scratch) (q : scratch₂ ≡ sets scratch₁ 0 (replicate (length scratch₁ - 0) 0)) (z : out₂ ≡ sets out₁ l (replicate (length out₁ - l) 0)) where
       pub outgrow : Reducing d out scratch (IsRefused (record { number = 8; place = n; input = 0 }) l) out₂ scratch₂

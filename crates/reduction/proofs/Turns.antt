@@ -1,113 +1,118 @@
--- A turn of the loop over steps: what is left to do is what the rules leave to do, of the term that stands in the output.
--- Assumes nothing.
-use Prim.Native.Nat.{ℕ, suc, _+_, _-_, _≤_, _<_}
-use mathlib.Core.Path.{_≡_, sym, ap, _∙_}
-use mathlib.Core.Bool.{Bool, true}
+-- A turn of the loop: the search goes on to a redex or to the end; what is left to do is what the rules leave to do, of the whole in which
+-- the search stands. Assumes nothing.
+use Prim.Native.Nat.{ℕ, zero, suc, _+_, _-_, _≤_, _<_}
+use mathlib.Core.Path.{_≡_, refl, sym, subst, ap, _∙_}
+use mathlib.Core.Bool.{Bool, true, false, not}
+use mathlib.Core.List.{List}
 use native.Mathlib.Numerals.{add-one}
 use native.Mathlib.Omega.{arith}
-use lib.ListN.{length, take}
-use lib.Seq.{sets, length-sets, slice}
+use lib.ListN.{length}
+use lib.Seq.{slice}
 use Rattle.rules.specs.Basic.{Bytes}
-use Rattle.rules.specs.Limits.{limits}
-use Rattle.rules.specs.Term.{Term, encode}
+use Rattle.rules.specs.Limits.{limits, outputRoom}
+use Rattle.rules.specs.Term.{Term, nodes}
 use Rattle.rules.specs.declared.Rule.{Rule}
 use Rattle.rules.specs.declared.Counts.{Counts}
 use Rattle.rules.specs.Step.{Stepped, normal, step, isNormal}
 use Rattle.rules.specs.Reduction.{stopped, noCounts, plus, reduceFrom, reduce}
 use Rattle.runs.specs.Wrote.{Wrote}
-use Rattle.substitution.proofs.Writes.{wrote-part}
-use Rattle.step.specs.Taken.{Reads, writtenOf, Takes}
-use Rattle.step.specs.declared.taking.Taken.{Taken}
-use Rattle.step.specs.declared.taking.Taken.the-variants.{Normal, Found, Outgrown}
-use Rattle.stepping.proofs.Taking.{fits-bytes, Fitted, Over, took, took-over, took-nothing, writes, writes-nothing}
-use Rattle.reduction.specs.Repeating.{Stands, Repeats}
+use Rattle.gap.specs.Standing.{Standing, Ended, Reducing}
+use Rattle.gap.specs.Fired.{Firing, Fires, Lands, Over}
+use Rattle.gap.specs.declared.landing.Fired.{Fired}
+use Rattle.gap.specs.declared.landing.Fired.the-variants.{Made, Outgrown as TooLarge}
+use Rattle.gap.specs.declared.place.Place.{Place}
+use Rattle.gap.proofs.Redexes.{redex-steps}
+use Rattle.gap.proofs.Wholes.{join-long, join-bytes}
+use Rattle.reduction.specs.Repeating.{Begun, Repeats}
 use Rattle.reduction.specs.Carried.{at-limit, at-normal, at-found, at-over}
-use Rattle.reduction.specs.declared.repeat.Repeated.the-variants.{Stopped, Outgrown as Outgrew}
+use Rattle.reduction.specs.declared.repeat.Repeated.the-variants.{Stopped, Outgrown}
 
-abbrev pub SameLength : Bytes → Bytes → Type 0
-SameLength a b = length a ≡ length b
+-- the buffers keep their lengths
+pub record Kept (out₀ scratch₀ stack₀ : List ℕ) (places₀ half₀ made₀ : Bytes) (out scratch stack : List ℕ) (places half made : Bytes) : Type 0 where
+  pub same-out : length out ≡ length out₀
+  pub same-scratch : length scratch ≡ length scratch₀
+  pub same-stack : length stack ≡ length stack₀
+  pub same-places : length places ≡ length places₀
+  pub same-half : length half ≡ length half₀
+  pub same-made : length made ≡ length made₀
 
--- after so many steps with these counts, `term` stands in the output; the reduction of t is what is left to do of it
-pub record Carried (limit : ℕ) (t : Term) (out : Bytes) (l n : ℕ) (scratch : Bytes) (steps : ℕ) (c : Counts) : Type 0 where
-  pub term : Term
-  pub stands : Stands out l n scratch term
-  pub carries : reduce limits limit t ≡ reduceFrom limits (limit - steps) steps c term
+-- after so many steps with these counts the search stands in `whole`; the reduction of t is what is left to do of it
+pub record Carried (limit : ℕ) (t : Term) (out scratch stack : List ℕ) (o i d n steps : ℕ) (c : Counts) : Type 0 where
+  pub whole : Term
+  pub stands : Standing whole out scratch stack o i d
+  pub count : n ≡ nodes whole
+  pub carries : reduce limits limit t ≡ reduceFrom limits (limit - steps) steps c whole
 
-pub start : (limit : ℕ) (t : Term) {out scratch : Bytes} {l n : ℕ} (c : Counts) → c ≡ noCounts → Stands out l n scratch t → Carried limit t out l n scratch 0 c
-start limit t c e d =
+pub start : (limit : ℕ) (t : Term) {out scratch stack : List ℕ} {k n : ℕ} {places half made : Bytes} (c : Counts) → c ≡ noCounts
+    → Begun t out scratch stack k n places half made → Carried limit t out scratch stack 0 k 0 n 0 c
+start limit t c e b =
     let z : limit - 0 ≡ limit = omega arith in
-    record { term = t; stands = d; carries = rw (z, e) }
+    record { whole = t; stands = b .stands; count = b .count; carries = rw (z, e) }
 
-module _ {limit : ℕ} {t : Term} {out : Bytes} {l n : ℕ} {scratch : Bytes} {steps : ℕ} {c : Counts} (k : Carried limit t out l n scratch steps c) where
-  pub short : l ≤ length out
-  short = let s = k .stands in omega (arith, s .long, fits-bytes (k .term) (s .fits), s .room)
+module _ {limit : ℕ} {t : Term} {out scratch stack : List ℕ} {o i d n steps : ℕ} {c : Counts} (k : Carried limit t out scratch stack o i d n steps c) where
+  -- no step remains, whether the limit is reached or not
+  at-rest : (m : ℕ) → step (k .whole) ≡ normal → reduceFrom limits m steps c (k .whole) ≡ stopped steps c true (k .whole)
+  at-rest zero e = at-limit limits steps c (k .whole) ∙ ap (λ (s : Stepped). stopped steps c (isNormal s) (k .whole)) e
+  at-rest (suc m) e = at-normal limits steps c (k .whole) m e
 
-  pub short-scratch : l ≤ length scratch
-  short-scratch = let s = k .stands in omega (arith, s .long, fits-bytes (k .term) (s .fits), s .scratch-room)
+  pub rests : {out₁ : List ℕ} {l : ℕ} → Ended (k .whole) out₁ l → Repeats (reduce limits limit t) out₁ (Stopped steps c true l)
+  rests e =
+      rw (k .carries ∙ at-rest (limit - steps) (e .none))
+      (record { says = rw (e .long); bytes = rw (← e .long) (e .bytes); fits = e .fits })
 
-  -- at the limit
-  pub at-end : limit ≤ steps → steps ≤ limit → (b : Bool) → b ≡ isNormal (step (k .term)) → Repeats (reduce limits limit t) out (Stopped steps c b l)
-  at-end g h b e =
-      let z : limit - steps ≡ 0 = omega arith in
-      let s = k .stands in
-      let w : reduce limits limit t ≡ stopped steps c (isNormal (step (k .term))) (k .term) =
-      k .carries ∙ ap (λ (m : ℕ). reduceFrom limits m steps c (k .term)) z ∙ at-limit limits steps c (k .term) in
-      rw w (record { says = rw (e, s .long); bytes = rw (← s .long) (s .bytes); fits = s .fits })
+  module _ {out₁ stack₁ : List ℕ} {o₁ i₁ d₁ : ℕ} (r : Reducing (k .whole) out₁ scratch stack₁ o₁ i₁ d₁) where
+    -- a redex, at the limit
+    pub at-end : steps ≡ limit → {out₂ : List ℕ} {p : ℕ} → Wrote out₁ o₁ (slice i₁ (length scratch) scratch) out₂ p → Repeats (reduce limits limit t) out₂ (Stopped steps c false p)
+    at-end g {out₂} {p} v =
+        let s = r .stands in
+        let z : limit - steps ≡ 0 = omega arith in
+        let q = redex-steps r in
+        let l = join-long s v in
+        rw
+        (k .carries ∙ ap (λ (m : ℕ). reduceFrom limits m steps c (k .whole)) z ∙ at-limit limits steps c (k .whole)
+        ∙ ap (λ (x : Stepped). stopped steps c (isNormal x) (k .whole)) (q .is))
+        (record { says = rw l; bytes = rw (← l) (join-bytes s v); fits = s .fits })
 
-  pub bytes-at : take (l - 0) out ≡ encode (k .term)
-  bytes-at = let z : l - 0 ≡ l = omega arith in rw z (k .stands .bytes)
+    pub fires : {places half made : Bytes} → outputRoom limits ≤ length places → outputRoom limits ≤ length half → outputRoom limits ≤ length made
+        → Firing (k .whole) out₁ scratch stack₁ o₁ i₁ d₁ n places half made
+    fires a b e = record { reducing = r; count = k .count; places-room = a; half-room = b; made-room = e }
 
-  module _ (g : steps < limit) {scratch₁ : Bytes} {m : ℕ} (w : Wrote scratch 0 (slice 0 l out) scratch₁ m) where
-    pub copied : l ≤ length scratch₁
-    copied = omega (arith, short-scratch, ap (λ (z : Bytes). length z) (w .holds), length-sets scratch 0 (slice 0 l out))
-
-    pub reads : Reads (take (l - 0) scratch₁) n out (k .term)
-    reads =
-        let s = k .stands in
-        let e : slice 0 l out ≡ encode (k .term) = s .bytes in
-        let v : Wrote scratch 0 (encode (k .term)) scratch₁ l = record { holds = w .holds ∙ ap (λ (z : Bytes). sets scratch 0 z) e; ends = omega (arith, s .long) } in
-        record { whole = wrote-part v short-scratch; count = s .count; fits = s .fits; room = s .room }
-
-    left : reduce limits limit t ≡ reduceFrom limits (suc (limit - (steps + 1))) steps c (k .term)
+  module _ (g : steps < limit) where
+    left : reduce limits limit t ≡ reduceFrom limits (suc (limit - (steps + 1))) steps c (k .whole)
     left =
         let z : limit - steps ≡ suc (limit - (steps + 1)) = omega arith in
-        k .carries ∙ ap (λ (m : ℕ). reduceFrom limits m steps c (k .term)) z
+        k .carries ∙ ap (λ (m : ℕ). reduceFrom limits m steps c (k .whole)) z
 
-    module _ {out₁ : Bytes} {a : Taken} (d : Takes (step (k .term)) out out₁ a) where
-      pub rests : a ≡ Normal → Repeats (reduce limits limit t) out₁ (Stopped steps c true l)
-      rests e =
-          let s = k .stands in
-          let z : step (k .term) ≡ normal = took-nothing (step (k .term)) (sym (d .says) ∙ e) in
-          let o : out₁ ≡ out = d .leaves ∙ ap (λ (y : Stepped). writtenOf y out) z in
-          rw (left ∙ at-normal limits steps c (k .term) (limit - (steps + 1)) z)
-          (record { says = rw (s .long); bytes = rw (o, ← s .long) (s .bytes); fits = s .fits })
+    pub outgrows : {out₁ scratch₁ stack₁ : List ℕ} {o₁ i₁ d₁ : ℕ} (y : Over (k .whole) out₁ scratch₁ stack₁ o₁ i₁ d₁) {out₂ : List ℕ} {p : ℕ}
+        → Wrote out₁ o₁ (slice i₁ (length scratch₁) scratch₁) out₂ p → Repeats (reduce limits limit t) out₂ (Outgrown steps p)
+    outgrows y {out₂} {p} v =
+        let s = y .stands in
+        let l = join-long s v in
+        rw (left ∙ at-over limits steps c (k .whole) (limit - (steps + 1)) (y .rule) (y .steps .place) (y .half) (y .next) (y .steps .is) (y .tested))
+        (record { says = rw l; bytes = rw (← l) (join-bytes s v); fits = s .fits })
 
-      pub outgrows : a ≡ Outgrown → Repeats (reduce limits limit t) out₁ (Outgrew steps l)
-      outgrows e =
-          let s = k .stands in
-          let y : Over (step (k .term)) = took-over (step (k .term)) (sym (d .says) ∙ e) in
-          let o : out₁ ≡ out = d .leaves ∙ writes-nothing y out in
-          rw (left ∙ at-over limits steps c (k .term) (limit - (steps + 1)) (y .rule) (y .place) (y .half) (y .result) (y .is) (y .tested))
-          (record { says = rw (s .long); bytes = rw (o, ← s .long) (s .bytes); fits = s .fits })
+    pub goes : {out₁ scratch₁ stack₁ : List ℕ} {r : Rule} {m : ℕ} {p : Place} → Lands (k .whole) r m out₁ scratch₁ stack₁ p → (c₁ : Counts) → c₁ ≡ plus r c
+        → Carried limit t out₁ scratch₁ stack₁ (p .o) (p .i) (p .depth) m (steps + 1) c₁
+    goes {r = r} y c₁ q =
+        record {
+          whole = y .next;
+          stands = y .stands;
+          count = y .count;
+          carries = left ∙ at-found limits steps c (k .whole) (limit - (steps + 1)) r (y .steps .place) (y .half) (y .next) (y .steps .is) (y .tested) ∙ rw (q, add-one);
+        }
 
-      module _ {r : Rule} {p l₁ n₁ : ℕ} (e : a ≡ Found r p l₁ n₁) (c₁ : Counts) (q : c₁ ≡ plus r c) where
-        pub goes : Carried limit t out₁ l₁ n₁ scratch₁ (steps + 1) c₁
-        goes =
-            let s = k .stands in
-            let f : Fitted (step (k .term)) r p l₁ n₁ = took (step (k .term)) (sym (d .says) ∙ e) in
-            let v : Wrote out 0 (encode (f .result)) out₁ l₁ = record { holds = d .leaves ∙ writes f out; ends = omega (arith, f .long) } in
-            let b = fits-bytes (f .result) (f .fits) in
-            let x : l₁ - 0 ≡ l₁ = omega arith in
-            record {
-              term = f .result;
-              stands =
-                  record {
-                    bytes = rw x at (wrote-part v (omega (arith, b, f .long, s .room)));
-                    long = f .long;
-                    count = f .count;
-                    fits = f .fits;
-                    room = omega (arith, s .room, ap (λ (z : Bytes). length z) (v .holds), length-sets out 0 (encode (f .result)));
-                    scratch-room = omega (arith, s .scratch-room, ap (λ (z : Bytes). length z) (w .holds), length-sets scratch 0 (slice 0 l out));
-                  };
-              carries = left ∙ at-found limits steps c (k .term) (limit - (steps + 1)) r p (f .half) (f .result) (f .is) (f .tested) ∙ rw (q, add-one);
-            }
+-- what the contraction's answer says
+module _ {w : Term} {out scratch stack : List ℕ} (o i d : ℕ) (r : Fired) (f : Fires w out scratch stack o i d r) where
+  pub is-over : r ≡ TooLarge → Over w out scratch stack o i d
+  is-over e = subst (λ (z : Fired). Fires w out scratch stack o i d z) e f
+
+  pub is-made : {q : Rule} {m : ℕ} {p : Place} → r ≡ Made q m p → Lands w q m out scratch stack p
+  is-made e = subst (λ (z : Fired). Fires w out scratch stack o i d z) e f
+
+pub not-going : (b : Bool) → not b ≡ true → b ≡ false
+not-going true e = sym e
+not-going false e = refl
+
+pub still-going : (b : Bool) → not b ≡ false → b ≡ true
+still-going true e = refl
+still-going false e = sym e

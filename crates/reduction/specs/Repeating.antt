@@ -2,22 +2,23 @@
 use Prim.Native.Nat.{ℕ, _≤_}
 use mathlib.Core.Path.{_≡_}
 use mathlib.Core.Bool.{true}
+use mathlib.Core.List.{List}
 use lib.ListN.{length, take}
 use Rattle.rules.specs.Basic.{Bytes}
 use Rattle.rules.specs.Limits.{limits, outputRoom}
 use Rattle.rules.specs.Term.{Term, encode, nodes, size, fits}
 use Rattle.rules.specs.Reduction.{Reduced, stopped, outgrew}
+use Rattle.gap.specs.Standing.{Standing}
 use Rattle.reduction.specs.declared.repeat.Repeated.{Repeated}
 use Rattle.reduction.specs.declared.repeat.Repeated.the-variants.{Stopped, Outgrown}
 
--- out[..l] encodes t, which has n nodes and breaks no limit; the buffers are long enough for any such term
-pub record Stands (out : Bytes) (l n : ℕ) (scratch : Bytes) (t : Term) : Type 0 where
-  pub bytes : take l out ≡ encode t
-  pub long : l ≡ size t
+-- the search stands at the term t, which has n nodes, and has passed nothing; there is room to work
+pub record Begun (t : Term) (out scratch stack : List ℕ) (begin n : ℕ) (places half made : Bytes) : Type 0 where
+  pub stands : Standing t out scratch stack 0 begin 0
   pub count : n ≡ nodes t
-  pub fits : fits limits t ≡ true
-  pub room : outputRoom limits ≤ length out
-  pub scratch-room : outputRoom limits ≤ length scratch
+  pub places-room : outputRoom limits ≤ length places
+  pub half-room : outputRoom limits ≤ length half
+  pub made-room : outputRoom limits ≤ length made
 
 -- the last term that fitted
 abbrev pub last : Reduced → Term

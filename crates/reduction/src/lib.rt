@@ -53,8 +53,7 @@ fn reduce_read(term: &[u8], nodes: usize, limit: u32, out: &mut [u8], scratch: &
     requires { ⌜ ((t : Term) × Reads (now term) nodes (now out) t) × (scratchRoom limits ≤ length (now scratch)) ⌝ }
     ensures { λ r. ⌜ ((t : Term) → Reads (now (term .entry)) nodes (now (out .entry)) t → Reducing (reduce limits limit t) (now (out .entry)) (now (scratch .entry)) r (now (out .exit)) (now (scratch .exit))) ⌝ }
 {
-    let whole = runs::copy(term, 0, term.len(), out, 0);
-    let repeated = repeat_steps(whole, nodes, limit, out, scratch);
+    let repeated = repeat_steps(term, nodes, limit, out, scratch);
     runs::clear(scratch, 0);
     match repeated {
         Repeated::Stopped {

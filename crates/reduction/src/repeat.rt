@@ -1,14 +1,18 @@
-// The loop over steps.
-ghost use Rattle.rules.specs.Limits.{limits};
+// Steps up to the limit. The search for a redex goes on where the last contraction was: what it has passed stands in the output, what it has
+// yet to see at the end of the scratch.
+ghost use Prim.Native.Nat.{_≤_};
+ghost use lib.ListN.{length};
+ghost use Rattle.rules.specs.Limits.{limits, scratchRoom};
 ghost use Rattle.rules.specs.Term.{Term};
 ghost use Rattle.rules.specs.Reduction.{reduce};
-ghost use Rattle.reduction.specs.Repeating.{Stands, Repeats};
+ghost use Rattle.step.specs.Taken.{Reads};
+ghost use Rattle.reduction.specs.Repeating.{Begun, Repeats};
 use crate::counting::no_counts;
 use crate::counting::plus;
+use gap::landing::Fired;
+use gap::landing::fire;
+use gap::moves::seek;
 use rules::Counts;
-use step::taking::Taken;
-use step::taking::take_step;
-use stepping::none_left;
 
 // Stopped, at the limit or because no step remains; or a step outgrew the limits. Either way the steps done, and the length of the
 // last term that fitted.
@@ -25,52 +29,107 @@ pub enum Repeated {
     },
 }
 
-// Reduces the term out[..whole] where it stands. Each step is taken from a copy of it in the scratch.
+// Reduces the term that stands in the scratch from `begin` to its end, and leaves it in the output.
+fn go_on(
+    begin: usize,
+    size: usize,
+    limit: u32,
+    out: &mut [u8],
+    scratch: &mut [u8],
+    stack: &mut [u16],
+    places: &mut [u8],
+    half: &mut [u8],
+    made: &mut [u8],
+) -> Repeated
+    requires { ⌜ ((t : Term) × Begun t (now out) (now scratch) (now stack) begin size (now places) (now half) (now made)) ⌝ }
+    ensures { λ r. ⌜ ((t : Term) → Begun t (now (out .entry)) (now (scratch .entry)) (now (stack .entry)) begin size (now (places .entry)) (now (half .entry)) (now (made .entry)) → Repeats (reduce limits limit t) (now (out .exit)) r) ⌝ }
+{
+    let mut o = 0;
+    let mut i = begin;
+    let mut depth = 0;
+    let mut nodes = size;
+    let mut steps = 0;
+    let mut counts = no_counts();
+    loop {
+        let place = seek(scratch, i, out, o, stack, depth);
+        let passed = place.o;
+        let at = place.i;
+        if !place.going {
+            return Repeated::Stopped {
+                steps,
+                counts,
+                normal: true,
+                length: passed,
+            };
+        }
+        if steps == limit {
+            return Repeated::Stopped {
+                steps,
+                counts,
+                normal: false,
+                length: runs::copy(scratch, at, scratch.len(), out, passed),
+            };
+        }
+        match fire(
+            out,
+            passed,
+            scratch,
+            at,
+            stack,
+            place.depth,
+            nodes,
+            places,
+            half,
+            made,
+        ) {
+            Fired::Outgrown => {
+                return Repeated::Outgrown {
+                    steps,
+                    length: runs::copy(scratch, at, scratch.len(), out, passed),
+                };
+            }
+            Fired::Made {
+                rule,
+                nodes: many,
+                place: next,
+            } => {
+                steps += 1;
+                counts = plus(rule, counts);
+                nodes = many;
+                o = next.o;
+                i = next.i;
+                depth = next.depth;
+            }
+        }
+    }
+}
+
+// Reduces a term that was read.
 pub fn repeat_steps(
-    whole: usize,
+    term: &[u8],
     nodes: usize,
     limit: u32,
     out: &mut [u8],
     scratch: &mut [u8],
 ) -> Repeated
-    requires { ⌜ ((t : Term) × Stands (now out) whole nodes (now scratch) t) ⌝ }
-    ensures { λ r. ⌜ ((t : Term) → Stands (now (out .entry)) whole nodes (now (scratch .entry)) t → Repeats (reduce limits limit t) (now (out .exit)) r) ⌝ }
+    requires { ⌜ ((t : Term) × Reads (now term) nodes (now out) t) × (scratchRoom limits ≤ length (now scratch)) ⌝ }
+    ensures { λ r. ⌜ ((t : Term) → Reads (now (term .entry)) nodes (now (out .entry)) t → Repeats (reduce limits limit t) (now (out .exit)) r) ⌝ }
 {
-    let mut length = whole;
-    let mut count = nodes;
-    let mut steps = 0;
-    let mut counts = no_counts();
-    while steps < limit {
-        runs::copy(out, 0, length, scratch, 0);
-        match take_step(&scratch[0..length], count, out) {
-            Taken::Normal => {
-                return Repeated::Stopped {
-                    steps,
-                    counts,
-                    normal: true,
-                    length,
-                };
-            }
-            Taken::Outgrown => {
-                return Repeated::Outgrown { steps, length };
-            }
-            Taken::Found {
-                rule,
-                place: _,
-                length: next,
-                nodes: after,
-            } => {
-                steps += 1;
-                counts = plus(rule, counts);
-                length = next;
-                count = after;
-            }
-        }
-    }
-    Repeated::Stopped {
-        steps,
-        counts,
-        normal: none_left(&out[0..length]),
-        length,
-    }
+    let mut stack = [0u16; 512];
+    let mut places = [0u8; 4096];
+    let mut half = [0u8; 4096];
+    let mut made = [0u8; 4096];
+    let begin = scratch.len() - term.len();
+    runs::copy(term, 0, term.len(), scratch, begin);
+    go_on(
+        begin,
+        nodes,
+        limit,
+        out,
+        scratch,
+        &mut stack,
+        &mut places,
+        &mut half,
+        &mut made,
+    )
 }

@@ -14,7 +14,7 @@ pub enum Sought {
 // How many parts the search enters: two bits a tag.
 const ENTERS: usize = 27133306496;
 
-fn enters_of(tag: usize) -> usize
+pub fn enters_of(tag: usize) -> usize
     requires { ⌜ tag < 32 ⌝ }
     ensures { λ r. ⌜ r ≡ entersAfter tag ⌝ }
 {
@@ -28,7 +28,7 @@ const WANTS: usize = 10308556627353599;
 const GIVES: usize = 17592242733568;
 
 // Whether a node is a redex, by its tag and its first part's.
-fn reduces(tag: usize, first: usize) -> bool
+pub fn reduces(tag: usize, first: usize) -> bool
     requires { ⌜ (tag < 20) × (first < 20) ⌝ }
     ensures { λ r. ⌜ r ≡ reducesOf tag first ⌝ }
 {

@@ -1,17 +1,12 @@
--- `reduction::reduce_read` meets its contract: the loop starts at the term that was read, and ends with zeros behind what it left. Assumes nothing.
-use mathlib.Core.Path.{_∙_}
-use native.Mathlib.Omega.{arith}
+-- `reduction::reduce_read` meets its contract: the loop's answer, with zeros behind what it left. Assumes nothing.
 use denote.Ref.{now}
-use Rattle.reduction.proofs.Ending.{room, starts, stop-room, stop, over-room, outgrow}
+use Rattle.reduction.proofs.Ending.{stop-room, stop, over-room, outgrow}
 use borrow.Author.Needs.{needs}
 use Rattle.reduction.proofs.reduce_read.Statement.{statement}
 use Rattle.reduction.proofs.reduce_read.Tie as tie
 
-copy-requires : tie.Need-copy-requires
-copy-requires c κs = let w = c .before .before .before .before .pre in (omega arith, omega arith, room (w .0 .1))
-
 repeat-steps-requires : tie.Need-repeat-steps-requires
-repeat-steps-requires c κs = let w = c .before .before .before .before .before .before .before .before .before .pre in (w .0 .0, starts (w .0 .1) (w .1) (c .before .before .before .before .copy .ensures))
+repeat-steps-requires c κs = search needs
 
 clear-requires : tie.Need-clear-requires
 clear-requires c κs = search needs
@@ -20,16 +15,16 @@ enum-known-repeated : tie.Need-enum-known-repeated
 enum-known-repeated c = search needs
 
 clear-requires-2 : tie.Need-clear-requires-2
-clear-requires-2 c κs = let w = c .before .before .before .before .before .before .before .before .before .before .before .before .before .before .before .before .before .before .before .before .before .before .pre in stop-room (c .before .before .before .before .before .before .before .before .before .before .before .before .repeat-steps .ensures (w .0 .0) (starts (w .0 .1) (w .1) (c .before .before .before .before .before .before .before .before .before .before .before .before .before .before .before .before .before .copy .ensures))) (now (c .before .before .before .before .before .before .before .before .before .before .before .before .before .before .before .before .before .before .before .before .before .before .args .out)) (c .before .before .before .before .before .before .before .before .before .before .before .before .repeat-steps .kept .1 .1 .1 .0 ∙ c .before .before .before .before .before .before .before .before .before .before .before .before .before .before .before .before .before .copy .kept .1 .1 .1 .0) (w .0 .1 .room) (c .before .before .repeated .given .1)
+clear-requires-2 c κs = let w = (c .before .before .before .before .before .before .before .before .before .before .before .before .before .before .before .before .before .before .pre) in stop-room ((c .before .before .before .before .before .before .before .before .before .before .before .before .repeat-steps) .ensures (w .0 .0) (w .0 .1)) (now ((c .before .before .before .before .before .before .before .before .before .before .before .before .before .before .before .before .before .before .args) .out)) ((c .before .before .before .before .before .before .before .before .before .before .before .before .repeat-steps) .kept .1 .1 .1 .0) (w .0 .1 .room) ((c .before .before .repeated) .given .1)
 
 enum-known-repeated-2 : tie.Need-enum-known-repeated-2
 enum-known-repeated-2 c = search needs
 
 clear-requires-3 : tie.Need-clear-requires-3
-clear-requires-3 c κs = let w = c .before .before .before .before .before .before .before .before .before .before .before .before .before .before .before .before .before .before .before .before .before .before .pre in over-room (c .before .before .before .before .before .before .before .before .before .before .before .before .repeat-steps .ensures (w .0 .0) (starts (w .0 .1) (w .1) (c .before .before .before .before .before .before .before .before .before .before .before .before .before .before .before .before .before .copy .ensures))) (now (c .before .before .before .before .before .before .before .before .before .before .before .before .before .before .before .before .before .before .before .before .before .before .args .out)) (c .before .before .before .before .before .before .before .before .before .before .before .before .repeat-steps .kept .1 .1 .1 .0 ∙ c .before .before .before .before .before .before .before .before .before .before .before .before .before .before .before .before .before .copy .kept .1 .1 .1 .0) (w .0 .1 .room) (c .before .before .repeated2 .given .1)
+clear-requires-3 c κs = let w = (c .before .before .before .before .before .before .before .before .before .before .before .before .before .before .before .before .before .before .pre) in over-room ((c .before .before .before .before .before .before .before .before .before .before .before .before .repeat-steps) .ensures (w .0 .0) (w .0 .1)) (now ((c .before .before .before .before .before .before .before .before .before .before .before .before .before .before .before .before .before .before .args) .out)) ((c .before .before .before .before .before .before .before .before .before .before .before .before .repeat-steps) .kept .1 .1 .1 .0) (w .0 .1 .room) ((c .before .before .repeated2) .given .1)
 
-cast-t32 : tie.Need-cast-t32
-cast-t32 c = search needs
+cast-t28 : tie.Need-cast-t28
+cast-t28 c = search needs
 
 same-length : tie.Need-same-length
 same-length c = search needs
@@ -38,7 +33,7 @@ same-length-2 : tie.Need-same-length-2
 same-length-2 c = search needs
 
 returns : tie.Need-returns
-returns c = λ t d. stop (c .before .before .before .before .before .before .before .before .before .before .before .before .before .before .before .repeat-steps .ensures t (starts d (c .before .before .before .before .before .before .before .before .before .before .before .before .before .before .before .before .before .before .before .before .before .before .before .before .before .pre .1) (c .before .before .before .before .before .before .before .before .before .before .before .before .before .before .before .before .before .before .before .before .copy .ensures))) (now (c .before .before .before .before .before .before .before .before .before .before .before .before .before .before .before .before .before .before .before .before .before .before .before .before .before .args .out)) (c .before .before .before .before .before .before .before .before .before .before .before .before .before .before .before .repeat-steps .kept .1 .1 .1 .0 ∙ c .before .before .before .before .before .before .before .before .before .before .before .before .before .before .before .before .before .before .before .before .copy .kept .1 .1 .1 .0) (d .room) (c .before .before .before .before .before .repeated .given .1) _ (c .before .before .before .before .before .before .before .before .before .before .before .before .before .before .before .repeat-steps .last .1 .1 .1 .1 .0) (c .before .before .before .before .before .before .before .before .before .before .before .before .before .before .before .repeat-steps .kept .1 .1 .1 .1 .0) (c .before .before .before .before .before .before .before .before .before .clear .ensures) (c .before .before .clear2 .ensures)
+returns c = λ t d. stop ((c .before .before .before .before .before .before .before .before .before .before .before .before .before .before .before .repeat-steps) .ensures t d) (now ((c .before .before .before .before .before .before .before .before .before .before .before .before .before .before .before .before .before .before .before .before .before .args) .out)) ((c .before .before .before .before .before .before .before .before .before .before .before .before .before .before .before .repeat-steps) .kept .1 .1 .1 .0) (d .room) ((c .before .before .before .before .before .repeated) .given .1) _ ((c .before .before .before .before .before .before .before .before .before .before .before .before .before .before .before .repeat-steps) .last .1 .1 .1 .1 .0) ((c .before .before .before .before .before .before .before .before .before .before .before .before .before .before .before .repeat-steps) .kept .1 .1 .1 .1 .0) ((c .before .before .before .before .before .before .before .before .before .clear) .ensures) ((c .before .before .clear2) .ensures)
 
 same-length-3 : tie.Need-same-length-3
 same-length-3 c = search needs
@@ -47,20 +42,19 @@ same-length-4 : tie.Need-same-length-4
 same-length-4 c = search needs
 
 returns-2 : tie.Need-returns-2
-returns-2 c = λ t d. outgrow (c .before .before .before .before .before .before .before .before .before .before .before .before .before .before .before .repeat-steps .ensures t (starts d (c .before .before .before .before .before .before .before .before .before .before .before .before .before .before .before .before .before .before .before .before .before .before .before .before .before .pre .1) (c .before .before .before .before .before .before .before .before .before .before .before .before .before .before .before .before .before .before .before .before .copy .ensures))) (now (c .before .before .before .before .before .before .before .before .before .before .before .before .before .before .before .before .before .before .before .before .before .before .before .before .before .args .out)) (c .before .before .before .before .before .before .before .before .before .before .before .before .before .before .before .repeat-steps .kept .1 .1 .1 .0 ∙ c .before .before .before .before .before .before .before .before .before .before .before .before .before .before .before .before .before .before .before .before .copy .kept .1 .1 .1 .0) (d .room) (c .before .before .before .before .before .repeated2 .given .1) _ (c .before .before .before .before .before .before .before .before .before .before .before .before .before .before .before .repeat-steps .last .1 .1 .1 .1 .0) (c .before .before .before .before .before .before .before .before .before .before .before .before .before .before .before .repeat-steps .kept .1 .1 .1 .1 .0) (c .before .before .before .before .before .before .before .before .before .clear .ensures) (c .before .before .clear3 .ensures)
+returns-2 c = λ t d. outgrow ((c .before .before .before .before .before .before .before .before .before .before .before .before .before .before .before .repeat-steps) .ensures t d) (now ((c .before .before .before .before .before .before .before .before .before .before .before .before .before .before .before .before .before .before .before .before .before .args) .out)) ((c .before .before .before .before .before .before .before .before .before .before .before .before .before .before .before .repeat-steps) .kept .1 .1 .1 .0) (d .room) ((c .before .before .before .before .before .repeated2) .given .1) _ ((c .before .before .before .before .before .before .before .before .before .before .before .before .before .before .before .repeat-steps) .last .1 .1 .1 .1 .0) ((c .before .before .before .before .before .before .before .before .before .before .before .before .before .before .before .repeat-steps) .kept .1 .1 .1 .1 .0) ((c .before .before .before .before .before .before .before .before .before .clear) .ensures) ((c .before .before .clear3) .ensures)
 
 pub reduce-read-spec : {M : Type 1} → statement M
 reduce-read-spec =
     tie.close
     (tie.spec
-    copy-requires
     repeat-steps-requires
     clear-requires
     enum-known-repeated
     clear-requires-2
     enum-known-repeated-2
     clear-requires-3
-    cast-t32
+    cast-t28
     same-length
     same-length-2
     returns

@@ -1,0 +1,5 @@
+pub mod Hole
+pub mod Quiet
+pub mod Seen
+pub mod Standing
+pub mod Fired

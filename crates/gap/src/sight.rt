@@ -1,0 +1,28 @@
+// One look at a node.
+ghost use Rattle.rules.specs.Term.{Term};
+ghost use Rattle.walk.specs.Place.{TermAt};
+ghost use Rattle.gap.specs.Seen.{Sees};
+use step::search::enters_of;
+use step::search::reduces;
+
+// The term has no step, and ends there; or is a redex; or is entered at its first part, which starts there.
+pub enum Seen {
+    Passed(usize),
+    Redex,
+    Inside(usize),
+}
+
+pub fn see(s: &[u8], at: usize) -> Seen
+    requires { ⌜ ((t : Term) × TermAt (now s) at t) ⌝ }
+    ensures { λ r. ⌜ ((t : Term) → TermAt (now (s .entry)) at t → Sees at t r) ⌝ }
+{
+    let tag = s[at] as usize;
+    let start = walk::after_names(s, at + 1, walk::names_of(tag));
+    if enters_of(tag) == 0 {
+        return Seen::Passed(walk::skip(s, start, walk::parts_of(tag)));
+    }
+    if reduces(tag, s[start] as usize) {
+        return Seen::Redex;
+    }
+    Seen::Inside(start)
+}
