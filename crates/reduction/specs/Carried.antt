@@ -1,14 +1,14 @@
 -- Reduction one step at a time: what is left to do after so many steps, with the counts so far. Any loop that reduces is held to this.
 -- By cases on the step. Assumes nothing.
 use Prim.Native.Nat.{ℕ, zero, suc}
-use mathlib.Core.Path.{_≡_, refl}
+use mathlib.Core.Path.{_≡_, refl, ap, _∙_}
 use mathlib.Core.Bool.{true, false}
 use mathlib.Core.Option.{Option}
 use Rattle.rules.specs.Limits.{Limits}
 use Rattle.rules.specs.Term.{Term}
 use Rattle.rules.specs.declared.Rule.{Rule}
 use Rattle.rules.specs.declared.Counts.{Counts}
-use Rattle.rules.specs.Step.{normal, found, step, isNormal, stepFits}
+use Rattle.rules.specs.Step.{Stepped, normal, found, step, isNormal, stepFits}
 use Rattle.rules.specs.Reduction.{plus, stopped, outgrew, reduceFrom}
 
 module _ (L : Limits) (n : ℕ) (c : Counts) (t : Term) where
@@ -30,3 +30,8 @@ module _ (L : Limits) (n : ℕ) (c : Counts) (t : Term) where
         → reduceFrom L (suc limit) n c t ≡ outgrew n t
     unfolding reduceFrom
     at-over r p h u e f = rw (e, reduceFrom) (rw f)
+
+  -- no step remains, whether the limit is reached or not
+  pub at-rest : (limit : ℕ) → step t ≡ normal → reduceFrom L limit n c t ≡ stopped n c true t
+  at-rest zero e = at-limit ∙ ap (λ (s : Stepped). stopped n c (isNormal s) t) e
+  at-rest (suc limit) e = at-normal limit e
