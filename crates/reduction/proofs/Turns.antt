@@ -23,8 +23,8 @@ use Rattle.gap.specs.declared.landing.Fired.the-variants.{Made, Outgrown as Too
 use Rattle.gap.specs.declared.place.Place.{Place}
 use Rattle.gap.proofs.Redexes.{redex-steps}
 use Rattle.gap.proofs.Wholes.{join-long, join-bytes}
-use Rattle.reduction.specs.Repeating.{Begun, Repeats}
-use Rattle.reduction.specs.Carried.{at-limit, at-normal, at-found, at-over}
+use Rattle.reduction.specs.Repeating.{Counted, Repeats}
+use Rattle.reduction.specs.Carried.{at-limit, at-rest, at-found, at-over}
 use Rattle.reduction.specs.declared.repeat.Repeated.the-variants.{Stopped, Outgrown}
 
 -- the buffers keep their lengths
@@ -43,21 +43,17 @@ pub record Carried (limit : ℕ) (t : Term) (out scratch stack : List ℕ) (o i 
   pub count : n ≡ nodes whole
   pub carries : reduce limits limit t ≡ reduceFrom limits (limit - steps) steps c whole
 
-pub start : (limit : ℕ) (t : Term) {out scratch stack : List ℕ} {k n : ℕ} {places half made : Bytes} (c : Counts) → c ≡ noCounts
-    → Begun t out scratch stack k n places half made → Carried limit t out scratch stack 0 k 0 n 0 c
+pub start : (limit : ℕ) (t : Term) {out scratch stack : List ℕ} {o i d n : ℕ} (c : Counts) → c ≡ noCounts
+    → Counted t out scratch stack o i d n → Carried limit t out scratch stack o i d n 0 c
 start limit t c e b =
     let z : limit - 0 ≡ limit = omega arith in
     record { whole = t; stands = b .stands; count = b .count; carries = rw (z, e) }
 
 module _ {limit : ℕ} {t : Term} {out scratch stack : List ℕ} {o i d n steps : ℕ} {c : Counts} (k : Carried limit t out scratch stack o i d n steps c) where
-  -- no step remains, whether the limit is reached or not
-  at-rest : (m : ℕ) → step (k .whole) ≡ normal → reduceFrom limits m steps c (k .whole) ≡ stopped steps c true (k .whole)
-  at-rest zero e = at-limit limits steps c (k .whole) ∙ ap (λ (s : Stepped). stopped steps c (isNormal s) (k .whole)) e
-  at-rest (suc m) e = at-normal limits steps c (k .whole) m e
-
+  -- no step remains
   pub rests : {out₁ : List ℕ} {l : ℕ} → Ended (k .whole) out₁ l → Repeats (reduce limits limit t) out₁ (Stopped steps c true l)
   rests e =
-      rw (k .carries ∙ at-rest (limit - steps) (e .none))
+      rw (k .carries ∙ at-rest limits steps c (k .whole) (limit - steps) (e .none))
       (record { says = rw (e .long); bytes = rw (← e .long) (e .bytes); fits = e .fits })
 
   module _ {out₁ stack₁ : List ℕ} {o₁ i₁ d₁ : ℕ} (r : Reducing (k .whole) out₁ scratch stack₁ o₁ i₁ d₁) where

@@ -1,7 +1,7 @@
 -- Reduction one step at a time: what is left to do after so many steps, with the counts so far. Any loop that reduces is held to this.
 -- By cases on the step. Assumes nothing.
 use Prim.Native.Nat.{ℕ, zero, suc}
-use mathlib.Core.Path.{_≡_, refl}
+use mathlib.Core.Path.{_≡_, refl, ap, _∙_}
 use mathlib.Core.Bool.{Bool, true, false}
 use mathlib.Core.Option.{Option}
 use Rattle.rules.specs.Limits.{Limits}
@@ -30,6 +30,11 @@ module _ (L : Limits) (n : ℕ) (c : Counts) (t : Term) where
         → reduceFrom L (suc limit) n c t ≡ outgrew n t
     unfolding reduceFrom
     at-over r p h u e f = rw (e, reduceFrom) (rw f)
+
+  -- no step remains, whether the limit is reached or not
+  pub at-rest : (limit : ℕ) → step t ≡ normal → reduceFrom L limit n c t ≡ stopped n c true t
+  at-rest zero e = at-limit ∙ ap (λ (s : Stepped). stopped n c (isNormal s) t) e
+  at-rest (suc limit) e = at-normal limit e
 
 -- what a step of t comes to: nothing, a term that fits, or one that does not
 pub data Turn (L : Limits) (t : Term) : Type 0 where

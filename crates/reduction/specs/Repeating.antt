@@ -12,10 +12,14 @@ use Rattle.gap.specs.Standing.{Standing}
 use Rattle.reduction.specs.declared.repeat.Repeated.{Repeated}
 use Rattle.reduction.specs.declared.repeat.Repeated.the-variants.{Stopped, Outgrown}
 
--- the search stands at the term t, which has n nodes, and has passed nothing; there is room to work
-pub record Begun (t : Term) (out scratch stack : List ℕ) (begin n : ℕ) (places half made : Bytes) : Type 0 where
-  pub stands : Standing t out scratch stack 0 begin 0
+-- the search stands in the whole t, which has n nodes
+pub record Counted (t : Term) (out scratch stack : List ℕ) (o i d n : ℕ) : Type 0 where
+  pub stands : Standing t out scratch stack o i d
   pub count : n ≡ nodes t
+
+-- and there is room to work in
+pub record Begun (t : Term) (out scratch stack : List ℕ) (o i d n : ℕ) (places half made : Bytes) : Type 0 where
+  pub from : Counted t out scratch stack o i d n
   pub places-room : outputRoom limits ≤ length places
   pub half-room : outputRoom limits ≤ length half
   pub made-room : outputRoom limits ≤ length made

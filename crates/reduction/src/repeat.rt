@@ -6,7 +6,7 @@ ghost use Rattle.rules.specs.Limits.{limits, scratchRoom};
 ghost use Rattle.rules.specs.Term.{Term};
 ghost use Rattle.rules.specs.Reduction.{reduce};
 ghost use Rattle.step.specs.Taken.{Reads};
-ghost use Rattle.reduction.specs.Repeating.{Begun, Repeats};
+ghost use Rattle.reduction.specs.Repeating.{Counted, Begun, Repeats};
 use crate::counting::no_counts;
 use crate::counting::plus;
 use gap::landing::Fired;
@@ -29,9 +29,11 @@ pub enum Repeated {
     },
 }
 
-// Reduces the term that stands in the scratch from `begin` to its end, and leaves it in the output.
+// Reduces the whole in which the search stands, and leaves it in the output.
 fn go_on(
-    begin: usize,
+    passed: usize,
+    at: usize,
+    under: usize,
     size: usize,
     limit: u32,
     out: &mut [u8],
@@ -41,25 +43,25 @@ fn go_on(
     half: &mut [u8],
     made: &mut [u8],
 ) -> Repeated
-    requires { ⌜ ((t : Term) × Begun t (now out) (now scratch) (now stack) begin size (now places) (now half) (now made)) ⌝ }
-    ensures { λ r. ⌜ ((t : Term) → Begun t (now (out .entry)) (now (scratch .entry)) (now (stack .entry)) begin size (now (places .entry)) (now (half .entry)) (now (made .entry)) → Repeats (reduce limits limit t) (now (out .exit)) r) ⌝ }
+    requires { ⌜ ((t : Term) × Begun t (now out) (now scratch) (now stack) passed at under size (now places) (now half) (now made)) ⌝ }
+    ensures { λ r. ⌜ ((t : Term) → Begun t (now (out .entry)) (now (scratch .entry)) (now (stack .entry)) passed at under size (now (places .entry)) (now (half .entry)) (now (made .entry)) → Repeats (reduce limits limit t) (now (out .exit)) r) ⌝ }
 {
-    let mut o = 0;
-    let mut i = begin;
-    let mut depth = 0;
+    let mut o = passed;
+    let mut i = at;
+    let mut depth = under;
     let mut nodes = size;
     let mut steps = 0;
     let mut counts = no_counts();
     loop {
         let place = seek(scratch, i, out, o, stack, depth);
-        let passed = place.o;
-        let at = place.i;
+        let end = place.o;
+        let begin = place.i;
         if !place.going {
             return Repeated::Stopped {
                 steps,
                 counts,
                 normal: true,
-                length: passed,
+                length: end,
             };
         }
         if steps == limit {
@@ -67,14 +69,14 @@ fn go_on(
                 steps,
                 counts,
                 normal: false,
-                length: runs::copy(scratch, at, scratch.len(), out, passed),
+                length: runs::copy(scratch, begin, scratch.len(), out, end),
             };
         }
         match fire(
             out,
-            passed,
+            end,
             scratch,
-            at,
+            begin,
             stack,
             place.depth,
             nodes,
@@ -85,7 +87,7 @@ fn go_on(
             Fired::Outgrown => {
                 return Repeated::Outgrown {
                     steps,
-                    length: runs::copy(scratch, at, scratch.len(), out, passed),
+                    length: runs::copy(scratch, begin, scratch.len(), out, end),
                 };
             }
             Fired::Made {
@@ -104,7 +106,39 @@ fn go_on(
     }
 }
 
-// Reduces a term that was read.
+// The same, with room to work in.
+fn with_room(
+    passed: usize,
+    at: usize,
+    under: usize,
+    nodes: usize,
+    limit: u32,
+    out: &mut [u8],
+    scratch: &mut [u8],
+    stack: &mut [u16],
+) -> Repeated
+    requires { ⌜ ((t : Term) × Counted t (now out) (now scratch) (now stack) passed at under nodes) ⌝ }
+    ensures { λ r. ⌜ ((t : Term) → Counted t (now (out .entry)) (now (scratch .entry)) (now (stack .entry)) passed at under nodes → Repeats (reduce limits limit t) (now (out .exit)) r) ⌝ }
+{
+    let mut places = [0u8; 4096];
+    let mut half = [0u8; 4096];
+    let mut made = [0u8; 4096];
+    go_on(
+        passed,
+        at,
+        under,
+        nodes,
+        limit,
+        out,
+        scratch,
+        stack,
+        &mut places,
+        &mut half,
+        &mut made,
+    )
+}
+
+// Reduces a term that was read. Room to contract is made only where there is a redex.
 pub fn repeat_steps(
     term: &[u8],
     nodes: usize,
@@ -116,20 +150,25 @@ pub fn repeat_steps(
     ensures { λ r. ⌜ ((t : Term) → Reads (now (term .entry)) nodes (now (out .entry)) t → Repeats (reduce limits limit t) (now (out .exit)) r) ⌝ }
 {
     let mut stack = [0u16; 512];
-    let mut places = [0u8; 4096];
-    let mut half = [0u8; 4096];
-    let mut made = [0u8; 4096];
     let begin = scratch.len() - term.len();
     runs::copy(term, 0, term.len(), scratch, begin);
-    go_on(
-        begin,
-        nodes,
-        limit,
-        out,
-        scratch,
-        &mut stack,
-        &mut places,
-        &mut half,
-        &mut made,
-    )
+    let place = seek(scratch, begin, out, 0, &mut stack, 0);
+    if place.going {
+        return with_room(
+            place.o,
+            place.i,
+            place.depth,
+            nodes,
+            limit,
+            out,
+            scratch,
+            &mut stack,
+        );
+    }
+    Repeated::Stopped {
+        steps: 0,
+        counts: no_counts(),
+        normal: true,
+        length: place.o,
+    }
 }

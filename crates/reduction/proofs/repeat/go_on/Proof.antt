@@ -13,16 +13,16 @@ use Rattle.reduction.proofs.repeat.go_on.Statement.{statement}
 use Rattle.reduction.proofs.repeat.go_on.Tie as tie
 
 abbrev Inv-loop : tie.InvT-loop
-Inv-loop begin size limit out₀ scratch₀ stack₀ places₀ half₀ made₀ o₀ i₀ depth₀ nodes₀ steps₀ counts₀ out scratch stack places half made o i depth nodes steps counts = (steps ≤ limit) × (total counts ≡ steps) × Kept out₀ scratch₀ stack₀ places₀ half₀ made₀ out scratch stack places half made × ((t : Term) → Begun t out₀ scratch₀ stack₀ begin size places₀ half₀ made₀ → Carried limit t out scratch stack o i depth nodes steps counts)
+Inv-loop passed at under size limit out₀ scratch₀ stack₀ places₀ half₀ made₀ o₀ i₀ depth₀ nodes₀ steps₀ counts₀ out scratch stack places half made o i depth nodes steps counts = (steps ≤ limit) × (total counts ≡ steps) × Kept out₀ scratch₀ stack₀ places₀ half₀ made₀ out scratch stack places half made × ((t : Term) → Begun t out₀ scratch₀ stack₀ passed at under size places₀ half₀ made₀ → Carried limit t out scratch stack o i depth nodes steps counts)
 
 abbrev μ-loop : tie.MeasureT-loop
-μ-loop begin size limit out₀ scratch₀ stack₀ places₀ half₀ made₀ o₀ i₀ depth₀ nodes₀ steps₀ counts₀ out scratch stack places half made o i depth nodes steps counts = limit - steps
+μ-loop passed at under size limit out₀ scratch₀ stack₀ places₀ half₀ made₀ o₀ i₀ depth₀ nodes₀ steps₀ counts₀ out scratch stack places half made o i depth nodes steps counts = limit - steps
 
 no-counts-requires : tie.Need-no-counts-requires Inv-loop μ-loop
 no-counts-requires c κs = search needs
 
 loop-holds : tie.Need-loop-holds Inv-loop μ-loop
-loop-holds c = (omega arith, rw ((c .no-counts) .ensures), record { same-out = refl; same-scratch = refl; same-stack = refl; same-places = refl; same-half = refl; same-made = refl }, λ t b. start _ t _ ((c .no-counts) .ensures) b)
+loop-holds c = (omega arith, rw ((c .no-counts) .ensures), record { same-out = refl; same-scratch = refl; same-stack = refl; same-places = refl; same-half = refl; same-made = refl }, λ t b. start _ t _ ((c .no-counts) .ensures) (b .from))
 
 seek-requires : tie.Need-seek-requires Inv-loop μ-loop
 seek-requires c κs = let a = (c .before .before .before .before .before .before .before .before .before .before .before .pre) in let k = (c .before .before .before .loop) .inv .3 (a .0) (a .1) in (k .whole, k .stands)

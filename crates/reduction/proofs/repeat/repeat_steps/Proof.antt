@@ -1,8 +1,7 @@
 -- `reduction::repeat::repeat_steps` meets its contract: the term is put at the end of the scratch, and the search begins there. Assumes nothing.
-use native.Mathlib.Omega.{arith}
 use denote.Ref.{now}
-use borrow.Author.Needs.{needs}
-use Rattle.reduction.proofs.Ending.{begin-room, begun, stack-long, bytes-long}
+use native.Mathlib.Omega.{arith}
+use Rattle.reduction.proofs.Ending.{begin-room, begins, counts, settled}
 use borrow.Author.Needs.{needs}
 use Rattle.reduction.proofs.repeat.repeat_steps.Statement.{statement}
 use Rattle.reduction.proofs.repeat.repeat_steps.Tie as tie
@@ -13,20 +12,17 @@ sub-begin c = let a = (c .before .before .before .pre) in begin-room (a .0 .1) (
 copy-requires : tie.Need-copy-requires
 copy-requires c κs = let a = (c .before .before .before .before .pre) in (omega arith, omega arith, begin-room (a .0 .1) (now ((c .before .before .before .before .args) .scratch)) (a .1) .1)
 
-slice-aggregate-go-on : tie.Need-slice-aggregate-go-on
-slice-aggregate-go-on c = search needs
+slice-aggregate-seek : tie.Need-slice-aggregate-seek
+slice-aggregate-seek c = search needs
 
-slice-aggregate-go-on-2 : tie.Need-slice-aggregate-go-on-2
-slice-aggregate-go-on-2 c = search needs
+seek-requires : tie.Need-seek-requires
+seek-requires c κs = let a = (c .before .before .before .before .before .before .before .before .before .before .pre) in (a .0 .0, begins (a .0 .1) (now ((c .before .before .before .before .before .before .before .before .before .before .args) .scratch)) (a .1) ((c .before .before .before .before .before .copy) .ensures))
 
-slice-aggregate-go-on-3 : tie.Need-slice-aggregate-go-on-3
-slice-aggregate-go-on-3 c = search needs
+slice-aggregate-with-room : tie.Need-slice-aggregate-with-room
+slice-aggregate-with-room c = search needs
 
-slice-aggregate-go-on-4 : tie.Need-slice-aggregate-go-on-4
-slice-aggregate-go-on-4 c = search needs
-
-go-on-requires : tie.Need-go-on-requires
-go-on-requires c κs = let a = (c .before .before .before .before .before .before .before .before .before .before .before .before .before .pre) in (a .0 .0, begun (a .0 .1) (now ((c .before .before .before .before .before .before .before .before .before .before .before .before .before .args) .scratch)) (a .1) ((c .before .before .before .before .before .before .before .before .copy) .ensures) stack-long bytes-long bytes-long bytes-long)
+with-room-requires : tie.Need-with-room-requires
+with-room-requires c κs = let a = (c .before .before .before .before .before .before .before .before .before .before .before .before .before .before .before .before .before .before .pre) in (a .0 .0, counts (a .0 .1) (now ((c .before .before .before .before .before .before .before .before .before .before .before .before .before .before .before .before .before .before .args) .scratch)) (a .1) ((c .before .before .before .before .before .before .before .seek) .ensures (a .0 .0) (begins (a .0 .1) (now ((c .before .before .before .before .before .before .before .before .before .before .before .before .before .before .before .before .before .before .args) .scratch)) (a .1) ((c .before .before .before .before .before .before .before .before .before .before .before .before .before .copy) .ensures))) ((c .before .before .before .if1) .taken))
 
 same-length : tie.Need-same-length
 same-length c = search needs
@@ -35,7 +31,19 @@ same-length-2 : tie.Need-same-length-2
 same-length-2 c = search needs
 
 returns : tie.Need-returns
-returns c = λ t d. (c .before .before .before .before .before .before .before .before .go-on) .ensures t (begun d (now ((c .before .before .before .before .before .before .before .before .before .before .before .before .before .before .before .before .before .before .before .before .before .before .args) .scratch)) ((c .before .before .before .before .before .before .before .before .before .before .before .before .before .before .before .before .before .before .before .before .before .before .pre) .1) ((c .before .before .before .before .before .before .before .before .before .before .before .before .before .before .before .before .before .copy) .ensures) stack-long bytes-long bytes-long bytes-long)
+returns c = λ t d. (c .before .before .before .before .before .with-room) .ensures t (counts d (now ((c .before .before .before .before .before .before .before .before .before .before .before .before .before .before .before .before .before .before .before .before .before .before .before .before .args) .scratch)) ((c .before .before .before .before .before .before .before .before .before .before .before .before .before .before .before .before .before .before .before .before .before .before .before .before .pre) .1) ((c .before .before .before .before .before .before .before .before .before .before .before .before .before .seek) .ensures t (begins d (now ((c .before .before .before .before .before .before .before .before .before .before .before .before .before .before .before .before .before .before .before .before .before .before .before .before .args) .scratch)) ((c .before .before .before .before .before .before .before .before .before .before .before .before .before .before .before .before .before .before .before .before .before .before .before .before .pre) .1) ((c .before .before .before .before .before .before .before .before .before .before .before .before .before .before .before .before .before .before .before .copy) .ensures))) ((c .before .before .before .before .before .before .before .before .before .if1) .taken))
+
+no-counts-requires : tie.Need-no-counts-requires
+no-counts-requires c κs = search needs
+
+same-length-3 : tie.Need-same-length-3
+same-length-3 c = search needs
+
+same-length-4 : tie.Need-same-length-4
+same-length-4 c = search needs
+
+returns-2 : tie.Need-returns-2
+returns-2 c = λ t d. settled d (now ((c .before .before .before .before .before .before .before .before .before .before .before .before .before .before .before .before .args) .scratch)) ((c .before .before .before .before .before .before .before .before .before .before .before .before .before .before .before .before .pre) .1) ((c .before .before .before .before .before .seek) .ensures t (begins d (now ((c .before .before .before .before .before .before .before .before .before .before .before .before .before .before .before .before .args) .scratch)) ((c .before .before .before .before .before .before .before .before .before .before .before .before .before .before .before .before .pre) .1) ((c .before .before .before .before .before .before .before .before .before .before .before .copy) .ensures))) ((c .before .if1) .left) _ _ ((c .no-counts) .ensures)
 
 pub repeat-steps-spec : {M : Type 1} → statement M
 repeat-steps-spec =
@@ -43,11 +51,14 @@ repeat-steps-spec =
     (tie.spec
     sub-begin
     copy-requires
-    slice-aggregate-go-on
-    slice-aggregate-go-on-2
-    slice-aggregate-go-on-3
-    slice-aggregate-go-on-4
-    go-on-requires
+    slice-aggregate-seek
+    seek-requires
+    slice-aggregate-with-room
+    with-room-requires
     same-length
     same-length-2
-    returns)
+    returns
+    no-counts-requires
+    same-length-3
+    same-length-4
+    returns-2)
