@@ -6,19 +6,16 @@ ghost use mathlib.Core.Path.{_≡_};
 ghost use Prim.Native.Nat.{_+_, _≤_, _<_};
 ghost use Rattle.rules.specs.Limits.{limits};
 ghost use Rattle.rules.specs.Term.{Term, fits as fitsLimits};
-ghost use Rattle.draft.specs.Draft.{Rows, Drafts};
-ghost use Rattle.draft.specs.Made.{Small};
+ghost use Rattle.draft.specs.Draft.{Drafts};
 ghost use Rattle.draft.specs.Heads.{summed};
 ghost use Rattle.draft.specs.Measured.{cap, capped as cappedAt, Countable, Measured};
 
 const CAP: usize = 65535;
 
-// The limits of a term, and two words for each part of as many rows as a proof has rules.
+// The limits of a term.
 const MOST_BYTES: usize = 4096;
 
 const MOST_NODES: usize = 512;
-
-const WORDS: usize = 1028;
 
 fn capped(n: usize) -> usize
     ensures { λ r. ⌜ r ≡ cappedAt n ⌝ }
@@ -81,12 +78,11 @@ pub fn measure(s: &[u8], rows: &[usize], used: usize, sizes: &mut [usize])
 }
 
 // Whether the term of a part breaks no limit.
-pub fn fits(s: &[u8], rows: &[usize], used: usize, part: usize) -> bool
-    requires { ⌜ Rows (now rows) used × Small (now rows) used × (used ≤ 512) × (part < used + 2) ⌝ }
+pub fn fits(s: &[u8], rows: &[usize], used: usize, part: usize, sizes: &mut [usize]) -> bool
+    requires { ⌜ Countable (now rows) used (now sizes) × (part < used + 2) ⌝ }
     ensures { λ r. ⌜ ((t : Term) → Drafts (now (s .entry)) (now (rows .entry)) used part t → r ≡ fitsLimits limits t) ⌝ }
 {
-    let mut sizes = [0usize; WORDS];
-    measure(s, rows, used, &mut sizes);
+    measure(s, rows, used, sizes);
     let at = part * 2;
     if MOST_BYTES < sizes[at] {
         return false;

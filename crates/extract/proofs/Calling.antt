@@ -87,14 +87,22 @@ module _ (n : ℕ) (p out scratch : Bytes) where
         call-is true enough (refused q) (rw r) refl refl (sym (ap (λ (b : Bool). if b then scratch else replicate (length scratch) 0) (proof-spares limits 1 p q r)))
 
     module _ (m : ℕ) (o : Octets p) (e : answered (mapped rules (readProof limits 1 p)) ≡ Good m) where
-      pub read : (a : Proof) × Checked p out a
-      read = let a = accepts-proof limits 1 p o e in (a .value, record { holds = a .holds; room = h })
+      pub value : Proof
+      value = accepts-proof limits 1 p o e .value
 
-      outcome-is : proofOutcome limits n p ≡ outcome (extract terms (read .0) [] n)
-      unfolding read
+      pub few-read : m ≤ 64 → Checked p out 64 value
+      unfolding value
+      few-read l = let a = accepts-proof limits 1 p o e in record { holds = a .holds; few = omega (arith, a .counts); room = h }
+
+      pub many-read : Checked p out 512 value
+      unfolding value
+      many-read = let a = accepts-proof limits 1 p o e in record { holds = a .holds; few = a .holds .few-rules; room = h }
+
+      outcome-is : proofOutcome limits n p ≡ outcome (extract terms value [] n)
+      unfolding value
       outcome-is = let a = accepts-proof limits 1 p o e in rw (a .is) (from-is n (a .value))
 
-      pub good-proof : {r : Extraction} {out′ scratch′ : Bytes} → Finished (extract terms (read .0) [] n) out scratch r out′ scratch′ → Is r out′ scratch′
+      pub good-proof : {r : Extraction} {out′ scratch′ : Bytes} → Finished (extract terms value [] n) out scratch r out′ scratch′ → Is r out′ scratch′
       good-proof w =
-          let z = outcome (extract terms (read .0) [] n) in
+          let z = outcome (extract terms value [] n) in
           call-is true enough z outcome-is (w .says ∙ told-is n z) (w .leaves) (w .clears)

@@ -21,6 +21,7 @@ use Rattle.runs.specs.Wrote.{Wrote}
 use Rattle.runs.specs.Writing.{filled-up, wrote-length, wrote-none}
 use Rattle.draft.specs.Draft.{Rows, Drafts}
 use Rattle.draft.specs.Made.{Small}
+use Rattle.draft.specs.Measured.{Countable}
 use Rattle.draft.specs.Writing.{Writable}
 use Rattle.extract.specs.declared.Drafted.{Drafted}
 use Rattle.extract.specs.declared.Extraction.{Extraction}
@@ -46,26 +47,26 @@ is-decided : (t : Term) (n : ℕ) (a b : Bool) → (mostCounter <? n) ≡ a → 
 is-decided t n a b p q = ap (λ (z : Bool). decided z (fits limits t) (t, n)) p ∙ ap (λ (z : Bool). decided a z (t, n)) q
 
 -- what is asked of a draft, and what is left
-abbrev pub SomeDraft : Bytes → List ℕ → Drafted → Bytes → Type 0
-SomeDraft s ws d out = (t : Term) × (n : ℕ) × Finishes s ws d out (t, n)
+abbrev pub SomeDraft : Bytes → List ℕ → Drafted → List ℕ → Bytes → Type 0
+SomeDraft s ws d zs out = (t : Term) × (n : ℕ) × Finishes s ws d zs out (t, n)
 
-abbrev pub Ending : Bytes → List ℕ → Drafted → (out scratch : Bytes) → Extraction → (out′ scratch′ : Bytes) → Type 0
-Ending s ws d out scratch r out′ scratch′ = (t : Term) (n : ℕ) → Finishes s ws d out (t, n) → Finished (t, n) out scratch r out′ scratch′
+abbrev pub Ending : Bytes → List ℕ → Drafted → List ℕ → (out scratch : Bytes) → Extraction → (out′ scratch′ : Bytes) → Type 0
+Ending s ws d zs out scratch r out′ scratch′ = (t : Term) (n : ℕ) → Finishes s ws d zs out (t, n) → Finished (t, n) out scratch r out′ scratch′
 
-module _ (s : Bytes) (ws : List ℕ) (d : Drafted) (out : Bytes) where
-  pub draft-asks : SomeDraft s ws d out → Rows ws (d .used) × Small ws (d .used) × (d .used ≤ 512) × (d .part < d .used + 2)
-  draft-asks (t, n, w) = (w .part .rows, w .small, w .few, w .part .among)
+module _ (s : Bytes) (ws : List ℕ) (d : Drafted) (zs : List ℕ) (out : Bytes) where
+  pub draft-asks : SomeDraft s ws d zs out → Countable ws (d .used) zs × (d .part < d .used + 2)
+  draft-asks (t, n, w) = (record { rows = w .part .rows; small = w .small; room = w .sized }, w .part .among)
 
-  pub ends-over : (scratch : Bytes) → mostCounter < d .counter → {r : Extraction} → r ≡ told (refuse 9 0 0) → Ending s ws d out scratch r out scratch
+  pub ends-over : (scratch : Bytes) → mostCounter < d .counter → {r : Extraction} → r ≡ told (refuse 9 0 0) → Ending s ws d zs out scratch r out scratch
   ends-over scratch h q t n w =
       finished (refuse 9 0 0) (is-decided t n true (fits limits t) (lt-ltb mostCounter n (omega (arith, w .counter))) refl) q refl refl
 
   module _ (h : d .counter ≤ mostCounter) {b : Bool} (g : (t : Term) → Drafts s ws (d .used) (d .part) t → b ≡ fits limits t) where
-    low : (t : Term) (n : ℕ) → Finishes s ws d out (t, n) → (mostCounter <? n) ≡ false
+    low : (t : Term) (n : ℕ) → Finishes s ws d zs out (t, n) → (mostCounter <? n) ≡ false
     low t n w = le-ltb mostCounter n (omega (arith, w .counter))
 
     pub ends-outgrown : (scratch : Bytes) → b ≡ false → {r : Extraction} → r ≡ told (refuse 8 0 0) → {scratch′ : Bytes}
-        → scratch′ ≡ sets scratch 0 (replicate (length scratch - 0) 0) → Ending s ws d out scratch r out scratch′
+        → scratch′ ≡ sets scratch 0 (replicate (length scratch - 0) 0) → Ending s ws d zs out scratch r out scratch′
     ends-outgrown scratch z q k t n w =
         finished (refuse 8 0 0) (is-decided t n false false (low t n w) (sym (g t (w .part)) ∙ z)) q refl (zeros scratch k)
 
@@ -77,16 +78,16 @@ module _ (s : Bytes) (ws : List ℕ) (d : Drafted) (out : Bytes) where
       unfolding fits
       short t x = leb-true _ _ (both-true (nodes t ≤? limits .nodes) (size t ≤? limits .bytes) (fit t x) .1)
 
-      pub draft-writes : SomeDraft s ws d out → Small ws (d .used) × ((t : Term) × Writable s ws (d .used) (d .part) out 0 t)
+      pub draft-writes : SomeDraft s ws d zs out → Small ws (d .used) × ((t : Term) × Writable s ws (d .used) (d .part) out 0 t)
       draft-writes (t, n, w) =
           (w .small, (t, record { drafts = w .part; legal = w .legal (omega (arith, w .counter)); room = omega (arith, short t (w .part), w .room) }))
 
       module _ {out₁ : Bytes} {end : ℕ} (p : (t : Term) → Drafts s ws (d .used) (d .part) t → Wrote out 0 (encode t) out₁ end) where
-        pub end-within : SomeDraft s ws d out → end ≤ length out₁
+        pub end-within : SomeDraft s ws d zs out → end ≤ length out₁
         end-within (t, n, w) = let x = p t (w .part) in omega (arith, x .ends, wrote-length x, short t (w .part), w .room)
 
         pub ends-made : (scratch : Bytes) {out₂ scratch′ : Bytes} → out₂ ≡ sets out₁ end (replicate (length out₁ - end) 0)
-            → scratch′ ≡ sets scratch 0 (replicate (length scratch - 0) 0) → Ending s ws d out scratch (Made end (d .counter)) out₂ scratch′
+            → scratch′ ≡ sets scratch 0 (replicate (length scratch - 0) 0) → Ending s ws d zs out scratch (Made end (d .counter)) out₂ scratch′
         ends-made scratch i j t n w =
             let x = p t (w .part) in
             let l : end ≡ size t = x .ends ∙ omega arith in

@@ -19,8 +19,8 @@ use Rattle.extract.specs.declared.Drafted.{Drafted}
 no-entries : (s : Bytes) (places counters : List ℕ) → EntriesAt s places counters 0 []
 no-entries s places counters = record { many = refl; placed = omega arith; counted = omega arith; each = λ i h. absurd (not-suc-le-zero h) }
 
-module _ {s out : Bytes} {p : Proof} (w : Checked s out p) {n : ℕ} (low : n < 2 ^ 32) where
-  pub whole-task : {places counters rows : List ℕ} → length places ≡ 512 → length counters ≡ 512 → length rows ≡ 2560 → Task s 0 places counters 0 rows 0 n p []
+module _ {s out : Bytes} {most : ℕ} {p : Proof} (w : Checked s out most p) {n : ℕ} (low : n < 2 ^ 32) where
+  pub whole-task : {places counters rows : List ℕ} → length places ≡ most → length counters ≡ most → length rows ≡ most * 5 → Task s 0 places counters 0 rows 0 n p []
   whole-task {places} {counters} {rows} a b c =
       record {
         proof = record { rest = []; bytes = w .holds .bytes ∙ sym (append-nil (encodeProof p)) };
@@ -29,20 +29,20 @@ module _ {s out : Bytes} {p : Proof} (w : Checked s out p) {n : ℕ} (low : n < 
               entries = no-entries s places counters;
               rows = rows-none rows;
               small = small-none rows;
-              placed = omega (arith, w .holds .few-rules);
-              counted = omega (arith, w .holds .few-rules);
-              room = omega (arith, w .holds .few-rules);
+              placed = omega (arith, w .few);
+              counted = omega (arith, w .few);
+              room = omega (arith, w .few);
               few = omega (arith, w .holds .few-rules);
             };
       }
 
-  pub whole-draft : {places′ counters′ rows rows′ : List ℕ} {d : Drafted} → Done s 0 places′ counters′ 0 rows rows′ 0 n p [] d → Finishes s rows′ d out (extract terms p [] n)
-  whole-draft x =
+  pub whole-draft : {places′ counters′ rows rows′ : List ℕ} {d : Drafted} {zs : List ℕ} → length zs ≡ (most + 2) * 2 → Done s 0 places′ counters′ 0 rows rows′ 0 n p [] d → Finishes s rows′ d zs out (extract terms p [] n)
+  whole-draft l x =
       record {
         counter = x .counter;
         part = x .part;
         small = x .small;
-        few = omega (arith, x .few, w .holds .few-rules);
+        sized = omega (arith, x .few, w .few);
         legal = λ h. extract-fine p (w .holds .legal) .legal [] n tt h;
         room = w .room;
       }

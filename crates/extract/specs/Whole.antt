@@ -1,6 +1,6 @@
 -- A whole extraction: what it comes to, from the term and the counter after it; and what the call leaves.
 -- Assumes nothing: these are definitions.
-use Prim.Native.Nat.{ℕ, _≤_}
+use Prim.Native.Nat.{ℕ, _+_, _*_, _≤_}
 use mathlib.Core.Path.{_≡_}
 use mathlib.Core.Bool.{Bool, true, false}
 use mathlib.Core.List.{List, []}
@@ -10,7 +10,7 @@ use Rattle.rules.specs.Limits.{limits, mostCounter}
 use Rattle.rules.specs.Refusal.{Outcome, good, refused, refuse, outgrows, counterOver}
 use Rattle.rules.specs.Term.{Term, encode, fits}
 use Rattle.rules.specs.Legal.{Legal}
-use Rattle.rules.specs.Proof.{Proof}
+use Rattle.rules.specs.Proof.{Proof, rules}
 use Rattle.rules.specs.Buffers.{filled, cleared}
 use Rattle.rules.specs.Calls.{extractEnding}
 use Rattle.laws.specs.DecodingProof.{ProofIn}
@@ -38,12 +38,12 @@ abbrev pub told : Outcome (Term × ℕ) → Extraction
 told (good e) = Made (length (encode (e .0))) (e .1)
 told (refused q) = Refused q
 
--- a draft of the term of e, which is legal if its counter is not over the most; and room for a term
-pub record Finishes (s : Bytes) (ws : List ℕ) (d : Drafted) (out : Bytes) (e : Term × ℕ) : Type 0 where
+-- a draft of the term of e, which is legal if its counter is not over the most; and room for its sizes and for a term
+pub record Finishes (s : Bytes) (ws : List ℕ) (d : Drafted) (zs : List ℕ) (out : Bytes) (e : Term × ℕ) : Type 0 where
   pub counter : d .counter ≡ e .1
   pub part : Drafts s ws (d .used) (d .part) (e .0)
   pub small : Small ws (d .used)
-  pub few : d .used ≤ 512
+  pub sized : (d .used + 2) * 2 ≤ length zs
   pub legal : e .1 ≤ mostCounter → Legal (e .0)
   pub room : 4096 ≤ length out
 
@@ -53,7 +53,8 @@ pub record Finished (e : Term × ℕ) (out scratch : Bytes) (r : Extraction) (ou
   pub leaves : out′ ≡ filled out (extractEnding (outcome e) .writes)
   pub clears : scratch′ ≡ cleared 0 scratch (extractEnding (outcome e) .says)
 
--- s is the proof p, and there is room for a term
-pub record Checked (s out : Bytes) (p : Proof) : Type 0 where
+-- s is the proof p, of so many rules at most, and there is room for a term
+pub record Checked (s out : Bytes) (most : ℕ) (p : Proof) : Type 0 where
   pub holds : ProofIn limits s p
+  pub few : rules p ≤ most
   pub room : 4096 ≤ length out

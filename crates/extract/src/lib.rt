@@ -56,17 +56,18 @@ fn finish(
     proof: &[u8],
     rows: &[usize],
     draft: Drafted,
+    sizes: &mut [usize],
     out: &mut [u8],
     scratch: &mut [u8],
 ) -> Extraction
-    requires { ⌜ ((t : Term) × (n : ℕ) × Finishes (now proof) (now rows) draft (now out) (t, n)) ⌝ }
-    ensures { λ r. ⌜ ((t : Term) → (n : ℕ) → Finishes (now (proof .entry)) (now (rows .entry)) draft (now (out .entry)) (t, n)
+    requires { ⌜ ((t : Term) × (n : ℕ) × Finishes (now proof) (now rows) draft (now sizes) (now out) (t, n)) ⌝ }
+    ensures { λ r. ⌜ ((t : Term) → (n : ℕ) → Finishes (now (proof .entry)) (now (rows .entry)) draft (now (sizes .entry)) (now (out .entry)) (t, n)
         → Finished (t, n) (now (out .entry)) (now (scratch .entry)) r (now (out .exit)) (now (scratch .exit))) ⌝ }
 {
     if MOST_COUNTER < draft.counter {
         return refused(9);
     }
-    if fits(proof, rows, draft.used, draft.part) {
+    if fits(proof, rows, draft.used, draft.part, sizes) {
         let end = put_part(proof, rows, draft.used, draft.part, out, 0);
         runs::clear(out, end);
         runs::clear(scratch, 0);
@@ -79,26 +80,34 @@ fn finish(
     refused(8)
 }
 
-// The term of a checked proof.
-fn extract_checked(counter: u32, proof: &[u8], out: &mut [u8], scratch: &mut [u8]) -> Extraction
-    requires { ⌜ ((p : Proof) × Checked (now proof) (now out) p) ⌝ }
-    ensures { λ r. ⌜ ((p : Proof) → Checked (now (proof .entry)) (now (out .entry)) p
+// The term of a checked proof of few rules. Arrays are set to zero where they are made, so that those of the most rules would cost more than the work.
+fn extract_few(counter: u32, proof: &[u8], out: &mut [u8], scratch: &mut [u8]) -> Extraction
+    requires { ⌜ ((p : Proof) × Checked (now proof) (now out) 64 p) ⌝ }
+    ensures { λ r. ⌜ ((p : Proof) → Checked (now (proof .entry)) (now (out .entry)) 64 p
+        → Finished (extractOf terms p [] counter) (now (out .entry)) (now (scratch .entry)) r (now (out .exit)) (now (scratch .exit))) ⌝ }
+{
+    let mut places = [0usize; 64];
+    let mut counters = [0usize; 64];
+    let mut rows = [0usize; 320];
+    let start = counter as usize;
+    let draft = draft_rule(proof, 0, &mut places, &mut counters, 0, &mut rows, 0, start);
+    let mut sizes = [0usize; 132];
+    finish(proof, &rows, draft, &mut sizes, out, scratch)
+}
+
+// The same of a proof of up to the most rules.
+fn extract_many(counter: u32, proof: &[u8], out: &mut [u8], scratch: &mut [u8]) -> Extraction
+    requires { ⌜ ((p : Proof) × Checked (now proof) (now out) 512 p) ⌝ }
+    ensures { λ r. ⌜ ((p : Proof) → Checked (now (proof .entry)) (now (out .entry)) 512 p
         → Finished (extractOf terms p [] counter) (now (out .entry)) (now (scratch .entry)) r (now (out .exit)) (now (scratch .exit))) ⌝ }
 {
     let mut places = [0usize; 512];
     let mut counters = [0usize; 512];
     let mut rows = [0usize; 2560];
-    let draft = draft_rule(
-        proof,
-        0,
-        &mut places,
-        &mut counters,
-        0,
-        &mut rows,
-        0,
-        counter as usize,
-    );
-    finish(proof, &rows, draft, out, scratch)
+    let start = counter as usize;
+    let draft = draft_rule(proof, 0, &mut places, &mut counters, 0, &mut rows, 0, start);
+    let mut sizes = [0usize; 1028];
+    finish(proof, &rows, draft, &mut sizes, out, scratch)
 }
 
 // The term of a proof, from a counter on: its bytes in out, with zeros behind them.
@@ -119,6 +128,11 @@ pub fn extract(counter: u32, proof: &[u8], out: &mut [u8], scratch: &mut [u8]) -
     }
     match proof::proof_input(proof, 1) {
         Answer::Refused(r) => Extraction::Refused(r),
-        Answer::Good(_) => extract_checked(counter, proof, out, scratch),
+        Answer::Good(rules) => {
+            if 64 < rules {
+                return extract_many(counter, proof, out, scratch);
+            }
+            extract_few(counter, proof, out, scratch)
+        }
     }
 }

@@ -8,22 +8,22 @@ refused-requires : tie.Need-refused-requires
 refused-requires c κs = search needs
 
 returns : tie.Need-returns
-returns c = ends-over _ _ _ _ _ (c .before .if1 .taken) (c .refused .ensures)
+returns c = ends-over _ _ _ _ _ _ (c .before .if1 .taken) (c .refused .ensures)
 
 fits-requires : tie.Need-fits-requires
-fits-requires c κs = draft-asks _ _ _ _ (c .before .before .before .before .before .before .pre)
+fits-requires c κs = draft-asks _ _ _ _ _ (c .before .before .before .before .before .before .before .before .pre)
 
 put-part-requires : tie.Need-put-part-requires
-put-part-requires c κs = draft-writes _ _ _ _ (c .before .before .before .if1 .left) (c .before .before .fits2 .ensures) (c .before .if2 .taken) (c .before .before .before .before .before .before .before .before .before .pre)
+put-part-requires c κs = draft-writes _ _ _ _ _ (c .before .before .before .before .before .before .if1 .left) (c .before .before .before .before .fits2 .ensures) (c .before .if2 .taken) (c .before .before .before .before .before .before .before .before .before .before .before .before .before .pre)
 
 clear-requires : tie.Need-clear-requires
-clear-requires c κs = end-within _ _ _ _ (c .before .before .before .before .before .before .before .if1 .left) (c .before .before .before .before .before .before .fits2 .ensures) (c .before .before .before .before .before .if2 .taken) (c .before .before .before .put-part .ensures) (c .before .before .before .before .before .before .before .before .before .before .before .before .before .pre)
+clear-requires c κs = end-within _ _ _ _ _ (c .before .before .before .before .before .before .before .before .before .before .if1 .left) (c .before .before .before .before .before .before .before .before .fits2 .ensures) (c .before .before .before .before .before .if2 .taken) (c .before .before .before .put-part .ensures) (c .before .before .before .before .before .before .before .before .before .before .before .before .before .before .before .before .before .pre)
 
 clear-requires-2 : tie.Need-clear-requires-2
 clear-requires-2 c κs = search needs
 
-cast-t16 : tie.Need-cast-t16
-cast-t16 c = search needs
+cast-t19 : tie.Need-cast-t19
+cast-t19 c = search needs
 
 same-length : tie.Need-same-length
 same-length c = search needs
@@ -31,8 +31,11 @@ same-length c = search needs
 same-length-2 : tie.Need-same-length-2
 same-length-2 c = search needs
 
+same-length-3 : tie.Need-same-length-3
+same-length-3 c = search needs
+
 returns-2 : tie.Need-returns-2
-returns-2 c = ends-made _ _ _ _ (c .before .before .before .before .before .before .before .before .before .before .before .before .before .before .before .if1 .left) (c .before .before .before .before .before .before .before .before .before .before .before .before .before .before .fits2 .ensures) (c .before .before .before .before .before .before .before .before .before .before .before .before .before .if2 .taken) (c .before .before .before .before .before .before .before .before .before .before .before .put-part .ensures) _ (c .before .before .before .before .before .before .before .clear .ensures) (c .before .before .before .clear2 .ensures)
+returns-2 c = ends-made _ _ _ _ _ (c .before .before .before .before .before .before .before .before .before .before .before .before .before .before .before .before .before .before .if1 .left) (c .before .before .before .before .before .before .before .before .before .before .before .before .before .before .before .before .fits2 .ensures) (c .before .before .before .before .before .before .before .before .before .before .before .before .before .if2 .taken) (c .before .before .before .before .before .before .before .before .before .before .before .put-part .ensures) _ (c .before .before .before .before .before .before .before .clear .ensures) (c .before .before .before .clear2 .ensures)
 
 clear-requires-3 : tie.Need-clear-requires-3
 clear-requires-3 c κs = search needs
@@ -40,11 +43,14 @@ clear-requires-3 c κs = search needs
 refused-requires-2 : tie.Need-refused-requires-2
 refused-requires-2 c κs = search needs
 
-same-length-3 : tie.Need-same-length-3
-same-length-3 c = search needs
+same-length-4 : tie.Need-same-length-4
+same-length-4 c = search needs
+
+same-length-5 : tie.Need-same-length-5
+same-length-5 c = search needs
 
 returns-3 : tie.Need-returns-3
-returns-3 c = ends-outgrown _ _ _ _ (c .before .before .before .before .before .before .before .if1 .left) (c .before .before .before .before .before .before .fits2 .ensures) _ (c .before .before .before .before .before .if2 .left) (c .refused2 .ensures) (c .before .before .before .clear3 .ensures)
+returns-3 c = ends-outgrown _ _ _ _ _ (c .before .before .before .before .before .before .before .before .before .before .if1 .left) (c .before .before .before .before .before .before .before .before .fits2 .ensures) _ (c .before .before .before .before .before .if2 .left) (c .refused2 .ensures) (c .before .before .before .clear3 .ensures)
 
 pub finish-spec : {M : Type 1} → statement M
 finish-spec =
@@ -56,11 +62,13 @@ finish-spec =
     put-part-requires
     clear-requires
     clear-requires-2
-    cast-t16
+    cast-t19
     same-length
     same-length-2
+    same-length-3
     returns-2
     clear-requires-3
     refused-requires-2
-    same-length-3
+    same-length-4
+    same-length-5
     returns-3)
