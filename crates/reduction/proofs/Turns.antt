@@ -1,6 +1,6 @@
 -- A turn of the loop: the search goes on to a redex or to the end; what is left to do is what the rules leave to do, of the whole in which
 -- the search stands. Assumes nothing.
-use Prim.Native.Nat.{ℕ, zero, suc, _+_, _-_, _≤_, _<_}
+use Prim.Native.Nat.{ℕ, suc, _+_, _-_, _≤_, _<_}
 use mathlib.Core.Path.{_≡_, refl, sym, subst, ap, _∙_}
 use mathlib.Core.Bool.{Bool, true, false, not}
 use mathlib.Core.List.{List}
@@ -13,7 +13,7 @@ use Rattle.rules.specs.Limits.{limits, outputRoom}
 use Rattle.rules.specs.Term.{Term, nodes}
 use Rattle.rules.specs.declared.Rule.{Rule}
 use Rattle.rules.specs.declared.Counts.{Counts}
-use Rattle.rules.specs.Step.{Stepped, normal, step, isNormal}
+use Rattle.rules.specs.Step.{Stepped, isNormal}
 use Rattle.rules.specs.Reduction.{stopped, noCounts, plus, reduceFrom, reduce}
 use Rattle.runs.specs.Wrote.{Wrote}
 use Rattle.gap.specs.Standing.{Standing, Ended, Reducing}
