@@ -1,0 +1,5 @@
+pub mod Row
+pub mod Rules
+pub mod Filling
+pub mod Again
+pub mod Lent
