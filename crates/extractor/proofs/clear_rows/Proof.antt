@@ -44,12 +44,12 @@ use denote.Triple.Table.{entered}
 use denote.Triple.Walked.{says, needs, Stays, stay-none, stay-slice, walkOf, goes-none, goes-slice, Walks, ends-at, walked, walk-meets}
 use denote.Exit.{yes}
 use Rattle.extractor.specs.declared.CutEntry.{CutEntry}
-use Rattle.extractor.specs.Entries.{fillFrom}
+use Rattle.extractor.specs.Entries.{zeroed}
 use Rattle.extractor.proofs.CutEntry as T
 use Rattle.extractor.proofs.CutEntry.Laws as T′
 use Rattle.extractor.proofs.Row.{R, mach, none, times-fits}
 use Rattle.extractor.proofs.Rules.{while-test, free-at}
-use Rattle.extractor.proofs.Filling.{length-fill, fill-snoc}
+use Rattle.extractor.proofs.Filling.{length-zeroed, zeroed-snoc}
 use Rattle.extractor.proofs.clear_rows.Key.{name as #f}
 use Rattle.extractor.proofs.clear_rows as f
 use Rattle.extractor.proofs.clear_rows.Statement as stated
@@ -83,7 +83,7 @@ module _ {M : Type 1} (𝓤 : URA M) (H : Heap 𝓤) (A : Atoms 𝓤) (W : Given
 
   -- the row with i entries set
   abbrev lst : ℕ → List CutEntry
-  lst i = fillFrom ys 0 i
+  lst i = zeroed none i ys
 
   abbrev Post : Val → SProp 𝓤
   Post = walkOf 𝓤 H A f.ended stayed (f.clauses 𝓤 H A mem run) .post (((κ, tt), (q, tt), tt, a, at), tt)
@@ -91,9 +91,9 @@ module _ {M : Type 1} (𝓤 : URA M) (H : Heap 𝓤) (A : Atoms 𝓤) (W : Given
   exits : ent 𝓤 (⋆ 𝓤 H A (‵ (fobs γ (codedHoleys R .code (heres R (lst n)))) ∷ ‵ (fbor κ (Held R (length (lst n)) b o γ)) ∷ ‵ (flft κ q) ∷ [])) (Post vunit)
   exits =
       qed W (‵ (fobs γ (codedHoleys R .code (heres R (lst n)))) ∷ ‵ (fbor κ (Held R (length (lst n)) b o γ)) ∷ ‵ (flft κ q) ∷ []) ∵
-      suffices ! _ (ends-at 𝓤 H A f.ended stayed (f.clauses 𝓤 H A mem run) W (((κ, tt), (q, tt), tt, a, at), tt) vunit tt (lst n, (tt, tt)) (length-fill ys 0 n, (tt, tt))) $ says ! refl $
+      suffices ! _ (ends-at 𝓤 H A f.ended stayed (f.clauses 𝓤 H A mem run) W (((κ, tt), (q, tt), tt, a, at), tt) vunit tt (lst n, (tt, tt)) (length-zeroed none n ys, (tt, tt))) $ says ! refl $
       nothing ! $ move ! (3 ∷ 0 ∷ []) $ join ! $ frame ! $
-      fjoin ! $ pureI ! (at-slice R (x (lst n)) (s ∷ [])) (tt, (tt, tt)) (ap (λ (m : ℕ). sliceVal (b, o) m ∷ []) (sym (length-fill ys 0 n)), subst (Room R) (sym (length-fill ys 0 n)) room) $ fjoin ! $
+      fjoin ! $ pureI ! (at-slice R (x (lst n)) (s ∷ [])) (tt, (tt, tt)) (ap (λ (m : ℕ). sliceVal (b, o) m ∷ []) (sym (length-zeroed none n ys)), subst (Room R) (sym (length-zeroed none n ys)) room) $ fjoin ! $
       nothing ! $ owned ! usize (Is usize) (uint-makes 𝓤 H A W w64) n _ (refl, gn) $ fjoin ! $ move ! (1 ∷ 0 ∷ []) $ fjoin ! $ feqI ! (List Val) (vunit ∷ []) (vunit ∷ []) refl $ move ! (1 ∷ 0 ∷ []) $ done !
 
   module _ (𝓣 : Tables 𝓤 H) (le : n ≤ length ys) (l₀ l₁ l₂ l₃ l₄ l₅ l₆ l₇ : ℕ) where
@@ -122,7 +122,7 @@ module _ {M : Type 1} (𝓤 : URA M) (H : Heap 𝓤) (A : Atoms 𝓤) (W : Given
 
     leaves : (v : Val) → Sq W (At n (‵ (fat fullShare tyBool l₄ 0 v))) (runs C Λ En body.t-3 (atRet En Post))
     leaves v =
-        closes-slice ! tt R ys (lst n) (length-fill ys 0 n) b o $ assigns ! (of-opd ! (unit-lit !)) (from ! (stop !)) (init ! 17 refl (tt, tt)) $
+        closes-slice ! tt R ys (lst n) (length-zeroed none n ys) b o $ assigns ! (of-opd ! (unit-lit !)) (from ! (stop !)) (init ! 17 refl (tt, tt)) $
         returns ! (look ! 17 refl) $ move ! (17 ∷ 18 ∷ 15 ∷ 16 ∷ 13 ∷ 14 ∷ 11 ∷ 12 ∷ 9 ∷ 10 ∷ 7 ∷ 8 ∷ 5 ∷ 6 ∷ 3 ∷ 4 ∷ []) $ free-at ! $ free-at ! $ free-at ! $ free-at ! $ free-at ! $ free1 ! $ free1 ! $ free1 ! $ free0 ! $ by ! exits
 
     turn : (t : ℕ) → Sq W (Inv t) (runs C Λ En body.turn-1 (anyQ (afterTurn 𝓤 H (Below 𝓤 H A _<_ Inv t) Left)))
@@ -133,7 +133,7 @@ module _ {M : Type 1} (𝓤 : URA M) (H : Heap 𝓤) (A : Atoms 𝓤) (W : Given
         (λ h.
         let lt : n - t < n = ltb→lt (n - t) n h in
         let lt′ : n - t < length ys = omega (arith, lt, le) in
-        let lt″ : n - t < length (lst (n - t)) = subst (λ (m : ℕ). n - t < m) (sym (length-fill ys 0 (n - t))) lt′ in
+        let lt″ : n - t < length (lst (n - t)) = subst (λ (m : ℕ). n - t < m) (sym (length-zeroed none (n - t) ys)) lt′ in
         let g1 : n - t + 1 < 2 ^ 64 = omega (arith, lt, gn) in
         let e1 : n - t + 1 ≡ n - (n - (n - t + 1)) = omega (arith, lt) in
         let less : n - (n - t + 1) < t = omega (arith, lt) in
@@ -146,7 +146,7 @@ module _ {M : Type 1} (𝓤 : URA M) (H : Heap 𝓤) (A : Atoms 𝓤) (W : Given
         move ! (1 ∷ []) $ drop ! $ owned ! R (Is R) ((LL.makes T.the-type T′.the-plain) 𝓤 H A) none _ made-none $ move ! (1 ∷ 0 ∷ []) $ elem-put ! R fullShare (lst (n - t)) (n - t) none (mach none ∷ []) b o lt″ $
         assigns-last ! (bin ! (load ! (from ! (stop !)) (look ! 12 refl)) (lit ! tt) (record { fits = g1 })) (from ! (stop !)) (store ! 12 refl (tt, record { fits = g1 })) $
         forget ! 4 refl $ forget ! 6 refl $ forget ! 8 refl $ forget ! 10 refl $
-        rewrite ! 0 (λ (l : List CutEntry). ‵ (row R fullShare l b o)) (fill-snoc ys (n - t)) refl $ rewrite ! 0 (λ (j : ℕ). ‵ (row R fullShare (lst j) b o)) e1 refl $ rewrite ! 12 (λ (j : ℕ). ‵ (fat fullShare (tyInt w64) l₃ 0 (vint w64 j))) e1 refl $
+        rewrite ! 0 (λ (l : List CutEntry). ‵ (row R fullShare l b o)) (zeroed-snoc none (n - t) ys) refl $ rewrite ! 0 (λ (j : ℕ). ‵ (row R fullShare (lst j) b o)) e1 refl $ rewrite ! 12 (λ (j : ℕ). ‵ (fat fullShare (tyInt w64) l₃ 0 (vint w64 j))) e1 refl $
         again ! _<_ Inv t (n - (n - t + 1)) less))
         (λ h.
         let no : (n - t < n → ⊥) = λ z. T-not (ltb (n - t) n) h (lt→ltb (n - t) n z) in
