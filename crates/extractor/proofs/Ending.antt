@@ -17,10 +17,11 @@ use Rattle.rules.specs.Calls.{Entry, noEntry, workRoom, counterAfter, extractEn
 use Rattle.extract.specs.Whole.{extraction}
 use Rattle.extract.specs.declared.Extraction.{Extraction}
 use Rattle.extract.specs.declared.Extraction.the-variants.{Made, Refused}
+use Rattle.extractor.specs.declared.CutEntry.{CutEntry}
 use Rattle.extractor.specs.declared.Ended.{Ended}
-use Rattle.extractor.specs.Entries.{zeroed}
+use Rattle.extractor.specs.Entries.{none, zeroed, pairs}
 use Rattle.extractor.specs.Ending.{clearsOf, endedOf, Extracts}
-use Rattle.extractor.proofs.Filling.{zeroed-all}
+use Rattle.extractor.proofs.Filling.{zeroed-all, length-pairs, pairs-zeroed}
 
 few-of : (b : Bool) (m : ℕ) → (if b then 0 else m) ≤ m
 few-of true m = omega arith
@@ -94,3 +95,16 @@ spares-nine k m e = sym (ap (λ (j : ℕ). clearsOf j m) e)
 
 pub spares-not : (k m : ℕ) → 8 ≤ k → (k ≡ 9 → ⊥) → m ≡ clearsOf k m
 spares-not k m h n = let i : 7 < k = omega (arith, h) in sym (ap (λ (b : Bool). if b || (k == 9) then 0 else m) (lt-leb k 7 i) ∙ ap (λ (b : Bool). if b then 0 else m) (ne-eqb k 9 n))
+
+-- the same, over the row itself
+module _ (n : ℕ) (p out scratch : Bytes) (m : ℕ) (r : Ended) (out′ scratch′ : Bytes) (ys : List CutEntry) (e : m ≡ length ys) (b : Beside n p out scratch m r out′ scratch′) where
+  at-row : (r .clears ≤ m) × Extracts (extractCall limits n p out scratch (pairs ys)) (r .answer) out′ scratch′ (zeroed noEntry (r .clears) (pairs ys)) (r .counter)
+  at-row = b (pairs ys) (length-pairs ys ∙ sym e)
+
+  pub few-row : r .clears ≤ length ys
+  few-row = subst (λ (k : ℕ). r .clears ≤ k) e (at-row .0)
+
+  pub over-row : (zs : List CutEntry) → zs ≡ zeroed none (r .clears) ys → Extracts (extractCall limits n p out scratch (pairs ys)) (r .answer) out′ scratch′ (pairs zs) (r .counter)
+  over-row zs q =
+      let x = at-row .1 in
+      record { says = x .says; leaves = x .leaves; clears = x .clears; zeroes = ap pairs q ∙ pairs-zeroed (r .clears) ys ∙ x .zeroes; counts = x .counts }

@@ -118,3 +118,20 @@ fn extract_beside(
     }
     end_of(extract_alone(counter, proof, out, scratch), counter, room)
 }
+
+// An extraction over the row itself, from a counter: the entries are set to zeros, or not.
+pub fn extract_with(
+    counter: u32,
+    proof: &[u8],
+    entries: &mut [CutEntry],
+    out: &mut [u8],
+    scratch: &mut [u8],
+) -> Ended
+    ensures { λ r. ⌜ Extracts (extractCall limits counter (now (proof .entry)) (now (out .entry)) (now (scratch .entry)) (pairs (now (entries .entry))))
+        (r .answer) (now (out .exit)) (now (scratch .exit)) (pairs (now (entries .exit))) (r .counter) ⌝ }
+{
+    let room = row_len(entries);
+    let end = extract_beside(counter, room, proof, out, scratch);
+    clear_rows(entries, end.clears);
+    end
+}
