@@ -35,6 +35,22 @@ impl Extractor {
     {
         self.counter = counter;
     }
+
+    // The term of a proof, by the rules' call; the counter stays as it was where the proof is refused.
+    pub fn extract(
+        &mut self,
+        proof: &[u8],
+        entries: &mut [CutEntry],
+        out: &mut [u8],
+        scratch: &mut [u8],
+    ) -> Answer
+        ensures { λ r. ⌜ Extracts (extractCall limits (now (self .entry) .counter) (now (proof .entry)) (now (out .entry)) (now (scratch .entry)) (pairs (now (entries .entry))))
+            r (now (out .exit)) (now (scratch .exit)) (pairs (now (entries .exit))) (now (self .exit) .counter) ⌝ }
+    {
+        let end = extract_with(self.counter, proof, entries, out, scratch);
+        self.counter = end.counter;
+        end.answer
+    }
 }
 
 pub fn row_len(row: &[CutEntry]) -> usize

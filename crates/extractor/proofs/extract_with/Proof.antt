@@ -160,7 +160,7 @@ module _ {M : Type 1} (𝓤 : URA M) (H : Heap 𝓤) (A : Atoms 𝓤) (W : Given
   to-len p l-row = (((p .0 ∷ [], tt), (fullShare, tt), tt, (ref-row (p .1) l-row, tt), (v-row ∷ [], tt)), tt)
 
   goes-len : (p : Names) (l-row : List (CutEntry)) → ent 𝓤 (⋆ 𝓤 H A (‵ (flft (p .0 ∷ []) fullShare) ∷ ‵ (Shr-row (p .0 ∷ []) (p .1) l-row) ∷ [])) (LenC 𝓤 H A mem run .pre (to-len p l-row))
-  goes-len p l-row  =
+  goes-len p l-row =
       qed W (‵ (flft (p .0 ∷ []) fullShare) ∷ ‵ (Shr-row (p .0 ∷ []) (p .1) l-row) ∷ []) ∵ nothing ! $
       move ! (1 ∷ 0 ∷ []) $
       join ! $
@@ -176,13 +176,13 @@ module _ {M : Type 1} (𝓤 : URA M) (H : Heap 𝓤) (A : Atoms 𝓤) (W : Given
   Kept-len p l-row = KeptShared (R) κ-row q-row γ-row b-row o-row m-row (p .0) l-row
 
   before-len : (l-row : List (CutEntry)) → length l-row ≡ m-row → ent 𝓤 ⟦ P-row l-row ⟧ (H .⇛ (ex 𝓤 (λ (p : Names). sep 𝓤 (LenC 𝓤 H A mem run .pre (to-len p l-row)) (sem 𝓤 H A (Kept-len p l-row)))))
-  before-len l-row  e-row  = qed W ((P-row l-row) ∷ []) ∵ updating ! $
+  before-len l-row e-row = qed W ((P-row l-row) ∷ []) ∵ updating ! $
       use1 W (later (some (λ (p-row : Names). ‵ (flft (p-row .0 ∷ []) fullShare) ⊛ (‵ (Shr-row (p-row .0 ∷ []) (p-row .1) l-row) ⊛ ‵ (KeptShared (R) κ-row q-row γ-row b-row o-row m-row (p-row .0) l-row))))) (share-row (R) κ-row q-row γ-row b-row o-row m-row 𝓤 H A W l-row e-row) $ await ! tt $ pick ! (λ p-row.
       split ! $
       move ! (1 ∷ []) $
       split ! $
       move ! (2 ∷ 0 ∷ 1 ∷ []) $
-      group ! 2 $ use1 W (raw (LenC 𝓤 H A mem run .pre (to-len p-row l-row))) (goes-len p-row l-row ) $ at-once ! $ show ! (λ (p : Names). sep 𝓤 (LenC 𝓤 H A mem run .pre (to-len p l-row)) (sem 𝓤 H A (Kept-len p l-row))) p-row $ done !)
+      group ! 2 $ use1 W (raw (LenC 𝓤 H A mem run .pre (to-len p-row l-row))) (goes-len p-row l-row) $ at-once ! $ show ! (λ (p : Names). sep 𝓤 (LenC 𝓤 H A mem run .pre (to-len p l-row)) (sem 𝓤 H A (Kept-len p l-row))) p-row $ done !)
 
   after-len : (p : Names) (l-row : List (CutEntry)) (v : Val) → length l-row ≡ m-row → ent 𝓤 (sep 𝓤 (LenC 𝓤 H A mem run .post (to-len p l-row) v) (sem 𝓤 H A (Kept-len p l-row))) (H .⇛ (ex 𝓤 (λ (r : ℕ). guard 𝓤 (r ≡ length l-row) (sep 𝓤 (sem 𝓤 H A (usize .own r (v ∷ []))) ⟦ P-row l-row ⟧))))
   after-len p l-row v e-row = qed W (raw (LenC 𝓤 H A mem run .post (to-len p l-row) v) ∷ ‵ (Kept-len p l-row) ∷ []) ∵ updating ! $ use1 W (later (some (λ (r : ℕ). ((‵ (flft (p .0 ∷ []) fullShare) ⊛ ‵ ftrue) ⊛ ‵ (usize .own r (v ∷ []))) ⊛ some (λ (ws : Unit {0} × Unit {0}). ‵ (lasts len.ended (p .0 ∷ [], tt) (ref-row (p .1) l-row, tt) ws) ⊛ raw (fact 𝓤 (r ≡ length l-row)))))) (id⊢ 𝓤 _) $ await ! tt $ pick ! (λ r.
