@@ -7,6 +7,12 @@ use borrow.Fn.World.{ArgsD, ResD}
 use borrow.Fn.Kinds.{endedOf}
 use denote.Triple.Clauses.{AtExit}
 use denote.Ref.{now}
+use Prim.Native.Nat.{_≤_}
+use mathlib.Core.List.{List}
+use native.Mathlib.Omega.{arith}
+use lib.ListN.{length, replicate, length-replicate}
+use Rattle.rules.specs.Limits.{limits, entryRoom}
+use Rattle.rules.specs.Calls.{Entry, noEntry}
 use Rattle.reader.proofs.check_formula as check-formula·fn
 use Rattle.reader.proofs.check_formula.Kinds as check-formula·kinds
 use Rattle.reader.proofs.check_formula.Reads as check-formula·contract
@@ -46,16 +52,29 @@ use Rattle.reduction.proofs.normalize_bounded.Reads as normalize-bounded·contr
 use Rattle.straightness.proofs.is_straight as is-straight·fn
 use Rattle.straightness.proofs.is_straight.Kinds as is-straight·kinds
 use Rattle.straightness.proofs.is_straight.Reads as is-straight·contract
+use Rattle.extract.proofs.extract as extract·fn
+use Rattle.extract.proofs.extract.Kinds as extract·kinds
+use Rattle.extract.proofs.extract.Reads as extract·contract
 use Rattle.stored.proofs.store as store·fn
 use Rattle.stored.proofs.store.Kinds as store·kinds
 use Rattle.stored.proofs.store.Reads as store·contract
 use Rattle.stored.proofs.load as load·fn
 use Rattle.stored.proofs.load.Kinds as load·kinds
 use Rattle.stored.proofs.load.Reads as load·contract
+use Rattle.printed.proofs.printed as printed·fn
+use Rattle.printed.proofs.printed.Kinds as printed·kinds
+use Rattle.printed.proofs.printed.Reads as printed·contract
 
 -- the generic law: what is the same as one thing is the same
 agree : {A : Type 0} {x y z : A} → x ≡ z → y ≡ z → x ≡ y
 agree p q = p ∙ sym q
+
+-- extraction is the same whatever long enough row of cut entries it is asked with
+row : List Entry
+row = replicate 512 noEntry
+
+enough : entryRoom limits ≤ length row
+enough = omega (arith, length-replicate {A = Entry} 512 noEntry)
 
 module _ (κs : Lfts 1) (a : ArgsD check-formula·fn.signature κs) (r r′ : ResD check-formula·fn.signature κs) (s s′ : AtExit (endedOf 1 check-formula·kinds.ps check-formula·kinds.r) κs) where
   pub check-formula-has-one : check-formula·contract.Learnt κs a r s → check-formula·contract.Learnt κs a r′ s′ → r ≡ r′
@@ -109,6 +128,10 @@ module _ (κs : Lfts 1) (a : ArgsD is-straight·fn.signature κs) (r r′ : ResD
   pub is-straight-has-one : is-straight·contract.Learnt κs a r s → is-straight·contract.Learnt κs a r′ s′ → r ≡ r′
   is-straight-has-one p q = agree p q
 
+module _ (κs : Lfts 3) (a : ArgsD extract·fn.signature κs) (r r′ : ResD extract·fn.signature κs) (s s′ : AtExit (endedOf 3 extract·kinds.ps extract·kinds.r) κs) where
+  pub extract-has-one : extract·contract.Learnt κs a r s → extract·contract.Learnt κs a r′ s′ → (r ≡ r′) × (now (s .1 .1 .0) ≡ now (s′ .1 .1 .0)) × (now (s .1 .1 .1 .0) ≡ now (s′ .1 .1 .1 .0))
+  extract-has-one p q = (agree (p .0 row enough) (q .0 row enough), agree (p .1 .0 row enough) (q .1 .0 row enough), agree (p .1 .1 row enough) (q .1 .1 row enough))
+
 module _ (κs : Lfts 2) (a : ArgsD store·fn.signature κs) (r r′ : ResD store·fn.signature κs) (s s′ : AtExit (endedOf 2 store·kinds.ps store·kinds.r) κs) where
   pub store-has-one : store·contract.Learnt κs a r s → store·contract.Learnt κs a r′ s′ → (r ≡ r′) × (now (s .1 .1 .0) ≡ now (s′ .1 .1 .0))
   store-has-one p q = (agree (p .0) (q .0), agree (p .1) (q .1))
@@ -116,3 +139,7 @@ module _ (κs : Lfts 2) (a : ArgsD store·fn.signature κs) (r r′ : ResD store
 module _ (κs : Lfts 2) (a : ArgsD load·fn.signature κs) (r r′ : ResD load·fn.signature κs) (s s′ : AtExit (endedOf 2 load·kinds.ps load·kinds.r) κs) where
   pub load-has-one : load·contract.Learnt κs a r s → load·contract.Learnt κs a r′ s′ → (r ≡ r′) × (now (s .1 .1 .0) ≡ now (s′ .1 .1 .0))
   load-has-one p q = (agree (p .0) (q .0), agree (p .1) (q .1))
+
+module _ (κs : Lfts 4) (a : ArgsD printed·fn.signature κs) (r r′ : ResD printed·fn.signature κs) (s s′ : AtExit (endedOf 4 printed·kinds.ps printed·kinds.r) κs) where
+  pub printed-has-one : printed·contract.Learnt κs a r s → printed·contract.Learnt κs a r′ s′ → (r ≡ r′) × (now (s .1 .1 .1 .0) ≡ now (s′ .1 .1 .1 .0)) × (now (s .1 .0) ≡ now (s′ .1 .0)) × (now (s .1 .1 .0) ≡ now (s′ .1 .1 .0))
+  printed-has-one p q = (agree (p .0) (q .0), agree (p .1 .0) (q .1 .0), agree (p .1 .1 .0) (q .1 .1 .0), agree (p .1 .1 .1) (q .1 .1 .1))
