@@ -9,11 +9,10 @@ use lib.ListN.{length, replicate}
 use borrow.Author.Tests.{le-leb, lt-leb, ne-eqb}
 use Rattle.rules.specs.Basic.{Bytes, if_then_else_, _≤?_, _==_}
 use Rattle.rules.specs.Limits.{limits, entryRoom}
-use Rattle.rules.specs.declared.Answer.{Answer}
-use Rattle.rules.specs.Refusal.{Outcome, good, refused, refuse, answered, sparesScratch}
+use Rattle.rules.specs.Refusal.{Outcome, good, refused, answered, sparesScratch}
 use Rattle.rules.specs.Term.{Term}
-use Rattle.rules.specs.Buffers.{cleared, lent}
-use Rattle.rules.specs.Calls.{Entry, noEntry, workRoom, counterAfter, extractEnding, proofOutcome, extractCall}
+use Rattle.rules.specs.Buffers.{cleared}
+use Rattle.rules.specs.Calls.{Entry, noEntry, workRoom, counterAfter, proofOutcome, extractCall}
 use Rattle.extract.specs.Whole.{extraction}
 use Rattle.extract.specs.declared.Extraction.{Extraction}
 use Rattle.extract.specs.declared.Extraction.the-variants.{Made, Refused}

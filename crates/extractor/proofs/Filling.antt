@@ -1,6 +1,6 @@
 -- Entries that are set to zeros one after the other: the row keeps its length, one more is set after those that were, and all of them are a row of zeros. By induction on how many.
 -- Assumes nothing.
-use mathlib.Core.Path.{_≡_, refl, sym, ap, _∙_}
+use mathlib.Core.Path.{_≡_, refl, ap, _∙_}
 use Prim.Native.Nat.{ℕ, zero, suc, _+_}
 use native.Mathlib.Omega.{arith}
 use mathlib.Core.List.{List, [], _∷_}

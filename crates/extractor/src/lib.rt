@@ -4,7 +4,7 @@ ghost use mathlib.Core.List.{List};
 ghost use Prim.Native.Nat.{_≤_};
 ghost use lib.ListN.{length};
 ghost use Rattle.rules.specs.Limits.{limits};
-ghost use Rattle.rules.specs.Calls.{Entry, noEntry, extractCall};
+ghost use Rattle.rules.specs.Calls.{Entry, noEntry, startCall, extractCall};
 ghost use Rattle.extractor.specs.Entries.{none, zeroed, pairs};
 ghost use Rattle.extractor.specs.Ending.{clearsOf, endedOf, Extracts};
 use extract::Extraction;
@@ -25,18 +25,12 @@ pub struct CutEntry {
 
 impl Extractor {
     pub fn new(counter: u32) -> Self
-        ensures { λ r. ⌜ r .counter ≡ counter ⌝ }
+        ensures { λ r. ⌜ r .counter ≡ startCall counter ⌝ }
     {
         Self { counter }
     }
 
-    pub fn set(&mut self, counter: u32)
-        ensures { λ _. ⌜ now (self .exit) .counter ≡ counter ⌝ }
-    {
-        self.counter = counter;
-    }
-
-    // The term of a proof, by the rules' call; the counter stays as it was where the proof is refused.
+    // The term of a proof: its bytes in out, with zeros behind them. Where it is refused, the counter stays as it was.
     pub fn extract(
         &mut self,
         proof: &[u8],
@@ -53,14 +47,14 @@ impl Extractor {
     }
 }
 
-pub fn row_len(row: &[CutEntry]) -> usize
+fn row_len(row: &[CutEntry]) -> usize
     ensures { λ r. ⌜ r ≡ length (now (row .entry)) ⌝ }
 {
     row.len()
 }
 
 // The first n entries are set to zeros.
-pub fn clear_rows(row: &mut [CutEntry], n: usize)
+fn clear_rows(row: &mut [CutEntry], n: usize)
     requires { ⌜ n ≤ length (now row) ⌝ }
     ensures { λ _. ⌜ now (row .exit) ≡ zeroed none n (now (row .entry)) ⌝ }
 {
@@ -75,12 +69,13 @@ pub fn clear_rows(row: &mut [CutEntry], n: usize)
 }
 
 // How an extraction ends: its answer, the counter after it, and how many entries of the row are set to zeros.
-pub struct Ended {
+struct Ended {
     pub answer: Answer,
     pub counter: u32,
     pub clears: usize,
 }
 
+// How many entries a refusal sets to zeros: none by 1 to 7 and 9, else all.
 fn clears(number: u8, room: usize) -> usize
     ensures { λ r. ⌜ r ≡ clearsOf number room ⌝ }
 {
@@ -93,6 +88,7 @@ fn clears(number: u8, room: usize) -> usize
     room
 }
 
+// How an extraction ends, beside a row of so many entries.
 fn end_of(made: Extraction, before: u32, room: usize) -> Ended
     ensures { λ r. ⌜ r ≡ endedOf made before room ⌝ }
 {
@@ -110,7 +106,7 @@ fn end_of(made: Extraction, before: u32, room: usize) -> Ended
     }
 }
 
-// An extraction beside a row of so many entries.
+// An extraction that has cut entries of its own, beside a row of so many.
 fn extract_beside(
     counter: u32,
     room: usize,
@@ -136,7 +132,7 @@ fn extract_beside(
 }
 
 // An extraction over the row itself, from a counter: the entries are set to zeros, or not.
-pub fn extract_with(
+fn extract_with(
     counter: u32,
     proof: &[u8],
     entries: &mut [CutEntry],

@@ -1,9 +1,8 @@
 -- `extractor::clear_rows` meets its contract: a walk of its MIR, by hand. The borrow is opened once, before the loop, and closed once, after it: between the two the row is the function's own. The variant is how many entries are left, t, and the index is n - t.
 -- Assumes nothing.
 use mathlib.Core.Path.{_≡_, refl, sym, ap, subst}
-use Prim.Native.Nat.{ℕ, _<_, _≤_, _^_, _+_, _-_, _*_}
+use Prim.Native.Nat.{ℕ, _<_, _≤_, _^_, _+_, _-_}
 use native.Mathlib.Omega.{arith}
-use mathlib.Core.Bool.{not}
 use mathlib.Core.List.{[], _∷_, List}
 use lib.Dec.{T, T-not, ltb, ltb→lt, lt→ltb, lit<}
 use lib.WfN.{Nat·lt-wfRel}
@@ -20,7 +19,7 @@ use prog.Wp.{Heap, Env, Calls, Loops, Wp, WpFn, Tables, afterSeq, afterBlock, af
 use ghost.Atoms.{Atoms}
 use contract.Monad.{Fun}
 use contract.Running.{givenOf, tables, tablesOf}
-use types.Kit.{Given, Item, Sq, ‵, _⊛_, ⋆, _$_, _∵_, !, qed, by, move, keep, drop, split, join, rewrite, fsplit, fjoin, feqI, suffices, frame, done, runs, anyQ, atRet, post}
+use types.Kit.{Given, Item, Sq, ‵, _⊛_, ⋆, _$_, _∵_, !, qed, by, move, drop, split, join, rewrite, fsplit, fjoin, feqI, suffices, frame, done, runs, anyQ, atRet, post}
 use types.Run.{look, store, store-raw, init, forget, stop, hop, fld, from, load, lit, unit-lit, of-opd, bin, assigns, assigns-last, first, blocks, exec, loops, again, Below, returns, enter, alloc1, alloc0, params1, pass1, pass0, free1, free0}
 use types.Part.{agg, whole, sub, look-in}
 use types.Run.{and-then, no-more}
