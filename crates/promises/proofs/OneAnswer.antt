@@ -70,7 +70,7 @@ agree : {A : Type 0} {x y z : A} → x ≡ z → y ≡ z → x ≡ y
 agree p q = p ∙ sym q
 
 -- extraction is the same whatever long enough row of cut entries it is asked with
-row : List Entry
+abbrev row : List Entry
 row = replicate 512 noEntry
 
 enough : entryRoom limits ≤ length row
