@@ -6,6 +6,7 @@
 
 mod families;
 mod instructions;
+mod proofs;
 mod reducible;
 mod rows;
 mod timing;

@@ -1,7 +1,7 @@
 //! What is compared: for each row the port, and beside it the ported Rust or a plain loop, over the same inputs.
 
-use crate::{families, reducible};
-use lolli_core::{Formula, Term};
+use crate::{families, proofs, reducible};
+use lolli_core::{Formula, Proof, Term};
 use patch_generate::{formulas, terms, Rng};
 use patch_model::form::{formula_bytes, term_bytes};
 use std::cell::RefCell;
@@ -116,7 +116,27 @@ pub fn rows() -> Vec<Row> {
             rows.extend(of_reducible(family, nodes));
         }
     }
+    for family in proofs::NAMES {
+        for rules in [10, 100, 500] {
+            rows.push(extraction(family, rules));
+        }
+    }
     rows
+}
+
+fn extraction(family: &str, rules: usize) -> Row {
+    let (out, scratch) = (RefCell::new(vec![0; patch::OUTPUT_ROOM]), RefCell::new(vec![0; patch::SCRATCH_ROOM]));
+    row(
+        format!("extraction, {family}"),
+        rules,
+        proofs::inputs(family, rules),
+        "Rust",
+        |proof: &Proof, _| kept(lolli_extract::Extractor::new().extract(proof)),
+        move |_, bytes| {
+            let mut extractor = patch::Extractor { counter: 0 };
+            kept(extractor.extract_to(bytes, &mut out.borrow_mut(), &mut scratch.borrow_mut()).unwrap())
+        },
+    )
 }
 
 /// One step, and the whole reduction.
