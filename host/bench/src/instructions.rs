@@ -7,7 +7,7 @@ const FEW: u64 = 1;
 const MANY: u64 = 51;
 
 pub fn table(rows: &[Row]) -> ExitCode {
-    println!("{:<20} {:>6} {:>6}  {:<10} {:>10} {:>10}", "call", "nodes", "bytes", "beside", "its", "port");
+    println!("{:<36} {:>6} {:>6}  {:<10} {:>10} {:>10}", "call", "nodes", "bytes", "beside", "its", "port");
     for (i, row) in rows.iter().enumerate() {
         let per_byte = |side| Some((counted(i, side, MANY)? - counted(i, side, FEW)?) as f64 / ((MANY - FEW) as f64 * row.bytes as f64));
         let (Some(other), Some(port)) = (per_byte("other"), per_byte("port")) else {
@@ -15,7 +15,7 @@ pub fn table(rows: &[Row]) -> ExitCode {
             return ExitCode::FAILURE;
         };
         let bytes = row.bytes / row.inputs;
-        println!("{:<26} {:>6} {:>6}  {:<10} {:>10.2} {:>10.2}", row.name, row.nodes, bytes, row.other_name, other, port);
+        println!("{:<36} {:>6} {:>6}  {:<10} {:>10.2} {:>10.2}", row.name, row.nodes, bytes, row.other_name, other, port);
     }
     println!("instructions for each byte of input");
     ExitCode::SUCCESS

@@ -1,11 +1,17 @@
 //! Families of proofs, each with about so many rules.
 
 use lolli_core::{Formula, Proof, Rule, Sequent};
+use patch_generate::{proofs, Rng};
 use patch_model::form::proof_bytes;
 
-pub const NAMES: [&str; 3] = ["cut chain", "tensor tower", "contractions"];
+pub const NAMES: [&str; 4] = ["cut chain", "tensor tower", "contractions", "random"];
+
+const RANDOM: u64 = 16;
 
 pub fn inputs(family: &str, rules: usize) -> Vec<(Proof, Vec<u8>)> {
+    if family == "random" {
+        return (0..RANDOM).filter_map(|i| random(i, rules)).collect();
+    }
     let atom = |i: usize| format!("A{}", i % 10);
     let axiom = ruled(Rule::Axiom, vec![Formula::NegAtom(atom(0)), Formula::Atom(atom(1))], vec![]);
     let one = || ruled(Rule::OneIntro, vec![], vec![]);
@@ -16,6 +22,15 @@ pub fn inputs(family: &str, rules: usize) -> Vec<(Proof, Vec<u8>)> {
         _ => (0..rules).fold(axiom, |p, i| ruled(if i % 3 == 0 { Rule::Contraction } else { Rule::BottomIntro }, vec![], vec![p])),
     };
     vec![(made.clone(), proof_bytes(&made))]
+}
+
+/// Any rule over any number of premises; none whose term outgrows the limits.
+fn random(seed: u64, rules: usize) -> Option<(Proof, Vec<u8>)> {
+    let proof = proofs::of_rules(&mut Rng::new(0x7072_6f6f, seed), rules, rules);
+    let bytes = proof_bytes(&proof);
+    let (mut out, mut scratch) = (vec![0; patch::OUTPUT_ROOM], vec![0; patch::SCRATCH_ROOM]);
+    patch::Extractor { counter: 0 }.extract_to(&bytes, &mut out, &mut scratch).ok()?;
+    Some((proof, bytes))
 }
 
 fn ruled(rule: Rule, linear: Vec<Formula>, premises: Vec<Proof>) -> Proof {

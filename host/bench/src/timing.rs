@@ -8,7 +8,7 @@ const NANOS: f64 = 2e6;
 
 pub fn table(rows: &[Row]) {
     println!(
-        "{:<26} {:>6} {:>6}  {:<10} {:>12} {:>12} {:>9}  middle half",
+        "{:<36} {:>6} {:>6}  {:<10} {:>12} {:>12} {:>9}  middle half",
         "call", "nodes", "bytes", "beside", "its ns", "port ns", "ratio"
     );
     for row in rows {
@@ -22,7 +22,7 @@ pub fn table(rows: &[Row]) {
             ratios.push(a / b);
         }
         println!(
-            "{:<26} {:>6} {:>6}  {:<10} {:>12.0} {:>12.0} {:>9.2}  {:.2} to {:.2}",
+            "{:<36} {:>6} {:>6}  {:<10} {:>12.0} {:>12.0} {:>9.2}  {:.2} to {:.2}",
             row.name,
             row.nodes,
             row.bytes / row.inputs,
