@@ -137,10 +137,10 @@ fn children(table: &mut Table) {
     }
 }
 
-fn proofs(table: &mut Table, call: Call) {
+fn proof_faults() -> Vec<(&'static str, Vec<u8>, u64, u64)> {
     let rules = |n: usize, last: &[u8]| [[4, 0, 1].repeat(n), last.to_vec()].concat();
     let list = |n: usize, last: u8| [vec![3, 2], vec![11; n], vec![5, last, 0]].concat();
-    let faults = [
+    vec![
         ("2", vec![3; 4097], 2, 4096),
         ("3, empty", vec![], 3, 0),
         ("3, no count of formulas", vec![3], 3, 1),
@@ -156,8 +156,11 @@ fn proofs(table: &mut Table, call: Call) {
         ("6, formula nodes", list(1023, 5), 6, 1026),
         ("6 before 4, formula nodes", list(1023, 99), 6, 1026),
         ("7", vec![3, 0, 0, 3], 7, 3),
-    ];
-    for (why, bytes, number, place) in faults {
+    ]
+}
+
+fn proofs(table: &mut Table, call: Call) {
+    for (why, bytes, number, place) in proof_faults() {
         let case = Case::new(call, vec![bytes]);
         for at in 0..case.lent.len() {
             table.expect(&format!("1 before {why}"), short(case.clone(), at), [1, 0, 0]);
@@ -220,20 +223,21 @@ fn files(table: &mut Table, call: Call, kind: u8) {
     first[300] = 1;
     seal(&mut first);
     table.expect("13 before the content", load(first), [13, 0, 1]);
-    for (why, content, number, place) in [("3", vec![14], 3, 1), ("4", vec![0], 4, 0), ("7", vec![if kind == 1 { 2 } else { 3 }; 9], 7, 1)]
-    {
-        let (number, place) = if kind == 2 && number != 4 { proof_fault(&content) } else { (number, place) };
+    let mut earlier = sealed(0, 3 - kind);
+    earlier[600] ^= 1;
+    table.expect("12 of block 0 before 11 of block 1", load(earlier), [12, 0, 1]);
+    for (why, content, number, place) in if kind == 1 { term_contents() } else { proof_contents() } {
         table.expect(&format!("{why} of the content"), load(blocks(kind, &content)), [number, place, 1]);
     }
 }
 
-/// What is wrong with a content of nine OneIntro tags, or of one Contraction tag, as a proof.
-fn proof_fault(content: &[u8]) -> (u64, u64) {
-    if content.len() == 1 {
-        (3, 1)
-    } else {
-        (3, 9)
-    }
+/// Contents that fit a file: nothing longer than 4,096 bytes does, so 2 is not among their faults.
+fn term_contents() -> Vec<(&'static str, Vec<u8>, u64, u64)> {
+    faults(&TERM).into_iter().filter(|(_, bytes, number, _)| *number != 2 && !bytes.is_empty()).collect()
+}
+
+fn proof_contents() -> Vec<(&'static str, Vec<u8>, u64, u64)> {
+    proof_faults().into_iter().filter(|(_, bytes, number, _)| *number != 2 && !bytes.is_empty()).collect()
 }
 
 /// Which numbers each call can give.
@@ -253,8 +257,8 @@ const GIVEN: [(Call, &[u64]); 17] = [
     (Call::Extract, &[1, 2, 3, 4, 5, 6, 7, 8, 9]),
     (Call::StoreTerm, &[1, 2, 3, 4, 5, 6, 7]),
     (Call::StoreProof, &[1, 2, 3, 4, 5, 6, 7]),
-    (Call::LoadTerm, &[1, 10, 11, 12, 13]),
-    (Call::LoadProof, &[1, 10, 11, 12, 13]),
+    (Call::LoadTerm, &[1, 3, 4, 5, 6, 7, 10, 11, 12, 13]),
+    (Call::LoadProof, &[1, 3, 4, 5, 6, 7, 10, 11, 12, 13]),
 ];
 
 pub fn all() -> Verdict {
