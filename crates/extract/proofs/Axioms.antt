@@ -1,21 +1,20 @@
 -- The name that an Axiom takes: what each formula of `linear` gives by itself, and the first that gives one decides. Assumes nothing.
-use Prim.Native.Nat.{ℕ, suc, _+_, _-_, _<_, _≤_}
+use Prim.Native.Nat.{ℕ, _+_, _-_, _<_}
 use mathlib.Core.Path.{_≡_, refl, sym, ap, _∙_}
 use mathlib.Core.List.{List, [], _∷_}
 use mathlib.Core.Option.{Option, none, some}
 use native.Mathlib.Omega.{arith}
 use lib.ListN.{length, getD}
 use Rattle.rules.specs.Basic.{Bytes}
-use Rattle.rules.specs.Name.{Name, lower}
+use Rattle.rules.specs.Name.{Name}
 use Rattle.rules.specs.Formula.{Formula, atom, constant, exponential, connective, Sign, plain, negated, signTag, encodeFormula}
 use Rattle.rules.specs.Extraction.{Entries, oldest, orItself, axiomName}
 use Rattle.draft.specs.Draft.{nameOf}
-use Rattle.extract.specs.Place.{FormulaAt, FormulasAt}
-use Rattle.extract.specs.Shape.{formulaTag}
-use Rattle.extract.specs.Entry.{EntriesAt, nameSaid}
-use Rattle.extract.specs.declared.entries.Named.{Named}
-use Rattle.extract.proofs.Items.{Some, SkipIs, skip-one, first, others, some-alone, some-first}
-use Rattle.extract.proofs.Formulas.{formula-tag, formula-inside, is-atom, atom-here}
+use Rattle.one_rule.specs.Place.{FormulaAt, FormulasAt}
+use Rattle.one_rule.specs.Shape.{formulaTag}
+use Rattle.extract.specs.Entry.{EntriesAt}
+use Rattle.one_rule.proofs.Items.{Some, SkipIs, skip-one, first, others, some-alone}
+use Rattle.one_rule.proofs.Formulas.{formula-tag, formula-inside, is-atom, atom-here}
 use Rattle.extract.proofs.Stems.{own-name}
 use Rattle.extract.proofs.Opposites.{Sought, Finds}
 

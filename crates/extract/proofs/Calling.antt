@@ -10,20 +10,20 @@ use Rattle.rules.specs.Basic.{Bytes, if_then_else_, _≤?_, _<?_}
 use Rattle.rules.specs.Limits.{limits, mostCounter, entryRoom}
 use Rattle.rules.specs.declared.Refusal.{Refusal}
 use Rattle.rules.specs.declared.Answer.the-variants.{Good, Refused as Bad}
-use Rattle.rules.specs.Refusal.{Outcome, good, refused, mapped, answered, refuse, sparesScratch}
-use Rattle.rules.specs.Term.{Term, encode, nodes, size, fits}
+use Rattle.rules.specs.Refusal.{Outcome, good, refused, mapped, answered, refuse}
+use Rattle.rules.specs.Term.{Term, fits}
 use Rattle.rules.specs.Proof.{Proof, rules}
 use Rattle.rules.specs.Reading.{readProof}
 use Rattle.rules.specs.Extraction.{terms, sizes, extract, extractFrom, sizeFits, Size}
-use Rattle.rules.specs.Buffers.{Ending, writesNothing, lent, filled, cleared}
-use Rattle.rules.specs.Calls.{Entry, workRoom, counterAfter, extractEnding, extractWith, proofOutcome, extractCall}
+use Rattle.rules.specs.Buffers.{lent, filled, cleared}
+use Rattle.rules.specs.Calls.{Entry, workRoom, counterAfter, extractEnding, proofOutcome, extractCall}
 use Rattle.laws.specs.Octets.{Octets}
 use Rattle.laws.specs.Numbers.{proof-spares}
 use Rattle.proof.specs.Accepted.{accepts-proof, refuses-proof}
-use Rattle.extract.specs.Sizes.{extract-sizes, sizeOf}
+use Rattle.extract.specs.Sizes.{extract-sizes}
 use Rattle.extract.specs.Whole.{decided, outcome, extraction, told, Finished, Checked}
 use Rattle.extract.specs.declared.Extraction.{Extraction}
-use Rattle.extract.specs.declared.Extraction.the-variants.{Made, Refused}
+use Rattle.extract.specs.declared.Extraction.the-variants.{Refused}
 
 -- extraction decides by sizes, and these are the term's
 agree : (a b : Bool) (e : Term × ℕ)

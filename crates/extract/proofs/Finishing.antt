@@ -2,31 +2,28 @@
 use Prim.Native.Nat.{ℕ, _+_, _-_, _<_, _≤_}
 use mathlib.Core.Path.{_≡_, refl, sym, ap, _∙_}
 use mathlib.Core.Bool.{Bool, true, false}
-use mathlib.Core.List.{List, [], _++_}
+use mathlib.Core.List.{List}
 use native.Mathlib.Omega.{arith}
 use lib.ListN.{length, replicate}
 use lib.Seq.{sets}
 use borrow.Author.Tests.{lt-ltb, le-ltb, leb-true}
 use Rattle.rules.specs.Basic.{Bytes, _<?_, _≤?_}
-use Rattle.rules.specs.Limits.{limits, mostCounter, Limits}
+use Rattle.rules.specs.Limits.{limits, mostCounter}
 use Rattle.rules.specs.Refusal.{Outcome, good, refuse}
 use Rattle.rules.specs.Buffers.{filled, cleared}
 use Rattle.rules.specs.Calls.{extractEnding}
 use Rattle.rules.specs.Term.{Term, encode, size, nodes, fits}
-use Rattle.rules.specs.Legal.{Legal}
-use Rattle.rules.specs.Proof.{Proof, encodeProof, rules}
-use Rattle.rules.specs.Extraction.{terms, extract, extractFrom}
 use Rattle.laws.specs.Same.{both-true}
 use Rattle.runs.specs.Wrote.{Wrote}
 use Rattle.runs.specs.Writing.{filled-up, wrote-length, wrote-none}
-use Rattle.draft.specs.Draft.{Rows, Drafts}
+use Rattle.draft.specs.Draft.{Drafts}
 use Rattle.draft.specs.Made.{Small}
 use Rattle.draft.specs.Measured.{Countable}
 use Rattle.draft.specs.Writing.{Writable}
-use Rattle.extract.specs.declared.Drafted.{Drafted}
+use Rattle.one_rule.specs.declared.Drafted.{Drafted}
 use Rattle.extract.specs.declared.Extraction.{Extraction}
-use Rattle.extract.specs.declared.Extraction.the-variants.{Made, Refused}
-use Rattle.extract.specs.Whole.{decided, outcome, told, Finishes, Finished, Checked}
+use Rattle.extract.specs.declared.Extraction.the-variants.{Made}
+use Rattle.extract.specs.Whole.{decided, outcome, told, Finishes, Finished}
 
 -- a buffer cleared from its start
 zeros : (b : Bytes) {b′ : Bytes} → b′ ≡ sets b 0 (replicate (length b - 0) 0) → b′ ≡ replicate (length b) 0

@@ -1,12 +1,8 @@
 -- What the proofs of several functions use, here and in the crates above.
-pub mod Items
-pub mod Formulas
-pub mod Rules
 pub mod Stems
 pub mod Opposites
 pub mod Axioms
-pub mod Acting
-pub mod Putting
+pub mod Naming
 pub mod Pushing
 pub mod Premised
 pub mod Ruled

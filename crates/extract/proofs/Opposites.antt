@@ -3,7 +3,7 @@
 use Prim.Native.Nat.{ℕ, suc, _+_, _-_, _<_, _≤_}
 use mathlib.Core.Path.{_≡_, refl, sym, ap, _∙_}
 use mathlib.Core.Bool.{Bool, true, false, _&&_}
-use mathlib.Core.List.{List, [], _∷_, _++_}
+use mathlib.Core.List.{List, [], _∷_}
 use mathlib.Core.Option.{Option, none, some}
 use native.Mathlib.Omega.{arith}
 use native.Mathlib.Numerals.{add-one}
@@ -16,10 +16,10 @@ use Rattle.rules.specs.Extraction.{Entries, fresh, stemFor, opposes, cutsAtom, 
 use Rattle.draft.specs.Draft.{nameOf}
 use Rattle.walk.specs.Place.{NameAt}
 use Rattle.walk.proofs.Names.{name-part, name-room, SameIs}
-use Rattle.extract.specs.Place.{FormulaAt}
-use Rattle.extract.specs.Shape.{formulaTag}
-use Rattle.extract.specs.Entry.{EntryAt, EntriesAt, entryAt}
-use Rattle.extract.proofs.Formulas.{formula-tag, formula-inside, is-atom, atom-name}
+use Rattle.one_rule.specs.Place.{FormulaAt}
+use Rattle.one_rule.specs.Shape.{formulaTag}
+use Rattle.extract.specs.Entry.{EntriesAt, entryAt}
+use Rattle.one_rule.proofs.Formulas.{formula-tag, formula-inside, is-atom, atom-name}
 use Rattle.extract.proofs.Stems.{cut-name}
 
 -- ---- two atoms

@@ -1,25 +1,25 @@
 -- From a rule's premises to what it makes of them: what each premise starts from, and what the rule comes to when they are walked.
 -- By the definition's own words for each kind of rule; the entries, the rows and the counter go from premise to premise. Assumes nothing.
-use Prim.Native.Nat.{ℕ, zero, suc, _+_, _-_, _*_, _<_, _≤_}
-use mathlib.Core.Path.{_≡_, refl, sym, ap, subst, _∙_}
-use mathlib.Core.List.{List, [], _∷_, _++_, append-nil}
+use Prim.Native.Nat.{ℕ, suc, _+_, _-_, _*_, _<_, _≤_}
+use mathlib.Core.Path.{_≡_, ap, subst, _∙_}
+use mathlib.Core.List.{List, [], _∷_, append-nil}
 use native.Mathlib.Omega.{arith}
 use lib.ListN.{length, length-append}
 use Rattle.rules.specs.Basic.{Bytes, _‥_}
 use Rattle.rules.specs.Formula.{Formula}
 use Rattle.rules.specs.Term.{Term, two, pair}
-use Rattle.rules.specs.Proof.{Proof, rules, encodeProof}
+use Rattle.rules.specs.Proof.{Proof, encodeProof}
 use Rattle.rules.specs.Extraction.{terms, Entries, fresh, stemFor, extract, joined}
-use Rattle.laws.specs.Lists.{joined as row, total}
-use Rattle.draft.specs.Draft.{Rows, Drafts}
+use Rattle.laws.specs.Lists.{joined as row}
+use Rattle.draft.specs.Draft.{Drafts}
 use Rattle.draft.specs.Made.{mostNumber, Small}
-use Rattle.extract.specs.Place.{FormulaAt, ProofAt, ProofsAt, proofsLong}
+use Rattle.one_rule.specs.Place.{FormulaAt, ProofsAt, proofsLong}
 use Rattle.extract.specs.Entry.{EntriesAt}
-use Rattle.extract.specs.Acts.{over}
-use Rattle.extract.specs.Walk.{Ready, Walked, Task, Done, Premises, Past, Open, Put, overFirst, pairOf, cutOf}
-use Rattle.extract.specs.declared.Drafted.{Drafted}
-use Rattle.extract.proofs.Items.{Some, SkipIs, first, others, at-end, some-fits}
-use Rattle.extract.proofs.Rules.{proofs-spelt}
+use Rattle.one_rule.specs.Acts.{over}
+use Rattle.one_rule.specs.Puts.{Open, Put}
+use Rattle.extract.specs.Walk.{Task, Done, Premises, Past, overFirst, pairOf, cutOf}
+use Rattle.one_rule.specs.declared.Drafted.{Drafted}
+use Rattle.one_rule.proofs.Items.{Some, SkipIs, first, others}
 use Rattle.extract.proofs.Pushing.{front}
 
 -- what `draft_rule` asks and ensures

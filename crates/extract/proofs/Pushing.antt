@@ -1,8 +1,8 @@
 -- A cut entry put behind the others, and the entries without the last. Assumes nothing.
-use Prim.Native.Nat.{ℕ, zero, suc, _+_, _<_, _≤_}
-use mathlib.Core.Path.{_≡_, refl, sym, ap, _∙_}
+use Prim.Native.Nat.{ℕ, _+_, _<_, _≤_}
+use mathlib.Core.Path.{_≡_, refl, sym, _∙_}
 use mathlib.Core.Logic.{⊎-elim}
-use mathlib.Core.List.{List, [], _∷_, _++_}
+use mathlib.Core.List.{List, [], _∷_}
 use native.Mathlib.Nat.{eq-or-lt-of-le}
 use native.Mathlib.Omega.{arith}
 use lib.ListN.{length, getD, set, length-set, length-append, List·getD-append}
@@ -12,7 +12,7 @@ use Rattle.rules.specs.Name.{Name}
 use Rattle.rules.specs.Formula.{Formula, constant, One}
 use Rattle.rules.specs.Extraction.{Entries, fresh, stemFor}
 use Rattle.draft.specs.Made.{mostNumber}
-use Rattle.extract.specs.Place.{FormulaAt}
+use Rattle.one_rule.specs.Place.{FormulaAt}
 use Rattle.extract.specs.Entry.{EntryAt, EntriesAt, entryAt}
 
 module _ (places counters : List ℕ) (k place counter : ℕ) (lp : k < length places) (lc : k < length counters) (low : counter + 1 < mostNumber)

@@ -1,30 +1,30 @@
 -- From a rule to its premises and back, by what the rule does: what is asked of each of them, and what the rule comes to. Assumes nothing.
-use Prim.Native.Nat.{ℕ, zero, suc, _+_, _*_, _<_, _≤_}
+use Prim.Native.Nat.{ℕ, zero, suc, _+_, _<_, _≤_}
 use mathlib.Core.Path.{_≡_, refl, sym, ap, subst, _∙_}
 use mathlib.Core.List.{List, [], _∷_}
 use native.Mathlib.Omega.{arith}
 use lib.ListN.{length, getD}
 use Rattle.rules.specs.Basic.{Bytes}
 use Rattle.rules.specs.Formula.{Formula}
-use Rattle.rules.specs.Term.{Term, leaf, unit, trivial}
+use Rattle.rules.specs.Term.{Term, leaf, unit}
 use Rattle.rules.specs.Proof.{Proof, proof, Premises as Row, done, _then_, Rule, cut, rules, rulesIn, encodeProof}
 use Rattle.rules.specs.Extraction.{terms, Entries, identity, axiomName, extract}
 use Rattle.laws.specs.Lists.{total}
-use Rattle.laws.specs.WrittenProof.{carried}
 use Rattle.draft.specs.Draft.{Rows, Drafts}
-use Rattle.draft.specs.Made.{made, mostNumber, Small}
+use Rattle.draft.specs.Made.{made, mostNumber}
 use Rattle.draft.specs.Steady.{drafts-unit, drafts-trivial}
-use Rattle.extract.specs.Place.{FormulaAt, FormulasAt, ProofAt, ProofsAt, proofsLong}
-use Rattle.extract.specs.Shape.{listed, ruleTag, Sees}
+use Rattle.one_rule.specs.Place.{FormulaAt, FormulasAt, ProofAt, ProofsAt, proofsLong}
+use Rattle.one_rule.specs.Shape.{listed, Sees}
 use Rattle.extract.specs.Entry.{EntriesAt}
-use Rattle.extract.specs.Acts.{leafAt, Leaves, Bares, Names, Overs, Pairs, Cuts, Acts, Does}
-use Rattle.extract.specs.Walk.{Ready, Walked, Task, Done, Premises, Past, Open, Put, overFirst, pairOf, cutOf}
-use Rattle.extract.specs.declared.Drafted.{Drafted}
-use Rattle.extract.specs.declared.look.Looked.{Looked}
-use Rattle.extract.specs.declared.act.Act.{Act}
-use Rattle.extract.specs.declared.act.Act.the-variants.{Leaf, Bare, Axiom, First, Pair, Cut}
-use Rattle.extract.proofs.Items.{Some, SkipIs, at-parts, at-inside, apart-size}
-use Rattle.extract.proofs.Rules.{proofs-spelt, linear-many, linear-inside, formulas-here, cut-formula}
+use Rattle.one_rule.specs.Acts.{leafAt, Leaves, Bares, Names, Overs, Pairs, Cuts, Acts, Does}
+use Rattle.one_rule.specs.Puts.{Open, Put}
+use Rattle.extract.specs.Walk.{Task, Done, Premises, Past, overFirst, pairOf, cutOf}
+use Rattle.one_rule.specs.declared.Drafted.{Drafted}
+use Rattle.one_rule.specs.declared.look.Looked.{Looked}
+use Rattle.one_rule.specs.declared.act.Act.{Act}
+use Rattle.one_rule.specs.declared.act.Act.the-variants.{Leaf, Bare, Axiom, First, Pair, Cut}
+use Rattle.one_rule.proofs.Items.{Some, SkipIs, at-parts, at-inside, apart-size}
+use Rattle.one_rule.proofs.Rules.{proofs-spelt, linear-many, linear-inside, formulas-here, cut-formula}
 use Rattle.extract.proofs.Premised.{Starts, FirstOf, TwoOf, CutOf}
 
 rules-many : (ps : Row) → rulesIn ps ≡ total rules (listed ps)

@@ -1,12 +1,11 @@
 -- The walk over a whole proof starts with no entry and no row, and its draft is of the term that the proof makes. Assumes nothing.
-use Prim.Native.Nat.{ℕ, _+_, _*_, _^_, _<_, _≤_}
-use mathlib.Core.Path.{_≡_, refl, sym, ap, _∙_}
-use mathlib.Core.List.{List, [], _++_, append-nil}
+use Prim.Native.Nat.{ℕ, _+_, _*_, _^_, _<_}
+use mathlib.Core.Path.{_≡_, refl, sym, _∙_}
+use mathlib.Core.List.{List, [], append-nil}
 use native.Mathlib.Nat.{not-suc-le-zero}
 use native.Mathlib.Omega.{arith}
 use lib.ListN.{length}
 use Rattle.rules.specs.Basic.{Bytes}
-use Rattle.rules.specs.Term.{Term}
 use Rattle.rules.specs.Proof.{Proof, encodeProof}
 use Rattle.rules.specs.Extraction.{terms, extract}
 use Rattle.draft.specs.Steady.{rows-none, small-none}
@@ -14,7 +13,7 @@ use Rattle.extract.specs.Entry.{EntriesAt}
 use Rattle.extract.specs.Legals.{extract-fine}
 use Rattle.extract.specs.Walk.{Task, Done}
 use Rattle.extract.specs.Whole.{Finishes, Checked}
-use Rattle.extract.specs.declared.Drafted.{Drafted}
+use Rattle.one_rule.specs.declared.Drafted.{Drafted}
 
 no-entries : (s : Bytes) (places counters : List ℕ) → EntriesAt s places counters 0 []
 no-entries s places counters = record { many = refl; placed = omega arith; counted = omega arith; each = λ i h. absurd (not-suc-le-zero h) }

@@ -1,21 +1,21 @@
 -- The names that rows of a draft tell: an atom's own, and that of a cut entry whose formula is an atom. By the bytes at the atom's place.
 -- Assumes nothing.
 use Prim.Native.Nat.{ℕ, suc, _+_}
-use mathlib.Core.Path.{_≡_, refl, sym, ap, _∙_}
-use mathlib.Core.List.{List, [], _∷_, _++_, append-nil}
+use mathlib.Core.Path.{_≡_, sym, ap, _∙_}
+use mathlib.Core.List.{[], _∷_, _++_, append-nil}
 use native.Mathlib.Omega.{arith}
 use native.Mathlib.Numerals.{add-one}
 use lib.ListN.{length, getD, drop, take}
 use lib.Seq.{take-at}
 use Rattle.rules.specs.Basic.{Bytes, decimal, _‥_}
-use Rattle.rules.specs.Name.{Name, lower, encodeName}
-use Rattle.rules.specs.Formula.{Formula, atom, Sign}
+use Rattle.rules.specs.Name.{Name, lower}
+use Rattle.rules.specs.Formula.{atom, Sign}
 use Rattle.rules.specs.Extraction.{fresh, stemFor}
 use Rattle.draft.specs.Draft.{stemAt, numbered, nameOf}
 use Rattle.walk.specs.Place.{NameAt}
 use Rattle.walk.proofs.Names.{drop-app, head-byte}
-use Rattle.extract.specs.Place.{FormulaAt}
-use Rattle.extract.proofs.Formulas.{atom-name}
+use Rattle.one_rule.specs.Place.{FormulaAt}
+use Rattle.one_rule.proofs.Formulas.{atom-name}
 
 name-bytes : (s : Bytes) (p : ℕ) (a : Name) → NameAt s p a → take (getD s p 0) (drop (suc p) s) ≡ a
 name-bytes s p a w =

@@ -2,7 +2,7 @@
 -- Assumes nothing: these are definitions.
 use Prim.Native.Nat.{ℕ, _+_, _≤_, _<_}
 use mathlib.Core.Path.{_≡_}
-use mathlib.Core.List.{List, [], _∷_}
+use mathlib.Core.List.{List, []}
 use mathlib.Core.Option.{Option, none, some}
 use lib.ListN.{length, getD}
 use Rattle.rules.specs.Basic.{Bytes}
@@ -11,7 +11,7 @@ use Rattle.rules.specs.Formula.{Formula, constant, One}
 use Rattle.rules.specs.Extraction.{Entries, fresh, stemFor}
 use Rattle.draft.specs.Draft.{nameOf}
 use Rattle.draft.specs.Made.{mostNumber}
-use Rattle.extract.specs.Place.{FormulaAt}
+use Rattle.one_rule.specs.Place.{FormulaAt}
 use Rattle.extract.specs.declared.entries.Named.{Named}
 use Rattle.extract.specs.declared.entries.Named.the-variants.{Nothing, Of}
 

@@ -1,20 +1,20 @@
 -- What is extracted from a legal proof is a legal term, where the counter stays within its bound: the counter only rises, so every name
 -- that is taken has a number below the counter at the end. By induction on the proof. Assumes nothing.
-use Prim.Native.Nat.{ℕ, zero, suc, _+_, _<_, _≤_}
-use mathlib.Core.Path.{_≡_, refl, sym, ap, _∙_}
-use mathlib.Core.Bool.{Bool, true, false, _&&_}
-use mathlib.Core.List.{List, [], _∷_, _++_}
+use Prim.Native.Nat.{ℕ, suc, _<_, _≤_}
+use mathlib.Core.Path.{refl}
+use mathlib.Core.Bool.{Bool, true, false}
+use mathlib.Core.List.{List, [], _∷_}
 use mathlib.Core.Option.{Option, none, some}
 use native.Mathlib.Omega.{arith}
-use Rattle.rules.specs.Basic.{if_then_else_, _‥_, say}
+use Rattle.rules.specs.Basic.{if_then_else_, _‥_}
 use Rattle.rules.specs.Limits.{mostCounter}
-use Rattle.rules.specs.Name.{Name, nameMost, atomMost, lower, leads, follows}
-use Rattle.rules.specs.Legal.{All, LegalName, LegalFormula, Legal, LegalFormulas, LegalRule, LegalProof, LegalPremises}
+use Rattle.rules.specs.Name.{Name, nameMost, atomMost, lower, leads}
+use Rattle.rules.specs.Legal.{LegalName, LegalFormula, Legal, LegalFormulas, LegalRule, LegalProof, LegalPremises}
 use Rattle.rules.specs.Formula.{Formula, atom, constant, exponential, connective, Sign, plain, negated, Tensor, Par, With, Plus, Lolli}
-use Rattle.rules.specs.Term.{Term, var, leaf, one, two, abs, both, branch, Leaf, unit, trivial, One, inl, inr, promote, derelict, Two, pair, app, discard, Both, letPair, copy}
+use Rattle.rules.specs.Term.{Term, leaf, Leaf, unit, trivial, One, inl, inr, promote, derelict}
 use Rattle.rules.specs.Proof.{Proof, proof, Premises, done, _then_, Rule, plain as plainRule, cut, focus, Plain}
 use Rattle.rules.specs.Proof.Plain.{Axiom, OneIntro, BottomIntro, TensorIntro, ParIntro, TopIntro, WithIntro, PlusIntroLeft, PlusIntroRight, OfCourseIntro, WhyNotIntro, Weakening, Contraction, Dereliction, Blur}
-use Rattle.rules.specs.Extraction.{terms, Entries, Fresh, fresh, x, stemFor, Premise, cutsAtom, oldest, orItself, axiomName, identity, firstOr, wrapped, paired, discarding, copying, joined, cutting, plainly, byRule, extract, extracts}
+use Rattle.rules.specs.Extraction.{terms, Entries, fresh, x, stemFor, Premise, cutsAtom, oldest, orItself, axiomName, identity, firstOr, wrapped, paired, discarding, copying, joined, cutting, plainly, byRule, extract, extracts}
 use Rattle.extract.specs.Names.{lower-legal, fresh-legal}
 
 -- ---- entries

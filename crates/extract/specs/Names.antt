@@ -1,15 +1,15 @@
 -- Generated names are legal: a lower-cased atom is a legal name, and a stem of at most 16 bytes with the digits of a number
 -- below 100,000,000 behind it has at most 24. By the bytes, and by the number of digits. Assumes nothing.
-use Prim.Native.Nat.{ℕ, zero, suc, _+_, _*_, _/_, _%_, _^_, _<_, _≤_}
-use mathlib.Core.Path.{_≡_, refl, sym, ap, _∙_}
+use Prim.Native.Nat.{ℕ, zero, suc, _+_, _/_, _%_, _^_, _<_, _≤_}
+use mathlib.Core.Path.{_≡_, refl}
 use mathlib.Core.Bool.{Bool, true, false, _&&_, _||_}
 use mathlib.Core.List.{List, [], _∷_, _++_, map}
 use native.Mathlib.Omega.{arith}
 use native.Mathlib.Nat.{div-lt-iff-lt-mul, mod-lt, pow-suc}
 use lib.Dec.{ltb, leb, eqb}
 use lib.ListN.{length, length-append, length-map}
-use borrow.Author.Tests.{lt-ltb, le-ltb, le-leb, lt-leb, leb-true, leb-false, ltb-true, ltb-false, ne-eqb}
-use Rattle.rules.specs.Basic.{if_then_else_, between, digits, decimal, _<?_, _‥_}
+use borrow.Author.Tests.{lt-ltb, le-leb, lt-leb, leb-true, ltb-true}
+use Rattle.rules.specs.Basic.{if_then_else_, between, digits, decimal, _‥_}
 use Rattle.rules.specs.Name.{Name, nameMost, atomMost, leads, follows, lowerByte, lower}
 use Rattle.rules.specs.Legal.{All, LegalName}
 

@@ -11,10 +11,10 @@ use Rattle.rules.specs.Extraction.{terms, Entries, extract, paired, cutting}
 use Rattle.laws.specs.Lists.{total}
 use Rattle.draft.specs.Draft.{Rows, Drafts}
 use Rattle.draft.specs.Made.{mostNumber, Small}
-use Rattle.extract.specs.Place.{ProofAt, ProofsAt, proofsLong}
+use Rattle.one_rule.specs.Place.{ProofAt, ProofsAt, proofsLong}
 use Rattle.extract.specs.Entry.{EntriesAt}
-use Rattle.extract.specs.Acts.{over}
-use Rattle.extract.specs.declared.Drafted.{Drafted}
+use Rattle.one_rule.specs.Acts.{over}
+use Rattle.one_rule.specs.declared.Drafted.{Drafted}
 
 -- k entries and the rows used so far, and room for so many rules more: a rule puts an entry and a row, and takes three names, at most
 pub record Ready (s : Bytes) (places counters : List ℕ) (k : ℕ) (ws : List ℕ) (used n more : ℕ) (es : Entries) : Type 0 where
@@ -54,22 +54,6 @@ pub record Premises (s : Bytes) (at many : ℕ) (places counters : List ℕ) (k 
 
 abbrev pub Past : Bytes → (at : ℕ) (places counters : List ℕ) (k : ℕ) (ws ws′ : List ℕ) (used n : ℕ) → List Proof → Entries → Term × ℕ → Drafted → Type 0
 Past s at places counters k ws ws′ used n ps es made r = Walked s places counters k ws ws′ used n (1 + total rules ps) es (at + proofsLong ps) made r
-
--- room for a row
-pub record Open (ws : List ℕ) (used : ℕ) : Type 0 where
-  pub rows : Rows ws used
-  pub small : Small ws used
-  pub room : used * 5 + 5 ≤ length ws
-
--- what one row, or none, makes of the parts that are there
-pub record Put (s : Bytes) (ws ws′ : List ℕ) (used n end : ℕ) (made : Term × ℕ) (r : Drafted) : Type 0 where
-  pub next : r .next ≡ end
-  pub counter : r .counter ≡ made .1
-  pub part : Drafts s ws′ (r .used) (r .part) (made .0)
-  pub small : Small ws′ (r .used)
-  pub few : r .used ≤ used + 1
-  pub low : r .counter ≤ n + 2
-  pub still : (i : ℕ) (t : Term) → Drafts s ws used i t → Drafts s ws′ (r .used) i t
 
 -- two premises, paired; and those of a Cut
 abbrev pub pairOf : (first second : Proof) → Entries → ℕ → Term × ℕ

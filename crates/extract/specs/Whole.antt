@@ -3,7 +3,7 @@
 use Prim.Native.Nat.{ℕ, _+_, _*_, _≤_}
 use mathlib.Core.Path.{_≡_}
 use mathlib.Core.Bool.{Bool, true, false}
-use mathlib.Core.List.{List, []}
+use mathlib.Core.List.{List}
 use lib.ListN.{length}
 use Rattle.rules.specs.Basic.{Bytes, _<?_}
 use Rattle.rules.specs.Limits.{limits, mostCounter}
@@ -16,7 +16,7 @@ use Rattle.rules.specs.Calls.{extractEnding}
 use Rattle.laws.specs.DecodingProof.{ProofIn}
 use Rattle.draft.specs.Draft.{Drafts}
 use Rattle.draft.specs.Made.{Small}
-use Rattle.extract.specs.declared.Drafted.{Drafted}
+use Rattle.one_rule.specs.declared.Drafted.{Drafted}
 use Rattle.extract.specs.declared.Extraction.{Extraction}
 use Rattle.extract.specs.declared.Extraction.the-variants.{Made, Refused}
 

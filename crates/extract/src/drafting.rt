@@ -5,19 +5,19 @@ ghost use Prim.Native.Nat.{_≤_};
 ghost use Rattle.rules.specs.Formula.{Formula};
 ghost use Rattle.rules.specs.Proof.{Proof};
 ghost use Rattle.rules.specs.Extraction.{Entries};
-ghost use Rattle.extract.specs.Place.{FormulaAt};
+ghost use Rattle.one_rule.specs.Place.{FormulaAt};
 ghost use Rattle.extract.specs.Walk.{Task, Done, Premises, Past, overFirst, pairOf, cutOf};
-use crate::Drafted;
-use crate::act::Act;
-use crate::act::act_of;
+use crate::axiom::put_axiom;
 use crate::entries::push_entry;
-use crate::look::look_rule;
-use crate::look::skip_proofs;
-use crate::puts::put_axiom;
-use crate::puts::put_bare;
-use crate::puts::put_join;
-use crate::puts::put_over;
-use crate::puts::put_pair;
+use one_rule::Drafted;
+use one_rule::act::Act;
+use one_rule::act::act_of;
+use one_rule::look::look_rule;
+use one_rule::look::skip_proofs;
+use one_rule::puts::put_bare;
+use one_rule::puts::put_join;
+use one_rule::puts::put_over;
+use one_rule::puts::put_pair;
 
 // The rule at `at`, with its premises.
 pub fn draft_rule(

@@ -8,9 +8,9 @@ ghost use Rattle.rules.specs.Name.{Name};
 ghost use Rattle.rules.specs.Formula.{Formula, Sign, atom as atomOf};
 ghost use Rattle.rules.specs.Extraction.{Entries, cutsAtom, oldest as oldestOf, axiomName, fresh, stemFor};
 ghost use Rattle.draft.specs.Made.{mostNumber};
-ghost use Rattle.extract.specs.Place.{FormulaAt, FormulasAt};
+ghost use Rattle.one_rule.specs.Place.{FormulaAt, FormulasAt};
 ghost use Rattle.extract.specs.Entry.{EntriesAt, nameSaid, Low};
-use crate::look::skip_formulas;
+use one_rule::look::skip_formulas;
 
 // A name, by the place of its stem and its number; or none.
 pub enum Named {

@@ -13,24 +13,15 @@ ghost use Rattle.extract.specs.Whole.{extraction, told, Finishes, Finish
 use draft::parts::put_part;
 use draft::sizes::fits;
 use drafting::draft_rule;
+use one_rule::Drafted;
 use rules::Answer;
 use rules::OUTPUT_ROOM;
 use rules::Refusal;
 use rules::SCRATCH_ROOM;
 
-mod act;
+mod axiom;
 mod drafting;
 mod entries;
-mod look;
-mod puts;
-
-// How far the first walk has come: the next place, the rows used, the counter, and the part that was made.
-pub struct Drafted {
-    pub next: usize,
-    pub used: usize,
-    pub counter: usize,
-    pub part: usize,
-}
 
 // The bytes of the term and the counter after it; or a refusal.
 pub enum Extraction {

@@ -23,15 +23,15 @@ use Rattle.extract.proofs.drafting.+draft_cut+draft_first+draft_pair+dr
 use Rattle.extract.proofs.drafting.draft_rule.Reads as draft-rule
 use Rattle.extract.proofs.drafting.draft_rule.Kinds as draft-rule-kinds
 use Rattle.extract.proofs.drafting.+draft_cut+draft_first+draft_pair+draft_rule.Lts-draft_rule as draft-rule-lts
-use Rattle.extract.proofs.act.act_of.Reads as act-of-reads
+use Rattle.one_rule.proofs.act.act_of.Reads as act-of-reads
 use Rattle.extract.proofs.entries.push_entry.Reads as push-entry-reads
-use Rattle.extract.proofs.look.look_rule.Reads as look-rule-reads
-use Rattle.extract.proofs.look.skip_proofs.Reads as skip-proofs-reads
-use Rattle.extract.proofs.puts.put_axiom.Reads as put-axiom-reads
-use Rattle.extract.proofs.puts.put_bare.Reads as put-bare-reads
-use Rattle.extract.proofs.puts.put_join.Reads as put-join-reads
-use Rattle.extract.proofs.puts.put_over.Reads as put-over-reads
-use Rattle.extract.proofs.puts.put_pair.Reads as put-pair-reads
+use Rattle.one_rule.proofs.look.look_rule.Reads as look-rule-reads
+use Rattle.one_rule.proofs.look.skip_proofs.Reads as skip-proofs-reads
+use Rattle.extract.proofs.axiom.put_axiom.Reads as put-axiom-reads
+use Rattle.one_rule.proofs.puts.put_bare.Reads as put-bare-reads
+use Rattle.one_rule.proofs.puts.put_join.Reads as put-join-reads
+use Rattle.one_rule.proofs.puts.put_over.Reads as put-over-reads
+use Rattle.one_rule.proofs.puts.put_pair.Reads as put-pair-reads
 use Rattle.extract.proofs.drafting.+draft_cut+draft_first+draft_pair+draft_rule.{statement}
 use Rattle.extract.proofs.drafting.+draft_cut+draft_first+draft_pair+draft_rule.Tie.{close}
 

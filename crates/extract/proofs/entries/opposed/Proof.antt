@@ -2,9 +2,8 @@
 use Prim.Native.Nat.{_+_}
 use mathlib.Core.Path.{refl}
 use native.Mathlib.Omega.{arith}
-use Rattle.extract.proofs.Formulas.{formula-inside}
+use Rattle.one_rule.proofs.Formulas.{formula-inside}
 use Rattle.extract.proofs.Opposites.{atom-room, cuts-not, other-name, cuts-same}
-use borrow.Author.Needs.{needs}
 use Rattle.extract.proofs.entries.opposed.Statement.{statement}
 use Rattle.extract.proofs.entries.opposed.Tie as tie
 

@@ -1,0 +1,6 @@
+-- What the proofs of several functions use, here and in the crates above.
+pub mod Items
+pub mod Formulas
+pub mod Rules
+pub mod Acting
+pub mod Putting

@@ -1,0 +1,4 @@
+pub mod Place
+pub mod Shape
+pub mod Acts
+pub mod Puts
