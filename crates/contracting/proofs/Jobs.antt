@@ -17,7 +17,7 @@ use Rattle.step.specs.declared.spans.Two.{Two as Spans}
 use Rattle.step.specs.declared.spans.Three.{Three as Spans3}
 use Rattle.step.specs.declared.spans.Names.{Names}
 use Rattle.step.proofs.Rows.{size-one, of-one, in-app, in-both, in-let, in-branch}
-use Rattle.contracting.specs.Put.{Putting, Turns}
+use Rattle.putting.specs.Put.{Putting, Turns}
 use Rattle.contracting.specs.Contracts.{Redex, Contracts}
 use Rattle.contracting.specs.declared.Contracted.the-variants.{Made}
 use Rattle.contracting.proofs.Standing.{inside, keep-room, keep-contracts, beside-two, a-given, b-given, beside-three, first-given, second-given, third-given}

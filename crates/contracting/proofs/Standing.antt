@@ -21,14 +21,15 @@ use Rattle.step.specs.Measured.{MeasuredTwo, MeasuredThree}
 use Rattle.step.specs.declared.spans.Two.{Two}
 use Rattle.step.specs.declared.spans.Three.{Three}
 use Rattle.step.proofs.Rows.{term-part, InTwo, InThree, a-at, b-at, first-at, second-at, third-at}
-use Rattle.contracting.specs.Beside.{fitsBeside, fitsAround}
-use Rattle.contracting.specs.Put.{Beside, Puts}
+use Rattle.putting.specs.Beside.{fitsBeside}
+use Rattle.contracting.specs.Beside.{fitsAround}
+use Rattle.putting.specs.Put.{Beside, Puts}
 use Rattle.contracting.specs.Contracts.{Redex, Contracts, told}
-use Rattle.contracting.specs.declared.into.Put.{Put}
-use Rattle.contracting.specs.declared.into.Put.the-variants.{Written, Outgrown as Outgrew}
+use Rattle.putting.specs.declared.Put.{Put}
+use Rattle.putting.specs.declared.Put.the-variants.{Written, Outgrown as Outgrew}
 use Rattle.contracting.specs.declared.Contracted.{Contracted}
 use Rattle.contracting.specs.declared.Contracted.the-variants.{Made, Outgrown}
-use Rattle.contracting.proofs.Puts.{fits-yes, beside-yes}
+use Rattle.putting.proofs.Puts.{fits-yes, beside-yes}
 
 -- what was put is what is told
 told-by : (r : Rule) (end s n : ℕ) (b : Bool) → told r end (if b then Written s n else Outgrew) ≡ (if b then Made r s end n else Outgrown)

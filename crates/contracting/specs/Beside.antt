@@ -7,27 +7,16 @@ use mathlib.Core.Option.{Option}
 use native.Mathlib.Omega.{arith}
 use mathlib.Core.List.{_++_}
 use lib.ListN.{length, length-append}
-use Rattle.rules.specs.Basic.{Bytes, _≤?_}
+use Rattle.rules.specs.Basic.{Bytes}
 use Rattle.rules.specs.Limits.{limits}
 use Rattle.rules.specs.Term.{Term, encode, nodes, size, fits}
 use Rattle.rules.specs.Step.{halfFits, stepFits}
 use Rattle.step.specs.Around.{Frame}
-
--- u, beside so many other nodes and bytes
-unfoldable pub fitsBeside : (others rest : ℕ) → Term → Bool
-fitsBeside others rest u = (others + nodes u ≤? limits .nodes) && (rest + size u ≤? limits .bytes)
+use Rattle.putting.specs.Beside.{fitsBeside}
 
 -- u for t, in a whole of n nodes and l bytes
 abbrev pub fitsAround : (n l : ℕ) → (t u : Term) → Bool
 fitsAround n l t u = fitsBeside (n - nodes t) (l - size t) u
-
--- nothing beside it
-pub fits-alone : (u : Term) → fitsBeside 0 0 u ≡ fits limits u
-unfolding fitsBeside fits
-fits-alone u =
-    let a : 0 + nodes u ≡ nodes u = omega arith in
-    let b : 0 + size u ≡ size u = omega arith in
-    rw (a, b)
 
 -- in a frame
 module _ {o : ℕ} {f : Term → Term} (F : Frame o f) (t u : Term) where

@@ -12,8 +12,8 @@ use Rattle.rules.specs.declared.Rule.{Rule}
 use Rattle.rules.specs.Step.{by, contract, halfFits}
 use Rattle.walk.specs.Place.{TermAt}
 use Rattle.contracting.specs.Beside.{fitsAround}
-use Rattle.contracting.specs.declared.into.Put.{Put}
-use Rattle.contracting.specs.declared.into.Put.the-variants.{Written, Outgrown as Outgrew}
+use Rattle.putting.specs.declared.Put.{Put}
+use Rattle.putting.specs.declared.Put.the-variants.{Written, Outgrown as Outgrew}
 use Rattle.contracting.specs.declared.Contracted.{Contracted}
 use Rattle.contracting.specs.declared.Contracted.the-variants.{Made, Outgrown}
 

@@ -5,7 +5,6 @@ ghost use Rattle.rules.specs.Term.{Term};
 ghost use Rattle.contracting.specs.Contracts.{Contracting, Contracts};
 use rules::Rule;
 
-mod into;
 mod redexes;
 
 // The rule, the size of what was written, the place after the redex, and the nodes of the new whole; or it would outgrow the limits.

@@ -9,12 +9,12 @@ ghost use Rattle.rules.specs.Term.{Term, one, two, abs, both, branch as aBranch
 ghost use Rattle.rules.specs.declared.Rule.the-variants.{App, Let, Case, Fst, Snd, Derelict, Copy, Discard};
 ghost use Rattle.rules.specs.Substitution.{subst};
 ghost use Rattle.step.specs.Redex.{side};
-ghost use Rattle.contracting.specs.Put.{Room};
+ghost use Rattle.putting.specs.Put.{Room};
 ghost use Rattle.contracting.specs.Contracts.{Redex, Contracts, told as toldOf};
 use crate::Contracted;
-use crate::into::Put;
-use crate::into::in_turn;
-use crate::into::put_in;
+use putting::Put;
+use putting::in_turn;
+use putting::put_in;
 use rules::Rule;
 use step::spans::span;
 use step::spans::span_names;

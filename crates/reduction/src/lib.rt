@@ -9,16 +9,13 @@ ghost use Rattle.rules.specs.Reduction.{reduce};
 ghost use Rattle.rules.specs.Calls.{reduceCall};
 ghost use Rattle.step.specs.Taken.{Reads};
 ghost use Rattle.reduction.specs.Answers.{reducedBy, Reducing};
-use repeat::Repeated;
-use repeat::repeat_steps;
+use repeating::Repeated;
+use repeating::repeat_steps;
 use rules::Answer;
 use rules::Counts;
 use rules::OUTPUT_ROOM;
 use rules::Refusal;
 use rules::SCRATCH_ROOM;
-
-pub mod counting;
-pub mod repeat;
 
 // The steps taken, one count for each rule, whether no step remains, and the length of the term in the output.
 pub struct Reduction {

@@ -4,10 +4,10 @@ ghost use mathlib.Core.List.{List};
 ghost use Prim.Native.Nat.{_+_, _-_, _≤_, _<_};
 ghost use lib.ListN.{length};
 ghost use Rattle.rules.specs.Basic.{low-high};
-ghost use Rattle.rules.specs.Term.{Term, encode};
+ghost use Rattle.rules.specs.Term.{Term, encode, size};
 ghost use Rattle.runs.specs.Wrote.{Wrote};
 ghost use Rattle.walk.specs.Node.{encodeAll};
-ghost use Rattle.walk.specs.Place.{TermsAt};
+ghost use Rattle.walk.specs.Place.{TermAt, TermsAt};
 ghost use Rattle.substitution.specs.Places.{places as placesOf, placesAll, kept};
 
 // Keeps a place, low byte first.
@@ -22,9 +22,9 @@ fn keep(places: &mut [u8], to: usize, place: usize) -> usize
 }
 
 // The place after the terms, and after what was kept.
-struct Found {
-    next: usize,
-    to: usize,
+pub struct Found {
+    pub next: usize,
+    pub to: usize,
 }
 
 // Keeps from `to` on where `name` is free in the n terms at `at`, but for those that the mask hides.
@@ -85,4 +85,13 @@ pub fn free_places(s: &[u8], name: &[u8], places: &mut [u8]) -> usize
 {
     let f = find(s, 0, 1, 0, name, places, 0);
     f.to
+}
+
+// Keeps where `name` is free in the term at the start of s, and tells where that ends.
+pub fn first_places(s: &[u8], name: &[u8], places: &mut [u8]) -> Found
+    requires { ⌜ ((t : Term) × TermAt (now s) 0 t) ⌝ }
+    requires { ⌜ (length (now s) ≤ 65536) × (length (now s) ≤ length (now places)) ⌝ }
+    ensures { λ r. ⌜ ((t : Term) → TermAt (now (s .entry)) 0 t → (r .next ≡ size t) × Wrote (now (places .entry)) 0 (kept (placesOf (now (name .entry)) t 0)) (now (places .exit)) (r .to)) ⌝ }
+{
+    find(s, 0, 1, 0, name, places, 0)
 }
