@@ -16,11 +16,11 @@ use Rattle.rules.specs.Calls.{Entry, noEntry, workRoom, counterAfter, proofOutc
 use Rattle.extract.specs.Whole.{extraction}
 use Rattle.extract.specs.declared.Extraction.{Extraction}
 use Rattle.extract.specs.declared.Extraction.the-variants.{Made, Refused}
-use Rattle.extractor.specs.declared.CutEntry.{CutEntry}
+use Rattle.entries.specs.declared.CutEntry.{CutEntry}
 use Rattle.extractor.specs.declared.Ended.{Ended}
-use Rattle.extractor.specs.Entries.{none, zeroed, pairs}
+use Rattle.entries.specs.Entries.{none, zeroed, pairs}
 use Rattle.extractor.specs.Ending.{clearsOf, endedOf, Extracts}
-use Rattle.extractor.proofs.Filling.{zeroed-all, length-pairs, pairs-zeroed}
+use Rattle.entries.proofs.Filling.{zeroed-all, length-pairs, pairs-zeroed}
 
 few-of : (b : Bool) (m : ℕ) → (if b then 0 else m) ≤ m
 few-of true m = omega arith

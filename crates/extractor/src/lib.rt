@@ -5,8 +5,11 @@ ghost use Prim.Native.Nat.{_≤_};
 ghost use lib.ListN.{length};
 ghost use Rattle.rules.specs.Limits.{limits};
 ghost use Rattle.rules.specs.Calls.{Entry, noEntry, startCall, extractCall};
-ghost use Rattle.extractor.specs.Entries.{none, zeroed, pairs};
+ghost use Rattle.entries.specs.Entries.{zeroed, pairs};
 ghost use Rattle.extractor.specs.Ending.{clearsOf, endedOf, Extracts};
+use entries::CutEntry;
+use entries::clear_rows;
+use entries::row_len;
 use extract::Extraction;
 use extract::extract as extract_alone;
 use rules::Answer;
@@ -14,12 +17,6 @@ use rules::ENTRY_ROOM;
 use rules::Refusal;
 
 pub struct Extractor {
-    pub counter: u32,
-}
-
-// A cut entry: the formula's place, the name's counter.
-pub struct CutEntry {
-    pub place: usize,
     pub counter: u32,
 }
 
@@ -44,27 +41,6 @@ impl Extractor {
         let end = extract_with(self.counter, proof, entries, out, scratch);
         self.counter = end.counter;
         end.answer
-    }
-}
-
-fn row_len(row: &[CutEntry]) -> usize
-    ensures { λ r. ⌜ r ≡ length (now (row .entry)) ⌝ }
-{
-    row.len()
-}
-
-// The first n entries are set to zeros.
-fn clear_rows(row: &mut [CutEntry], n: usize)
-    requires { ⌜ n ≤ length (now row) ⌝ }
-    ensures { λ _. ⌜ now (row .exit) ≡ zeroed none n (now (row .entry)) ⌝ }
-{
-    let mut i = 0;
-    while i < n {
-        row[i] = CutEntry {
-            place: 0,
-            counter: 0,
-        };
-        i = i + 1;
     }
 }
 

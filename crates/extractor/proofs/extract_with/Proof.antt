@@ -40,28 +40,28 @@ use denote.Triple.Walked.{says, Stays, stay-none, stay-none-slice, stay-slice, w
 use denote.Exit.{yes}
 use Rattle.rules.specs.Limits.{limits}
 use Rattle.rules.specs.Calls.{Entry, noEntry, extractCall}
-use Rattle.extractor.specs.declared.CutEntry.{CutEntry}
+use Rattle.entries.specs.declared.CutEntry.{CutEntry}
 use Rattle.extractor.specs.declared.Ended.{Ended}
-use Rattle.extractor.specs.Entries.{none, zeroed, pairs}
+use Rattle.entries.specs.Entries.{none, zeroed, pairs}
 use Rattle.extractor.specs.Ending.{Extracts}
 use Rattle.extractor.proofs.Ended as K
 use Rattle.extractor.proofs.Ended.Laws as K′
-use Rattle.extractor.proofs.Row.{R}
-use Rattle.extractor.proofs.Rules.{free-at}
+use Rattle.entries.proofs.Row.{R}
+use Rattle.entries.proofs.Rules.{free-at}
 use Rattle.extractor.proofs.Ending.{few-row, over-row}
-use Rattle.extractor.proofs.Lent.{KeptRow, KeptShared, lend-row, row-back, share-row, shared-back}
-use Rattle.extractor.proofs.row_len as len
-use Rattle.extractor.proofs.row_len.Symbol as len-def
-use Rattle.extractor.proofs.row_len.Symbol.{name as #len}
-use Rattle.extractor.proofs.row_len.Met as len-thm
+use Rattle.entries.proofs.Lent.{KeptRow, KeptShared, lend-row, row-back, share-row, shared-back}
+use Rattle.entries.proofs.row_len as len
+use Rattle.entries.proofs.row_len.Symbol as len-def
+use Rattle.entries.proofs.row_len.Symbol.{name as #len}
+use Rattle.entries.proofs.row_len.Met as len-thm
 use Rattle.extractor.proofs.extract_beside as beside
 use Rattle.extractor.proofs.extract_beside.Symbol as beside-def
 use Rattle.extractor.proofs.extract_beside.Symbol.{name as #beside}
 use Rattle.extractor.proofs.extract_beside.Met as beside-thm
-use Rattle.extractor.proofs.clear_rows as clear
-use Rattle.extractor.proofs.clear_rows.Symbol as clear-def
-use Rattle.extractor.proofs.clear_rows.Symbol.{name as #clear}
-use Rattle.extractor.proofs.clear_rows.Met as clear-thm
+use Rattle.entries.proofs.clear_rows as clear
+use Rattle.entries.proofs.clear_rows.Symbol as clear-def
+use Rattle.entries.proofs.clear_rows.Symbol.{name as #clear}
+use Rattle.entries.proofs.clear_rows.Met as clear-thm
 use Rattle.extractor.proofs.extract_with.Key.{name as #f}
 use Rattle.extractor.proofs.extract_with as f
 use Rattle.extractor.proofs.extract_with.Statement as stated
@@ -501,6 +501,6 @@ extract-with-spec 𝓤 H 𝓜 𝓖 𝓡 =
     entered 𝓤 H (tripleOf 𝓤 H (𝓖 .A) f.signature (f.spec 𝓤 H (𝓖 .A) (𝓜 .mem) (𝓡 .run)))
     (tables 𝓤 H 𝓜 𝓡 code.env .C) (tables 𝓤 H 𝓜 𝓡 code.env .Λ) #f code.function (code.unfolded 𝓤 H 𝓜 𝓡)
     (f-meets 𝓤 H (𝓖 .A) (givenOf 𝓤 H 𝓜 𝓖) (𝓜 .mem) (𝓡 .run) (tablesOf 𝓤 H 𝓜 (tables 𝓤 H 𝓜 𝓡 code.env))
-    (cited 𝓤 H (LenC 𝓤 H (𝓖 .A) (𝓜 .mem) (𝓡 .run)) 𝓜 𝓡 code.env #len len-def.routine code.calls-extractor·row-len (len-thm.met 𝓤 H 𝓜 𝓖 𝓡))
+    (cited 𝓤 H (LenC 𝓤 H (𝓖 .A) (𝓜 .mem) (𝓡 .run)) 𝓜 𝓡 code.env #len len-def.routine code.calls-entries·row-len (len-thm.met 𝓤 H 𝓜 𝓖 𝓡))
     (cited 𝓤 H (BesideC 𝓤 H (𝓖 .A) (𝓜 .mem) (𝓡 .run)) 𝓜 𝓡 code.env #beside beside-def.routine code.calls-extractor·extract-beside (beside-thm.met 𝓤 H 𝓜 𝓖 𝓡))
-    (cited 𝓤 H (ClearC 𝓤 H (𝓖 .A) (𝓜 .mem) (𝓡 .run)) 𝓜 𝓡 code.env #clear clear-def.routine code.calls-extractor·clear-rows (clear-thm.met 𝓤 H 𝓜 𝓖 𝓡)))
+    (cited 𝓤 H (ClearC 𝓤 H (𝓖 .A) (𝓜 .mem) (𝓡 .run)) 𝓜 𝓡 code.env #clear clear-def.routine code.calls-entries·clear-rows (clear-thm.met 𝓤 H 𝓜 𝓖 𝓡)))

@@ -44,18 +44,18 @@ use Rattle.rules.specs.Calls.{extractCall}
 use Rattle.rules.specs.declared.Answer.{Answer}
 use Rattle.rules.proofs.Answer as B
 use Rattle.rules.proofs.Answer.Laws as B′
-use Rattle.extractor.specs.declared.CutEntry.{CutEntry}
+use Rattle.entries.specs.declared.CutEntry.{CutEntry}
 use Rattle.extractor.specs.declared.Extractor.{Extractor}
 use Rattle.extractor.specs.declared.Ended.{Ended}
-use Rattle.extractor.specs.Entries.{pairs}
+use Rattle.entries.specs.Entries.{pairs}
 use Rattle.extractor.specs.Ending.{Extracts}
 use Rattle.extractor.proofs.Extractor as X
 use Rattle.extractor.proofs.Extractor.Laws as X′
 use Rattle.extractor.proofs.Ended as K
 use Rattle.extractor.proofs.Ended.Laws as K′
-use Rattle.extractor.proofs.Row.{R}
-use Rattle.extractor.proofs.Rules.{free-at}
-use Rattle.extractor.proofs.Lent.{KeptRow, lend-row, row-back}
+use Rattle.entries.proofs.Row.{R}
+use Rattle.entries.proofs.Rules.{free-at}
+use Rattle.entries.proofs.Lent.{KeptRow, lend-row, row-back}
 use Rattle.extractor.proofs.extract_with as over
 use Rattle.extractor.proofs.extract_with.Symbol as over-def
 use Rattle.extractor.proofs.extract_with.Symbol.{name as #over}

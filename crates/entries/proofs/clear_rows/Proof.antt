@@ -1,4 +1,4 @@
--- `extractor::clear_rows` meets its contract: a walk of its MIR, by hand. The borrow is opened once, before the loop, and closed once, after it: between the two the row is the function's own. The variant is how many entries are left, t, and the index is n - t.
+-- `entries::clear_rows` meets its contract: a walk of its MIR, by hand. The borrow is opened once, before the loop, and closed once, after it: between the two the row is the function's own. The variant is how many entries are left, t, and the index is n - t.
 -- Assumes nothing.
 use mathlib.Core.Path.{_≡_, refl, sym, ap, subst}
 use Prim.Native.Nat.{ℕ, _<_, _≤_, _^_, _+_, _-_}
@@ -42,18 +42,18 @@ use denote.Triple.Spec.{Meets, tripleOf}
 use denote.Triple.Table.{entered}
 use denote.Triple.Walked.{says, needs, Stays, stay-none, stay-slice, walkOf, goes-none, goes-slice, Walks, ends-at, walked, walk-meets}
 use denote.Exit.{yes}
-use Rattle.extractor.specs.declared.CutEntry.{CutEntry}
-use Rattle.extractor.specs.Entries.{zeroed}
-use Rattle.extractor.proofs.CutEntry as T
-use Rattle.extractor.proofs.CutEntry.Laws as T′
-use Rattle.extractor.proofs.Row.{R, mach, none, times-fits}
-use Rattle.extractor.proofs.Rules.{while-test, free-at}
-use Rattle.extractor.proofs.Filling.{length-zeroed, zeroed-snoc}
-use Rattle.extractor.proofs.clear_rows.Key.{name as #f}
-use Rattle.extractor.proofs.clear_rows as f
-use Rattle.extractor.proofs.clear_rows.Statement as stated
-use Rattle.extractor.proofs.clear_rows.Code as code
-use Rattle.extractor.proofs.clear_rows.Code.Mir as body
+use Rattle.entries.specs.declared.CutEntry.{CutEntry}
+use Rattle.entries.specs.Entries.{zeroed}
+use Rattle.entries.proofs.CutEntry as T
+use Rattle.entries.proofs.CutEntry.Laws as T′
+use Rattle.entries.proofs.Row.{R, mach, none, times-fits}
+use Rattle.entries.proofs.Rules.{while-test, free-at}
+use Rattle.entries.proofs.Filling.{length-zeroed, zeroed-snoc}
+use Rattle.entries.proofs.clear_rows.Key.{name as #f}
+use Rattle.entries.proofs.clear_rows as f
+use Rattle.entries.proofs.clear_rows.Statement as stated
+use Rattle.entries.proofs.clear_rows.Code as code
+use Rattle.entries.proofs.clear_rows.Code.Mir as body
 
 abbrev stayed : Stays (f.ended .signature .params) (f.ended .kept)
 stayed = (stay-slice (0 ∷ []) tt (plain (λ _. R)), (stay-none (λ _. usize) yes, tt))

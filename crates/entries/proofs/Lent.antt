@@ -24,7 +24,7 @@ use denote.Ref.{RefT}
 use denote.Slice.{sliceVal, MutSlice, ShrSlice, heres, Room, finally, at-slice, codedHoleys}
 use denote.Lend.{Held, lends-shr-slice}
 use denote.Index.{opens-slice, closes-slice}
-use Rattle.extractor.proofs.Again.{LentAgain, lends-again, comes-back}
+use Rattle.entries.proofs.Again.{LentAgain, lends-again, comes-back}
 
 module _ (R : RattleType) (κ : Lft) (q : Share) (γ : GName) (b o m : ℕ) where
   abbrev at-list : GName → List (R .Denot) → RefT (List (R .Denot))

@@ -9,9 +9,9 @@ use mir.Syntax.{w32, w64}
 use mir.Val.{Val, vint, vstruct, vnil, vcons}
 use denote.RattleType.{RattleType}
 use denote.Slice.{Room}
-use Rattle.extractor.specs.declared.CutEntry.{CutEntry}
-use Rattle.extractor.proofs.CutEntry as T
-pub use Rattle.extractor.specs.Entries.{none}
+use Rattle.entries.specs.declared.CutEntry.{CutEntry}
+use Rattle.entries.proofs.CutEntry as T
+pub use Rattle.entries.specs.Entries.{none}
 
 abbrev pub R : RattleType
 R = T.the-row

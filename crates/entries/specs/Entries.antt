@@ -6,7 +6,7 @@
 use Prim.Native.Nat.{ℕ, zero, suc}
 use mathlib.Core.List.{List, [], _∷_}
 use Rattle.rules.specs.Calls.{Entry}
-use Rattle.extractor.specs.declared.CutEntry.{CutEntry}
+use Rattle.entries.specs.declared.CutEntry.{CutEntry}
 
 abbrev pub none : CutEntry
 none = record { place = 0; counter = 0 }

@@ -6,8 +6,8 @@ use native.Mathlib.Omega.{arith}
 use mathlib.Core.List.{List, [], _∷_}
 use lib.ListN.{length, set, replicate}
 use Rattle.rules.specs.Calls.{Entry, noEntry}
-use Rattle.extractor.specs.declared.CutEntry.{CutEntry}
-use Rattle.extractor.specs.Entries.{none, zeroed, pairs}
+use Rattle.entries.specs.declared.CutEntry.{CutEntry}
+use Rattle.entries.specs.Entries.{none, zeroed, pairs}
 
 pub length-zeroed : {B : Type 0} (z : B) (n : ℕ) (es : List B) → length (zeroed z n es) ≡ length es
 length-zeroed z zero es = refl

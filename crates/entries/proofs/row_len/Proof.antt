@@ -1,4 +1,4 @@
--- `extractor::row_len` meets its contract: a walk of its MIR, by hand. The count is read out of the slice's own machine value: nothing is looked into.
+-- `entries::row_len` meets its contract: a walk of its MIR, by hand. The count is read out of the slice's own machine value: nothing is looked into.
 -- Assumes nothing.
 use mathlib.Core.Path.{refl}
 use Prim.Native.Nat.{ℕ}
@@ -32,12 +32,12 @@ use denote.Triple.Spec.{Meets, tripleOf}
 use denote.Triple.Table.{entered}
 use denote.Triple.Walked.{says, Stays, stay-none-slice, walkOf, goes-none-slice, Walks, ends-at, walked, walk-meets}
 use denote.Exit.{yes}
-use Rattle.extractor.specs.declared.CutEntry.{CutEntry}
-use Rattle.extractor.proofs.CutEntry as T
-use Rattle.extractor.proofs.row_len.Key.{name as #f}
-use Rattle.extractor.proofs.row_len as f
-use Rattle.extractor.proofs.row_len.Statement as stated
-use Rattle.extractor.proofs.row_len.Code as code
+use Rattle.entries.specs.declared.CutEntry.{CutEntry}
+use Rattle.entries.proofs.CutEntry as T
+use Rattle.entries.proofs.row_len.Key.{name as #f}
+use Rattle.entries.proofs.row_len as f
+use Rattle.entries.proofs.row_len.Statement as stated
+use Rattle.entries.proofs.row_len.Code as code
 
 abbrev stayed : Stays (f.ended .signature .params) (f.ended .kept)
 stayed = (stay-none-slice (0 ∷ []) tt (plain (λ _. T.the-row)) yes, tt)
