@@ -11,7 +11,7 @@ use Rattle.rules.specs.Basic.{Bytes, _≤?_}
 use Rattle.rules.specs.Limits.{limits}
 use Rattle.rules.specs.Term.{Term, encode, nodes, size, fits}
 use Rattle.rules.specs.Step.{halfFits, stepFits}
-use Rattle.step.specs.Around.{Frame}
+use Rattle.search.specs.Around.{Frame}
 
 -- u, beside so many other nodes and bytes
 unfoldable pub fitsBeside : (others rest : ℕ) → Term → Bool

@@ -14,7 +14,7 @@ use Rattle.rules.specs.declared.Counts.{Counts}
 use Rattle.rules.specs.Reduction.{Reduced, stopped, outgrew, noCounts, reduce}
 use Rattle.runs.specs.Wrote.{Wrote}
 use Rattle.substitution.proofs.Writes.{zeros}
-use Rattle.step.specs.Taken.{Reads}
+use Rattle.spans.specs.Given.{Reads}
 use Rattle.gap.proofs.Buffers.{fits-few}
 use Rattle.reduction.specs.Answers.{Reducing}
 use Rattle.gap.specs.Standing.{Standing, Finds}
