@@ -14,9 +14,9 @@ use Rattle.rules.specs.declared.Rule.{Rule}
 use Rattle.rules.specs.declared.Rule.the-variants.{App, Let, Case, Fst, Snd, Derelict, Copy, Discard}
 use Rattle.rules.specs.Step.{by, contract}
 use Rattle.walk.proofs.Terms.{at-tag, at-inside}
-use Rattle.step.specs.Redex.{side}
-use Rattle.step.proofs.Firsts.{contracts}
-use Rattle.step.proofs.Forms.{Form, form, IsApp, IsLet, IsCase, IsFst, IsSnd, IsDerelict, IsCopy, IsDiscard}
+use Rattle.search.specs.Side.{side}
+use Rattle.search.proofs.Firsts.{contracts}
+use Rattle.search.proofs.Forms.{Form, form, IsApp, IsLet, IsCase, IsFst, IsSnd, IsDerelict, IsCopy, IsDiscard}
 use Rattle.contracting.specs.Contracts.{Contracting, Contracts}
 use Rattle.contracting.specs.declared.Contracted.{Contracted}
 

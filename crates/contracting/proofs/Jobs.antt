@@ -12,11 +12,11 @@ use Rattle.rules.specs.declared.Rule.{Rule}
 use Rattle.runs.specs.Wrote.{Wrote}
 use Rattle.walk.proofs.Names.{AfterIs}
 use Rattle.walk.proofs.Terms.{Some, SkipIs, some-alone, skip-one}
-use Rattle.step.specs.Measured.{MeasuredTwo, MeasuredThree, Named}
-use Rattle.step.specs.declared.spans.Two.{Two as Spans}
-use Rattle.step.specs.declared.spans.Three.{Three as Spans3}
-use Rattle.step.specs.declared.spans.Names.{Names}
-use Rattle.step.proofs.Rows.{size-one, of-one, in-app, in-both, in-let, in-branch}
+use Rattle.spans.specs.Measured.{MeasuredTwo, MeasuredThree, Named}
+use Rattle.spans.specs.declared.Two.{Two as Spans}
+use Rattle.spans.specs.declared.Three.{Three as Spans3}
+use Rattle.spans.specs.declared.Names.{Names}
+use Rattle.spans.proofs.Rows.{size-one, of-one, in-app, in-both, in-let, in-branch}
 use Rattle.putting.specs.Put.{Putting, Turns}
 use Rattle.contracting.specs.Contracts.{Redex, Contracts}
 use Rattle.contracting.specs.declared.Contracted.the-variants.{Made}

@@ -16,11 +16,11 @@ use Rattle.runs.specs.Wrote.{Wrote}
 use Rattle.walk.specs.Place.{TermAt}
 use Rattle.walk.proofs.Terms.{at-end}
 use Rattle.substitution.proofs.Writes.{slice-is}
-use Rattle.step.specs.Made.{Given}
-use Rattle.step.specs.Measured.{MeasuredTwo, MeasuredThree}
-use Rattle.step.specs.declared.spans.Two.{Two}
-use Rattle.step.specs.declared.spans.Three.{Three}
-use Rattle.step.proofs.Rows.{term-part, InTwo, InThree, a-at, b-at, first-at, second-at, third-at}
+use Rattle.spans.specs.Given.{Given}
+use Rattle.spans.specs.Measured.{MeasuredTwo, MeasuredThree}
+use Rattle.spans.specs.declared.Two.{Two}
+use Rattle.spans.specs.declared.Three.{Three}
+use Rattle.spans.proofs.Rows.{term-part, InTwo, InThree, a-at, b-at, first-at, second-at, third-at}
 use Rattle.putting.specs.Beside.{fitsBeside}
 use Rattle.contracting.specs.Beside.{fitsAround}
 use Rattle.putting.specs.Put.{Beside, Puts}

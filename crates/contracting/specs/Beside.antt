@@ -11,7 +11,7 @@ use Rattle.rules.specs.Basic.{Bytes}
 use Rattle.rules.specs.Limits.{limits}
 use Rattle.rules.specs.Term.{Term, encode, nodes, size, fits}
 use Rattle.rules.specs.Step.{halfFits, stepFits}
-use Rattle.step.specs.Around.{Frame}
+use Rattle.search.specs.Around.{Frame}
 use Rattle.putting.specs.Beside.{fitsBeside}
 
 -- u for t, in a whole of n nodes and l bytes

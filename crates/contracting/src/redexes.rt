@@ -8,7 +8,7 @@ ghost use Rattle.rules.specs.Name.{Name};
 ghost use Rattle.rules.specs.Term.{Term, one, two, abs, both, branch as aBranch, fst, snd, promote, derelict as aDerelict, pair, app, discard as aDiscard, letPair, copy as aCopy};
 ghost use Rattle.rules.specs.declared.Rule.the-variants.{App, Let, Case, Fst, Snd, Derelict, Copy, Discard};
 ghost use Rattle.rules.specs.Substitution.{subst};
-ghost use Rattle.step.specs.Redex.{side};
+ghost use Rattle.search.specs.Side.{side};
 ghost use Rattle.putting.specs.Put.{Room};
 ghost use Rattle.contracting.specs.Contracts.{Redex, Contracts, told as toldOf};
 use crate::Contracted;
@@ -16,10 +16,10 @@ use putting::Put;
 use putting::in_turn;
 use putting::put_in;
 use rules::Rule;
-use step::spans::span;
-use step::spans::span_names;
-use step::spans::span_three;
-use step::spans::span_two;
+use spans::span;
+use spans::span_names;
+use spans::span_three;
+use spans::span_two;
 
 fn told(rule: Rule, end: usize, put: Put) -> Contracted
     ensures { λ r. ⌜ r ≡ toldOf rule end put ⌝ }

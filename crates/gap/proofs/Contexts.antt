@@ -10,8 +10,8 @@ use Rattle.rules.specs.Basic.{Bytes}
 use Rattle.rules.specs.Term.{Term, var, leaf, one, two, abs, both, branch, encode, size, nodes}
 use Rattle.rules.specs.declared.Rule.{Rule}
 use Rattle.walk.specs.Node.{tag}
-use Rattle.step.specs.Searched.{reduces}
-use Rattle.step.specs.Around.{Frame}
+use Rattle.search.specs.Searched.{reduces}
+use Rattle.search.specs.Around.{Frame}
 use Rattle.gap.specs.Hole.{Hole, inOne, inLeft, inRight, inAbs, inSource, inBody, inScrutinee, fill, holeTag, passed, before, behind, Above, plug, lefts, rights}
 use Rattle.gap.specs.Quiet.{firstPart, Asleep, Quiet, Steps}
 use Rattle.gap.proofs.Holes.{fill-tag, fill-encode, holeNodes, fill-nodes, fill-steps}

@@ -12,8 +12,8 @@ use Rattle.rules.specs.declared.Rule.{Rule}
 use Rattle.rules.specs.Step.{Contraction, no, by, contract, nameBytes, step}
 use Rattle.walk.specs.Node.{tag, names, head, encodeAll}
 use Rattle.walk.proofs.Terms.{apart, encodeAll-append}
-use Rattle.step.specs.Searched.{reduces}
-use Rattle.step.proofs.Firsts.{contracts, wants-pair, wants-abs, wants-promote, wants-injection, wants-nothing}
+use Rattle.search.specs.Searched.{reduces}
+use Rattle.search.proofs.Firsts.{contracts, wants-pair, wants-abs, wants-promote, wants-injection, wants-nothing}
 use Rattle.gap.specs.Hole.{Hole, inOne, inLeft, inRight, inAbs, inSource, inBody, inScrutinee, fill, holeTag, holeNames, passed, ahead, before, behind}
 use Rattle.gap.specs.Quiet.{firstPart, Entered, Asleep, Steps}
 

@@ -10,7 +10,7 @@ use Rattle.rules.specs.Name.{Name, encodeNames}
 use Rattle.rules.specs.Term.{Term, inl, inr, fst, snd, abort, promote, derelict, Two, pair, app, discard, letPair, copy, encode}
 use Rattle.rules.specs.Step.{normal, step}
 use Rattle.walk.specs.Node.{encodeAll, partsAfter}
-use Rattle.step.specs.Searched.{entersAfter}
+use Rattle.search.specs.Searched.{entersAfter}
 use Rattle.gap.specs.Hole.{Hole, inOne, inLeft, inRight, inAbs, inSource, inBody, inScrutinee, fill, holeTag, holeNames, passed, ahead, before, behind}
 use Rattle.gap.specs.Quiet.{Entered, Asleep}
 use Rattle.gap.proofs.Holes.{asleep}

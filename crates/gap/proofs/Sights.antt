@@ -13,8 +13,8 @@ use Rattle.walk.specs.Node.{tag, names, head, encodeAll, namesAfter, partsAfter
 use Rattle.walk.specs.Place.{TermAt, TermsAt}
 use Rattle.walk.proofs.Names.{AfterIs}
 use Rattle.walk.proofs.Terms.{Some, SkipIs, apart-size, at-tag, at-small, at-count-parts, at-parts, starts, first}
-use Rattle.step.specs.Searched.{entersAfter, reduces}
-use Rattle.step.proofs.Firsts.{contracts}
+use Rattle.search.specs.Searched.{entersAfter, reduces}
+use Rattle.search.proofs.Firsts.{contracts}
 use Rattle.gap.specs.Hole.{Hole, inOne, inLeft, inRight, inAbs, inSource, inBody, inScrutinee, fill, holeTag, holeNames, passed, ahead, before}
 use Rattle.gap.specs.Quiet.{firstPart, Entered}
 use Rattle.gap.specs.Seen.{Contracts, Opens, Rests}

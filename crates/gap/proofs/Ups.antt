@@ -15,7 +15,7 @@ use Rattle.walk.specs.Node.{encodeAll, partsAfter}
 use Rattle.walk.specs.Place.{TermsAt}
 use Rattle.walk.proofs.Names.{drop-app, long}
 use Rattle.walk.proofs.Terms.{Some, SkipIs}
-use Rattle.step.specs.Searched.{entersAfter}
+use Rattle.search.specs.Searched.{entersAfter}
 use Rattle.gap.specs.Hole.{Hole, fill, holeTag, passed, ahead, before, behind, Above, plug, lefts, rights}
 use Rattle.gap.specs.Quiet.{Quiet}
 use Rattle.gap.specs.Standing.{mark, Standing, Done, Ended, Goes}

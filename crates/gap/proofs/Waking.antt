@@ -14,7 +14,7 @@ use Rattle.walk.specs.Node.{tag}
 use Rattle.walk.specs.Place.{TermAt}
 use Rattle.walk.proofs.Names.{long}
 use Rattle.walk.proofs.Terms.{at-tag, at-small, at-inside}
-use Rattle.step.specs.Searched.{reduces}
+use Rattle.search.specs.Searched.{reduces}
 use Rattle.gap.specs.Hole.{Hole, fill, passed, before, behind, Above, plug, lefts, rights}
 use Rattle.gap.specs.Quiet.{firstPart, Entered, Asleep, Quiet}
 use Rattle.gap.specs.Standing.{Sides, Standing, Nearly, Landed}

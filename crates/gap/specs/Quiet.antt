@@ -9,7 +9,7 @@ use Rattle.rules.specs.Term.{Term, One, inl, inr, fst, snd, abort, promote, der
 use Rattle.rules.specs.declared.Rule.{Rule}
 use Rattle.rules.specs.Step.{normal, found, step}
 use Rattle.walk.specs.Node.{tag}
-use Rattle.step.specs.Searched.{reduces}
+use Rattle.search.specs.Searched.{reduces}
 use Rattle.gap.specs.Hole.{Hole, inOne, inLeft, inRight, inAbs, inSource, inBody, inScrutinee, fill, holeTag, Above}
 
 -- the part that decides whether the node is a redex

@@ -6,7 +6,7 @@ use crate::place::Place;
 use crate::place::SECOND;
 use contracting::Contracted;
 use rules::Rule;
-use step::search::reduces;
+use search::reduces;
 
 // The rule, the nodes of the new whole, and where the search goes on; or the step would outgrow the limits.
 pub enum Fired {

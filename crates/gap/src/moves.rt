@@ -5,7 +5,7 @@ use crate::place::Place;
 use crate::place::SECOND;
 use crate::sight::Seen;
 use crate::sight::see;
-use step::search::enters_of;
+use search::enters_of;
 
 // Into the node at i: its head is carried over, and the search stands at its first part.
 fn enter(

@@ -2,8 +2,8 @@
 ghost use Rattle.rules.specs.Term.{Term};
 ghost use Rattle.walk.specs.Place.{TermAt};
 ghost use Rattle.gap.specs.Seen.{Sees};
-use step::search::enters_of;
-use step::search::reduces;
+use search::enters_of;
+use search::reduces;
 
 // The term has no step, and ends there; or is a redex; or is entered at its first part, which starts there.
 pub enum Seen {

@@ -9,7 +9,7 @@ use Rattle.rules.specs.Basic.{Bytes, if_then_else_}
 use Rattle.rules.specs.Limits.{limits, outputRoom}
 use Rattle.rules.specs.Term.{Term, encode, nodes, size}
 use Rattle.rules.specs.Step.{halfFits}
-use Rattle.step.specs.Made.{Given}
+use Rattle.spans.specs.Given.{Given}
 use Rattle.putting.specs.Beside.{fitsBeside}
 use Rattle.putting.specs.declared.Put.{Put}
 use Rattle.putting.specs.declared.Put.the-variants.{Written, Outgrown}

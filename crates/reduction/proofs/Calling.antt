@@ -17,7 +17,7 @@ use Rattle.laws.specs.Decoding.{term-sound}
 use Rattle.laws.specs.Fits.{accepted-fits}
 use Rattle.laws.specs.Numbers.{term-spares}
 use Rattle.reader.specs.Accepted.{Accepts, accepts, refuses}
-use Rattle.step.specs.Taken.{Reads}
+use Rattle.spans.specs.Given.{Reads}
 use Rattle.reduction.specs.Answers.{reducedBy, Reducing}
 use Rattle.reduction.specs.declared.Reduced.{Reduced}
 use Rattle.reduction.specs.declared.Reduced.the-variants.{Refused as IsRefused}

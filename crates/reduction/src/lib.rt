@@ -7,7 +7,7 @@ ghost use Rattle.rules.specs.Refusal.{refuse};
 ghost use Rattle.rules.specs.Term.{Term};
 ghost use Rattle.rules.specs.Reduction.{reduce};
 ghost use Rattle.rules.specs.Calls.{reduceCall};
-ghost use Rattle.step.specs.Taken.{Reads};
+ghost use Rattle.spans.specs.Given.{Reads};
 ghost use Rattle.reduction.specs.Answers.{reducedBy, Reducing};
 use repeating::Repeated;
 use repeating::repeat_steps;

@@ -11,7 +11,7 @@ use Rattle.rules.specs.Term.{Term, encode}
 use Rattle.rules.specs.declared.Counts.{Counts}
 use Rattle.rules.specs.Reduction.{noCounts, reduce}
 use Rattle.runs.specs.Wrote.{Wrote}
-use Rattle.step.specs.Taken.{Reads}
+use Rattle.spans.specs.Given.{Reads}
 use Rattle.gap.proofs.Buffers.{fits-few}
 use Rattle.gap.specs.Standing.{Standing, Finds}
 use Rattle.gap.specs.declared.place.Place.{Place}

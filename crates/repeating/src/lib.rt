@@ -5,7 +5,7 @@ ghost use lib.ListN.{length};
 ghost use Rattle.rules.specs.Limits.{limits, scratchRoom};
 ghost use Rattle.rules.specs.Term.{Term};
 ghost use Rattle.rules.specs.Reduction.{reduce};
-ghost use Rattle.step.specs.Taken.{Reads};
+ghost use Rattle.spans.specs.Given.{Reads};
 ghost use Rattle.repeating.specs.Repeating.{Counted, Begun, Repeats};
 use crate::counting::no_counts;
 use crate::counting::plus;

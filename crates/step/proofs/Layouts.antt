@@ -11,14 +11,14 @@ use Rattle.rules.specs.Term.{Term, one, two, abs, both, branch, One, Two, pair,
 use Rattle.walk.specs.Place.{TermAt, NamesAt}
 use Rattle.walk.proofs.Names.{AfterIs}
 use Rattle.step.specs.Made.{Keeping, Putting, Turns}
-use Rattle.step.specs.Measured.{Measured, MeasuredTwo, MeasuredThree, Named}
+use Rattle.spans.specs.Measured.{Measured, MeasuredTwo, MeasuredThree, Named}
 use Rattle.step.specs.Redex.{Redex}
-use Rattle.step.specs.declared.spans.Extent.{Extent}
-use Rattle.step.specs.declared.spans.Two.{Two as Spans}
-use Rattle.step.specs.declared.spans.Three.{Three as Spans3}
-use Rattle.step.specs.declared.spans.Names.{Names}
-use Rattle.step.proofs.Rows as rows
-use Rattle.step.proofs.Rows.{InTwo, InThree, size-one}
+use Rattle.spans.specs.declared.Extent.{Extent}
+use Rattle.spans.specs.declared.Two.{Two as Spans}
+use Rattle.spans.specs.declared.Three.{Three as Spans3}
+use Rattle.spans.specs.declared.Names.{Names}
+use Rattle.spans.proofs.Rows as rows
+use Rattle.spans.proofs.Rows.{InTwo, InThree, size-one}
 use Rattle.step.proofs.Standing.{redex-at, sizes, keeping, around-two, a-given, b-given, around-three, first-given, second-given, third-given}
 
 module _ {src : Bytes} {n place : ℕ} {out : Bytes} {f : Term → Term} where

@@ -6,12 +6,13 @@ use native.Mathlib.Omega.{arith}
 use Rattle.rules.specs.Basic.{Bytes}
 use Rattle.rules.specs.Term.{Term, encode, nodes, size}
 use Rattle.rules.specs.Step.{Stepped, normal, step}
-use Rattle.step.specs.Spot.{Spot, spot, stepAt, step-spot, Contracts, spot-contracts}
-use Rattle.step.specs.Around.{Around, Arounds, spot-around}
-use Rattle.step.specs.Searched.{soughtAt, sought}
-use Rattle.step.specs.Taken.{contracted, Contracting, Reads, Takes}
-use Rattle.step.specs.declared.search.Sought.{Sought}
-use Rattle.step.specs.declared.search.Sought.the-variants.{Redex, After}
+use Rattle.search.specs.Spot.{Spot, spot, stepAt, step-spot, Contracts, spot-contracts}
+use Rattle.search.specs.Around.{Around, Arounds, spot-around}
+use Rattle.search.specs.Searched.{soughtAt, sought}
+use Rattle.spans.specs.Given.{Reads}
+use Rattle.step.specs.Taken.{contracted, Contracting, Takes}
+use Rattle.search.specs.declared.Sought.{Sought}
+use Rattle.search.specs.declared.Sought.the-variants.{Redex, After}
 use Rattle.step.specs.declared.taking.Taken.the-variants.{Normal}
 
 -- the redex u stands at p in the whole f, and the step of t is its contraction

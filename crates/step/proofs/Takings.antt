@@ -17,7 +17,8 @@ use Rattle.rules.specs.declared.Rule.the-variants.{App, Let, Case, Fst, Snd, De
 use Rattle.rules.specs.Step.{contract, found, stepFits}
 use Rattle.walk.specs.Node.{tag}
 use Rattle.walk.proofs.Terms.{at-tag, at-inside}
-use Rattle.step.specs.Redex.{Redex, side}
+use Rattle.search.specs.Side.{side}
+use Rattle.step.specs.Redex.{Redex}
 use Rattle.step.specs.Made.{Makes}
 use Rattle.step.specs.Taken.{told, contracted, Contracting, Takes}
 use Rattle.step.specs.declared.into.Made.{Made}
@@ -25,8 +26,8 @@ use Rattle.step.specs.declared.into.Made.the-variants.{Whole, Outgrown a
 use Rattle.step.specs.declared.taking.Taken.{Taken}
 use Rattle.step.specs.declared.taking.Taken.the-variants.{Found, Outgrown}
 use Rattle.step.proofs.Standing.{redex-at}
-use Rattle.step.proofs.Firsts.{contracts}
-use Rattle.step.proofs.Forms.{Form, form, IsApp, IsLet, IsCase, IsFst, IsSnd, IsDerelict, IsCopy, IsDiscard}
+use Rattle.search.proofs.Firsts.{contracts}
+use Rattle.search.proofs.Forms.{Form, form, IsApp, IsLet, IsCase, IsFst, IsSnd, IsDerelict, IsCopy, IsDiscard}
 
 module _ {src : Bytes} {n place : ℕ} {out : Bytes} {f : Term → Term} {t : Term} (c : Contracting src n place out f t) where
   pub redex-inside : place < length src

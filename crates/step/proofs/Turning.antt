@@ -14,7 +14,8 @@ use Rattle.rules.specs.Name.{Name}
 use Rattle.rules.specs.Term.{Term, encode, nodes, size, fits}
 use Rattle.rules.specs.Substitution.{subst}
 use Rattle.substitution.proofs.Writes.{wrote-part}
-use Rattle.step.specs.Made.{Between, Given, Putting, Turns, Makes}
+use Rattle.spans.specs.Given.{Given}
+use Rattle.step.specs.Made.{Between, Putting, Turns, Makes}
 use Rattle.step.specs.declared.into.Made.{Made}
 use Rattle.step.specs.declared.into.Made.the-variants.{Whole, Outgrown}
 use Rattle.step.proofs.Puts.{within}

@@ -11,6 +11,7 @@ use Rattle.rules.specs.Basic.{Bytes, if_then_else_}
 use Rattle.rules.specs.Limits.{limits, outputRoom}
 use Rattle.rules.specs.Term.{Term, encode, nodes, size, fits}
 use Rattle.rules.specs.Step.{stepFits}
+use Rattle.spans.specs.Given.{Given}
 use Rattle.step.specs.declared.into.Made.{Made}
 use Rattle.step.specs.declared.into.Made.the-variants.{Whole, Outgrown}
 
@@ -21,12 +22,6 @@ pub record Between (src : Bytes) (place end others : ℕ) (f : Term → Term) : 
   pub inside : (place ≤ length src) × (end ≤ length src)
   pub short : place + (length src - end) ≤ limits .bytes
   pub few : others ≤ limits .nodes
-
--- s encodes t, which has n nodes and breaks no limit
-pub record Given (s : Bytes) (n : ℕ) (t : Term) : Type 0 where
-  pub bytes : s ≡ encode t
-  pub count : n ≡ nodes t
-  pub fits : fits limits t ≡ true
 
 pub record Keeping (src : Bytes) (place end others from to n : ℕ) (out : Bytes) (f : Term → Term) (u : Term) : Type 0 where
   pub between : Between src place end others f

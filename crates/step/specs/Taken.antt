@@ -10,7 +10,7 @@ use Rattle.rules.specs.Limits.{limits, outputRoom}
 use Rattle.rules.specs.Term.{Term, encode, nodes, size, fits}
 use Rattle.rules.specs.declared.Rule.{Rule}
 use Rattle.rules.specs.Step.{by, contract, Stepped, normal, found, stepFits}
-use Rattle.step.specs.Spot.{placed}
+use Rattle.search.specs.Spot.{placed}
 use Rattle.step.specs.Redex.{Redex}
 use Rattle.step.specs.declared.into.Made.{Made}
 use Rattle.step.specs.declared.into.Made.the-variants.{Whole, Outgrown as Outgrew}
@@ -33,13 +33,6 @@ pub record Contracting (src : Bytes) (n place : ℕ) (out : Bytes) (f : Term →
   pub half : Option Term
   pub result : Term
   pub contracts : contract t ≡ by rule half result
-
--- src encodes t, which has n nodes and breaks no limit
-pub record Reads (src : Bytes) (n : ℕ) (out : Bytes) (t : Term) : Type 0 where
-  pub whole : src ≡ encode t
-  pub count : n ≡ nodes t
-  pub fits : fits limits t ≡ true
-  pub room : outputRoom limits ≤ length out
 
 -- a step's answer, and the output: a new term that fits is written, and nothing else
 abbrev pub takenOf : Stepped → Taken

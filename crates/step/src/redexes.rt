@@ -7,16 +7,17 @@ ghost use Rattle.rules.specs.Basic.{if_then_else_};
 ghost use Rattle.rules.specs.Name.{Name};
 ghost use Rattle.rules.specs.Term.{Term, one, two, abs, both, branch as aBranch, fst, snd, promote, derelict as aDerelict, pair, app, discard as aDiscard, letPair, copy as aCopy};
 ghost use Rattle.rules.specs.Substitution.{subst};
-ghost use Rattle.step.specs.Redex.{Redex, side};
+ghost use Rattle.search.specs.Side.{side};
+ghost use Rattle.step.specs.Redex.{Redex};
 ghost use Rattle.step.specs.Made.{Makes};
 use crate::into::Made;
 use crate::into::in_turn;
 use crate::into::keep;
 use crate::into::put_in;
-use crate::spans::span;
-use crate::spans::span_names;
-use crate::spans::span_three;
-use crate::spans::span_two;
+use spans::span;
+use spans::span_names;
+use spans::span_three;
+use spans::span_two;
 
 // App of Abs: argument for x.
 pub fn apply(src: &[u8], nodes: usize, place: usize, out: &mut [u8]) -> Made

@@ -2,12 +2,13 @@
 ghost use mathlib.Core.Path.{_≡_};
 ghost use Rattle.rules.specs.Term.{Term};
 ghost use Rattle.rules.specs.Step.{step};
-ghost use Rattle.step.specs.Taken.{told as toldOf, Contracting, contracted, Reads, Takes};
+ghost use Rattle.spans.specs.Given.{Reads};
+ghost use Rattle.step.specs.Taken.{told as toldOf, Contracting, contracted, Takes};
 use crate::into::Made;
 use crate::redexes;
-use crate::search::Sought;
-use crate::search::find;
 use rules::Rule;
+use search::Sought;
+use search::find;
 
 // No redex; or the rule, its place, and the length and the nodes of the term that was written; or it would outgrow the limits.
 pub enum Taken {

@@ -24,7 +24,8 @@ use Rattle.reader.specs.Accepted.{Accepts, accepts, refuses}
 use Rattle.runs.specs.Wrote.{Wrote}
 use Rattle.runs.specs.Writing.{filled-up}
 use Rattle.substitution.proofs.Writes.{zeros}
-use Rattle.step.specs.Taken.{Reads, Takes}
+use Rattle.spans.specs.Given.{Reads}
+use Rattle.step.specs.Taken.{Takes}
 use Rattle.step.specs.declared.taking.Taken.{Taken}
 use Rattle.step.specs.declared.taking.Taken.the-variants.{Normal, Found, Outgrown}
 use Rattle.stepping.specs.Answers.{stepAnswered, normalAnswered, Stepping}

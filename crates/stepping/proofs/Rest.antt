@@ -6,9 +6,9 @@ use mathlib.Core.Option.{Option, none, some}
 use native.Mathlib.Omega.{arith}
 use Rattle.rules.specs.Term.{Term, size}
 use Rattle.rules.specs.Step.{normal, found, step, isNormal}
-use Rattle.step.specs.Spot.{Spot, spot, step-spot, Contracts, spot-contracts}
-use Rattle.step.specs.Searched.{soughtAt, sought}
-use Rattle.step.specs.declared.search.Sought.the-variants.{Redex, After}
+use Rattle.search.specs.Spot.{Spot, spot, step-spot, Contracts, spot-contracts}
+use Rattle.search.specs.Searched.{soughtAt, sought}
+use Rattle.search.specs.declared.Sought.the-variants.{Redex, After}
 
 pub rests : (t : Term) {m : ℕ} → After m ≡ sought 0 t → true ≡ isNormal (step t)
 rests t {m} e = go (spot t) refl e

@@ -5,15 +5,15 @@ ghost use Rattle.rules.specs.Refusal.{refuse};
 ghost use Rattle.rules.specs.Term.{Term, encode};
 ghost use Rattle.rules.specs.Step.{step as stepOf, isNormal};
 ghost use Rattle.rules.specs.Calls.{stepCall, isNormalCall};
-ghost use Rattle.step.specs.Taken.{Reads};
+ghost use Rattle.spans.specs.Given.{Reads};
 ghost use Rattle.stepping.specs.Answers.{stepAnswered, normalAnswered, Stepping};
 use rules::Answer;
 use rules::OUTPUT_ROOM;
 use rules::Refusal;
 use rules::Rule;
 use rules::SCRATCH_ROOM;
-use step::search::Sought;
-use step::search::find;
+use search::Sought;
+use search::find;
 use step::taking::Taken;
 use step::taking::take_step;
 

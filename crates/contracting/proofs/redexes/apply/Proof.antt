@@ -1,6 +1,6 @@
 -- `contracting::redexes::apply` meets its contract: the argument goes into the body, which stands in front of it. Assumes nothing.
 use native.Mathlib.Omega.{arith}
-use Rattle.step.proofs.Rows.{app-name, in-app, past-name, name-is}
+use Rattle.spans.proofs.Rows.{app-name, in-app, past-name, name-is}
 use Rattle.contracting.proofs.Standing.{inside, bounds-two, contracts-two}
 use Rattle.contracting.proofs.Jobs.{app-putting}
 use borrow.Author.Needs.{needs}

@@ -1,6 +1,7 @@
 -- `contracting::redexes::branch` meets its contract: the scrutinee's tag says which branch the injected part goes into. Assumes nothing.
 use native.Mathlib.Omega.{arith}
-use Rattle.step.proofs.Rows.{past-names, x-is, y-is, branch-names, in-branch, scrutinee-inside, scrutinee-tag, is-left, is-right}
+use Rattle.search.proofs.Forms.{is-left, is-right}
+use Rattle.spans.proofs.Rows.{past-names, x-is, y-is, branch-names, in-branch, scrutinee-inside, scrutinee-tag}
 use Rattle.contracting.proofs.Standing.{inside, bounds-three, contracts-three}
 use Rattle.contracting.proofs.Jobs.{left-putting, right-putting}
 use borrow.Author.Needs.{needs}

@@ -1,6 +1,6 @@
 -- `contracting::redexes::copy` meets its contract: the source goes into the body behind it, for either name. Assumes nothing.
 use native.Mathlib.Omega.{arith}
-use Rattle.step.proofs.Rows.{past-names, x-is, y-is, both-names, in-both}
+use Rattle.spans.proofs.Rows.{past-names, x-is, y-is, both-names, in-both}
 use Rattle.contracting.proofs.Standing.{inside, bounds-two, contracts-two}
 use Rattle.contracting.proofs.Jobs.{copy-turns}
 use borrow.Author.Needs.{needs}

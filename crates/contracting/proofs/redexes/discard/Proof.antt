@@ -1,6 +1,6 @@
 -- `contracting::redexes::discard` meets its contract: the second part stays. Assumes nothing.
 use native.Mathlib.Omega.{arith}
-use Rattle.step.proofs.Rows.{of-two}
+use Rattle.spans.proofs.Rows.{of-two}
 use Rattle.contracting.proofs.Standing.{inside, bounds-two, b-room, b-kept}
 use borrow.Author.Needs.{needs}
 use Rattle.contracting.proofs.redexes.discard.Statement.{statement}

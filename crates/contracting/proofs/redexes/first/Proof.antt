@@ -1,6 +1,6 @@
 -- `contracting::redexes::first` meets its contract: the parts of the Pair stand in a row, and one of them stays. Assumes nothing.
 use native.Mathlib.Omega.{arith}
-use Rattle.step.proofs.Rows.{of-pair}
+use Rattle.spans.proofs.Rows.{of-pair}
 use Rattle.contracting.proofs.Standing.{inside, bounds-two, a-room, a-kept}
 use borrow.Author.Needs.{needs}
 use Rattle.contracting.proofs.redexes.first.Statement.{statement}

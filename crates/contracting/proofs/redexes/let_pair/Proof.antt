@@ -1,7 +1,7 @@
 -- `contracting::redexes::let_pair` meets its contract: the parts of the Pair go into the body behind them, one after the other.
 -- Assumes nothing.
 use native.Mathlib.Omega.{arith}
-use Rattle.step.proofs.Rows.{past-names, x-is, y-is, both-names, in-let}
+use Rattle.spans.proofs.Rows.{past-names, x-is, y-is, both-names, in-let}
 use Rattle.contracting.proofs.Standing.{inside, bounds-three, contracts-three}
 use Rattle.contracting.proofs.Jobs.{let-turns}
 use borrow.Author.Needs.{needs}

@@ -1,7 +1,8 @@
 -- `step::redexes::branch` meets its contract: the scrutinee's tag says which branch the injected part goes into. Assumes nothing.
 use native.Mathlib.Omega.{arith}
 use Rattle.step.proofs.Standing.{sizes, bounds-three}
-use Rattle.step.proofs.Rows.{past-names, x-is, y-is, is-left, is-right}
+use Rattle.search.proofs.Forms.{is-left, is-right}
+use Rattle.spans.proofs.Rows.{past-names, x-is, y-is}
 use Rattle.step.proofs.Layouts.{branch-names, in-branch, scrutinee-inside, scrutinee-tag, left-putting, right-putting}
 use borrow.Author.Needs.{needs}
 use Rattle.step.proofs.redexes.branch.Statement.{statement}

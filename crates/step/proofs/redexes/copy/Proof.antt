@@ -1,7 +1,7 @@
 -- `step::redexes::copy` meets its contract: the source goes into the body behind it, for either name. Assumes nothing.
 use native.Mathlib.Omega.{arith}
 use Rattle.step.proofs.Standing.{sizes, bounds-two}
-use Rattle.step.proofs.Rows.{past-names, x-is, y-is}
+use Rattle.spans.proofs.Rows.{past-names, x-is, y-is}
 use Rattle.step.proofs.Layouts.{both-names, in-both, copy-turns}
 use borrow.Author.Needs.{needs}
 use Rattle.step.proofs.redexes.copy.Statement.{statement}

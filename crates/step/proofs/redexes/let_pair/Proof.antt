@@ -1,7 +1,7 @@
 -- `step::redexes::let_pair` meets its contract: the parts of the Pair go into the body behind them, one after the other. Assumes nothing.
 use native.Mathlib.Omega.{arith}
 use Rattle.step.proofs.Standing.{sizes, bounds-three}
-use Rattle.step.proofs.Rows.{past-names, x-is, y-is}
+use Rattle.spans.proofs.Rows.{past-names, x-is, y-is}
 use Rattle.step.proofs.Layouts.{both-names, in-let, let-turns}
 use borrow.Author.Needs.{needs}
 use Rattle.step.proofs.redexes.let_pair.Statement.{statement}

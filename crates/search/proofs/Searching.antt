@@ -1,0 +1,184 @@
+-- A turn of the search: the node is not entered, is the redex, or its parts are searched in its place. Assumes nothing.
+use Prim.Native.Nat.{ℕ, suc, _+_, _-_, _<_, _≤_}
+use mathlib.Core.Path.{_≡_, refl, sym, ap, _∙_}
+use mathlib.Core.Bool.{Bool, true, false}
+use mathlib.Core.Option.{Option, none, some}
+use mathlib.Core.List.{List, [], _∷_, _++_}
+use native.Mathlib.Omega.{arith}
+use lib.ListN.{length, getD, length-append}
+use Rattle.rules.specs.Basic.{if_then_else_}
+use Rattle.rules.specs.Term.{Term, encode, size, parts}
+use Rattle.walk.specs.Node.{tag, head, encodeAll, namesAfter, partsAfter}
+use Rattle.walk.specs.Place.{TermAt, TermsAt}
+use Rattle.walk.proofs.Names.{AfterIs}
+use Rattle.walk.proofs.Terms.{Some, SkipIs, apart-size, at-tag, at-inside, at-end, at-small, at-count-parts, at-parts, starts, alone, first, others}
+use Rattle.search.specs.Spot.{Spot, spot}
+use Rattle.search.specs.Searched.{entersAfter, reduces, soughtAt, sought}
+use Rattle.search.specs.declared.Sought.{Sought}
+use Rattle.search.specs.declared.Sought.the-variants.{Redex, After}
+use Rattle.search.proofs.Seeks.{onward, Opened, shut, intoOne, intoTwo, opened}
+
+-- what `find` ensures
+abbrev pub FindIs : List ℕ → ℕ → Sought → Type 0
+FindIs s i r = (t : Term) → TermAt s i t → r ≡ sought i t
+
+abbrev pub Stands : List ℕ → ℕ → Type 0
+Stands s i = (t : Term) × TermAt s i t
+
+-- the search is at i; whatever it gives there, it gives
+pub record Going (s : List ℕ) (at i : ℕ) : Type 0 where
+  pub some : Stands s i
+  pub past : at ≤ i
+  pub rest : (r : Sought) → FindIs s i r → FindIs s at r
+
+pub begin : (s : List ℕ) (at : ℕ) → Stands s at → Going s at at
+begin s at a = record { some = a; past = omega arith; rest = λ r f. f }
+
+-- what the search finds behind a term is its end
+after-end : (m h n : ℕ) (p : Option Spot) → After m ≡ soughtAt h n p → m ≡ h + n
+after-end m h n none e = cc
+after-end m h n (some q) e = absurd (let z : _≡_ {A = ℕ} 0 1 = cc in omega arith)
+
+onward-none : (x : Sought) → onward x (λ m. After (m + 0)) ≡ x
+onward-none (Redex p) = refl
+onward-none (After m) = ap After (omega arith)
+
+module _ (s : List ℕ) (at i q p h n : ℕ) (g : Going s at i) (eq : q ≡ namesAfter (getD s i 0)) (ep : p ≡ partsAfter (getD s i 0)) (eh : AfterIs s (i + 1) q h) (en : n ≡ entersAfter (getD s i 0)) where
+  start : (t : Term) → TermAt s i t → h ≡ i + length (head t)
+  start t w = starts s i q h eq eh t w
+
+  node : (t : Term) → TermAt s i t → Opened t n
+  node t w = rw (en ∙ ap (λ (k : ℕ). entersAfter k) (at-tag s i t w)) (opened t)
+
+  row : (t : Term) → TermAt s i t → TermsAt s h p (parts t)
+  row t w = at-parts s i t w h p (start t w) (ep ∙ at-count-parts s i t w)
+
+  pub some-row : Some s h p
+  some-row = let a = g .some in (parts (a .0), row (a .0) (a .1))
+
+  pub further : (i < h) × (h ≤ length s)
+  further =
+      let a = g .some in
+      (omega (arith, start (a .0) (a .1)), omega (arith, start (a .0) (a .1), apart-size (a .0), at-end s i (a .0) (a .1)))
+
+  -- not entered
+  pub not-entered : n ≡ 0 → (m : ℕ) → SkipIs s h p m → FindIs s at (After m)
+  not-entered z m f = g .rest (After m) here
+    where
+      go : (t : Term) → TermAt s i t → Opened t n → After m ≡ sought i t
+      go t w (shut y e) = rw e (ap After (omega (arith, f (parts t) (row t w), start t w, apart-size t)))
+      go t w (intoOne u ts y e l) = absurd (omega (arith, y))
+      go t w (intoTwo u v y e l) = absurd (omega (arith, y))
+
+      here : FindIs s i (After m)
+      here t w = go t w (node t w)
+
+  module _ (ne : n ≡ 0 → ⊥) where
+    row-of : (t u : Term) (ts : List Term) → parts t ≡ u ∷ ts → TermAt s i t → TermsAt s h p (u ∷ ts)
+    row-of t u ts e w = rw e at (row t w)
+
+    -- the first part
+    inner : (t : Term) → TermAt s i t → Opened t n → Stands s h
+    inner t w (shut y e) = absurd (ne y)
+    inner t w (intoOne u ts y e l) = (u, first s h p u ts (row-of t u ts e w))
+    inner t w (intoTwo u v y e l) = (u, first s h p u (v ∷ []) (row-of t u (v ∷ []) e w))
+
+    pub first-part : Stands s h
+    first-part = let a = g .some in inner (a .0) (a .1) (node (a .0) (a .1))
+
+    pub some-part : 0 < p
+    some-part = let a = g .some in go (a .0) (a .1) (node (a .0) (a .1))
+      where
+        go : (t : Term) → TermAt s i t → Opened t n → 0 < p
+        go t w (shut y e) = absurd (ne y)
+        go t w (intoOne u ts y e l) = omega (arith, row-of t u ts e w .many)
+        go t w (intoTwo u v y e l) = omega (arith, row-of t u (v ∷ []) e w .many)
+
+    pub tags : (getD s i 0 < 20) × (getD s h 0 < 20)
+    tags = let a = g .some in let b = first-part in (omega (arith, at-small s i (a .0) (a .1)), omega (arith, at-small s h (b .0) (b .1)))
+
+    module _ (b : Bool) (eb : b ≡ reduces (getD s i 0) (getD s h 0)) where
+      test : (t u : Term) (ts : List Term) → parts t ≡ u ∷ ts → TermAt s i t → reduces (tag t) (tag u) ≡ b
+      test t u ts e w = rw (← at-tag s i t w, ← at-tag s h u (first s h p u ts (row-of t u ts e w))) (sym eb)
+
+      -- the node is the redex
+      pub hit : b ≡ true → FindIs s at (Redex i)
+      hit y = g .rest (Redex i) (λ t w. go t w (node t w))
+        where
+          go : (t : Term) → TermAt s i t → Opened t n → Redex i ≡ sought i t
+          go t w (shut z e) = absurd (ne z)
+          go t w (intoOne u ts z e l) = rw (l i, test t u ts e w, y)
+          go t w (intoTwo u v z e l) = rw (l i, test t u (v ∷ []) e w, y)
+
+      module _ (y : b ≡ false) where
+        -- a single part takes the node's place
+        pub single : p ≡ 1 → Going s at h
+        single z = record { some = first-part; past = omega (arith, g .past, further); rest = λ r f. g .rest r (λ t w. go r f t w (node t w)) }
+          where
+            only : (t u : Term) (ts : List Term) → parts t ≡ u ∷ ts → TermAt s i t → ts ≡ []
+            only t u [] e w = refl
+            only t u (v ∷ ts) e w = absurd (omega (arith, row-of t u (v ∷ ts) e w .many))
+
+            go : (r : Sought) → FindIs s h r → (t : Term) → TermAt s i t → Opened t n → r ≡ sought i t
+            go r f t w (shut k e) = absurd (ne k)
+            go r f t w (intoOne u ts k e l) =
+                rw (l i, test t u ts e w, y, only t u ts e w, ← start t w) (f u (first s h p u ts (row-of t u ts e w)) ∙ sym (onward-none (sought h u)))
+            go r f t w (intoTwo u v k e l) = absurd (omega (arith, row-of t u (v ∷ []) e w .many))
+
+        module _ (np : p ≡ 1 → ⊥) (r : Sought) (f : FindIs s h r) where
+          -- the redex is in the first part
+          pub deep : (m : ℕ) → r ≡ Redex m → FindIs s at (Redex m)
+          deep m k = g .rest (Redex m) (λ t w. go t w (node t w))
+            where
+              go : (t : Term) → TermAt s i t → Opened t n → Redex m ≡ sought i t
+              go t w (shut z e) = absurd (ne z)
+              go t w (intoOne u ts z e l) = rw (l i, test t u ts e w, y, ← start t w, ← f u (first s h p u ts (row-of t u ts e w)), k)
+              go t w (intoTwo u v z e l) = rw (l i, test t u (v ∷ []) e w, y, ← start t w, ← f u (first s h p u (v ∷ []) (row-of t u (v ∷ []) e w)), k)
+
+          module _ (m : ℕ) (k : r ≡ After m) where
+            end-of : (u : Term) → TermAt s h u → m ≡ h + size u
+            end-of u w = after-end m h (size u) (spot u) (sym k ∙ f u w)
+
+            pub beyond : (h < m) × (m ≤ length s)
+            beyond = let b = first-part in (omega (arith, end-of (b .0) (b .1), apart-size (b .0)), omega (arith, end-of (b .0) (b .1), at-end s h (b .0) (b .1)))
+
+            rest-of : (t u : Term) (ts : List Term) → parts t ≡ u ∷ ts → TermAt s i t → TermsAt s m (p - 1) ts
+            rest-of t u ts e w = let v = row-of t u ts e w in others s h p u ts v m (end-of u (first s h p u ts v))
+
+            -- the others are passed over
+            pub some-rest : Some s m (p - 1)
+            some-rest = let a = g .some in go (a .0) (a .1) (node (a .0) (a .1))
+              where
+                go : (t : Term) → TermAt s i t → Opened t n → Some s m (p - 1)
+                go t w (shut z e) = absurd (ne z)
+                go t w (intoOne u ts z e l) = (ts, rest-of t u ts e w)
+                go t w (intoTwo u v z e l) = (v ∷ [], rest-of t u (v ∷ []) e w)
+
+            pub passed : n ≡ 1 → (j : ℕ) → SkipIs s m (p - 1) j → FindIs s at (After j)
+            passed z j d = g .rest (After j) (λ t w. go t w (node t w))
+              where
+                go : (t : Term) → TermAt s i t → Opened t n → After j ≡ sought i t
+                go t w (shut x e) = absurd (ne x)
+                go t w (intoOne u ts x e l) =
+                    rw (l i, test t u ts e w, y, ← start t w, ← f u (first s h p u ts (row-of t u ts e w)), k) (ap After (d ts (rest-of t u ts e w)))
+                go t w (intoTwo u v x e l) = absurd (omega (arith, x))
+
+            -- the second takes the node's place
+            pub second : (n ≡ 1 → ⊥) → Going s at m
+            second nz =
+                record {
+                  some = let a = g .some in some-second (a .0) (a .1) (node (a .0) (a .1));
+                  past = omega (arith, g .past, further, beyond);
+                  rest = λ x d. g .rest x (λ t w. go x d t w (node t w));
+                }
+              where
+                some-second : (t : Term) → TermAt s i t → Opened t n → Stands s m
+                some-second t w (shut z e) = absurd (ne z)
+                some-second t w (intoOne u ts z e l) = absurd (nz z)
+                some-second t w (intoTwo u v z e l) = (v, first s m (p - 1) v [] (rest-of t u (v ∷ []) e w))
+
+                go : (x : Sought) → FindIs s m x → (t : Term) → TermAt s i t → Opened t n → x ≡ sought i t
+                go x d t w (shut z e) = absurd (ne z)
+                go x d t w (intoOne u ts z e l) = absurd (nz z)
+                go x d t w (intoTwo u v z e l) =
+                    rw (l i, test t u (v ∷ []) e w, y, ← start t w, ← f u (first s h p u (v ∷ []) (row-of t u (v ∷ []) e w)), k) (d v (first s m (p - 1) v [] (rest-of t u (v ∷ []) e w)))

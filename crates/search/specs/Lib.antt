@@ -1,0 +1,4 @@
+pub mod Spot
+pub mod Around
+pub mod Searched
+pub mod Side
