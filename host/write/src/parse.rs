@@ -1,5 +1,5 @@
 //! Terms as people write them: as they are printed, but `\` may stand for the Abs sign, `<>` for Trivial, brackets may stand round any term, spaces
-//! may stand between words, and a Discard names what it discards: `discard E in B`.
+//! may stand between words, and a Discard names what it discards: `discard E in B`. A name that is one of the printed words stands in quotes: `"in"`.
 
 use lolli_core::Term;
 
@@ -75,13 +75,17 @@ impl<'a> Reader<'a> {
         }
     }
 
+    /// A name, bare or in quotes; only in quotes is a word of the language one.
     fn name(&mut self) -> Parsed<String> {
-        self.space();
+        let quoted = self.takes("\"");
         let word = self.word();
-        if word.is_empty() || word.starts_with(|c: char| c.is_ascii_digit()) || WORDS.contains(&word) {
+        if word.is_empty() || word.starts_with(|c: char| c.is_ascii_digit()) || (!quoted && WORDS.contains(&word)) {
             return self.fault("a name");
         }
         self.at += word.len();
+        if quoted {
+            self.expect("\"")?;
+        }
         Ok(word.to_string())
     }
 
@@ -147,7 +151,8 @@ impl<'a> Reader<'a> {
         if self.takes("(") {
             return self.bracketed();
         }
-        self.name().map(Term::Var).or_else(|_| self.fault("a term"))
+        let start = self.at;
+        self.name().map(Term::Var).map_err(|fault| if fault.at == start { Fault { expected: "a term", ..fault } } else { fault })
     }
 
     /// After `case`: `E of { inl X => L | inr Y => R }`.
@@ -203,6 +208,16 @@ mod tests {
     fn hands_write_it_shorter() {
         assert_eq!(term("((\\x. x) ())").unwrap().pretty(), "(λx. x ())");
         assert_eq!(term(" discard !x in<> ").unwrap().pretty(), "discard in ⟨⟩");
+    }
+
+    #[test]
+    fn names_in_quotes_may_be_any() {
+        for word in super::WORDS.into_iter().chain(["x", "_1"]) {
+            let text = format!("let (\"{word}\", y) = \"{word}\" in (y \"{word}\")");
+            assert_eq!(term(&text).unwrap().pretty(), text.replace('"', ""));
+        }
+        assert_eq!(term("(\"in\" in)").unwrap_err().shown_in("(\"in\" in)"), "(\"in\" in)\n      ^ expected a term");
+        assert_eq!(term("\"let").unwrap_err().shown_in("\"let"), "\"let\n    ^ expected \"");
     }
 
     #[test]
