@@ -37,8 +37,7 @@ struct Reader<'a> {
     at: usize,
 }
 
-const WORDS: [&str; 13] =
-    ["let", "in", "case", "of", "inl", "inr", "fst", "snd", "absurd", "derelict", "discard", "copy", "as"];
+const WORDS: [&str; 13] = ["let", "in", "case", "of", "inl", "inr", "fst", "snd", "absurd", "derelict", "discard", "copy", "as"];
 
 impl<'a> Reader<'a> {
     fn rest(&self) -> &'a str {
@@ -197,8 +196,17 @@ mod tests {
     #[test]
     fn printed_terms_are_read() {
         for text in [
-            "x", "()", "⟨⟩", "(λx. x ())", "λx. (x ())", "(a, (b c))", "let (x, y) = (y, ()) in (x y)", "!derelict z", "absurd inl inr fst snd u",
-            "copy s as (x, y) in (λz. z x)", "case inl a of { inl x => x | inr y => (y y) }",
+            "x",
+            "()",
+            "⟨⟩",
+            "(λx. x ())",
+            "λx. (x ())",
+            "(a, (b c))",
+            "let (x, y) = (y, ()) in (x y)",
+            "!derelict z",
+            "absurd inl inr fst snd u",
+            "copy s as (x, y) in (λz. z x)",
+            "case inl a of { inl x => x | inr y => (y y) }",
         ] {
             assert_eq!(term(text).unwrap().pretty(), text);
         }
@@ -222,7 +230,10 @@ mod tests {
 
     #[test]
     fn faults_are_shown_where_they_are() {
-        assert_eq!(term("let (x, 1) = a in b").unwrap_err().shown_in("let (x, 1) = a in b"), "let (x, 1) = a in b\n        ^ expected a name");
+        assert_eq!(
+            term("let (x, 1) = a in b").unwrap_err().shown_in("let (x, 1) = a in b"),
+            "let (x, 1) = a in b\n        ^ expected a name"
+        );
         assert_eq!(term("(a b").unwrap_err().shown_in("(a b"), "(a b\n    ^ expected )");
         assert_eq!(term("").unwrap_err().shown_in(""), "\n^ expected a term");
     }
