@@ -5,6 +5,7 @@ SHELL := /bin/bash
 CARGO := --release --offline --locked --quiet --manifest-path host/Cargo.toml
 VERDICT := host/target/verdict
 LIBRARY := host/target/library/libentry.a
+SANITIZED := host/target/sanitized/libentry.a
 PROGRAM := host/target/program
 TRIED := host/target/tried
 WARN := -Iinclude -Wall -Wextra -Wpedantic -Werror
@@ -23,9 +24,9 @@ test:
 # What is run and not proved: header and library fit, the model answers as document 01 says, the port and its program answer as the model does.
 hosted: library program
 	@gcc -std=c99 $(WARN) host/c/smoke.c $(LIBRARY) -o host/target/smoke && host/target/smoke
-	@gcc -x c++ $(WARN) -c host/c/smoke.c -o host/target/smoke.o
-	@gcc -std=c99 $(WARN) host/c/example.c $(LIBRARY) -o host/target/example && host/target/example
-	@cargo run $(CARGO) -p patch --example reduce
+	@gcc -x c++ $(WARN) host/c/smoke.c -x none $(LIBRARY) -o host/target/smoke && host/target/smoke
+	@gcc -std=c99 $(WARN) host/c/example.c $(LIBRARY) -o host/target/example && host/target/example | tee host/target/example.c.out
+	@cargo run $(CARGO) -p patch --example reduce | diff host/target/example.c.out -
 	@cargo test $(CARGO) -p patch-model -p lolli-extract -p cases -p patch -p write
 	@cargo run $(CARGO) -p differential
 	@cargo run $(CARGO) -p differential -- soak 1 1000000 60
@@ -52,12 +53,16 @@ try: library program
 bench: library
 	@cargo run $(CARGO) -p bench -- $(MODE)
 
-# Any call on any input, in two processes, CASES in each and SECONDS at most.
-CASES := 25000000
+# Any call on any input against the model, in a process for each processor: CASES in all, SECONDS at most. AddressSanitizer watches the engine.
+CASES := 50000000
 SECONDS := 3600
-soak: library
-	@cargo build $(CARGO) -p differential
-	@host/target/release/differential soak 2 $(CASES) $(SECONDS) & first=$$!; host/target/release/differential soak 3 $(CASES) $(SECONDS); wait $$first
+soak: $(SANITIZED)
+	@PATCH_LIBRARY=$(CURDIR)/$(dir $(SANITIZED)) cargo rustc $(CARGO) --target-dir host/target/sanitized/build -p differential --features sanitized \
+	    -- -C default-linker-libraries=yes -C link-arg=-fsanitize=address
+	@ASAN_OPTIONS=detect_leaks=0 host/target/sanitized/build/release/differential soak 2 $(CASES) $(SECONDS)
+
+$(SANITIZED): $(LIBRARY)
+	@host/library.sh sanitized
 
 # The stack that each call takes on its deepest inputs.
 stack: library

@@ -1,4 +1,4 @@
-/* The engine's entry points for C and C++; link target/staticlib/libentry.a (`rt staticlib entry`).
+/* The engine's entry points for C and C++; link host/target/library/libentry.a, which `make library` writes.
  *
  * Terms, formulas and proofs are the byte forms of the rules. Every call ends, whatever bytes it is handed.
  *

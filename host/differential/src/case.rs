@@ -1,16 +1,16 @@
 //! A case: a call, its inputs and what it is lent. Port and model are run on it alike, and what is seen afterwards is compared whole.
 
-use crate::guarded::{self, Side};
+use crate::guarded::{self, Buffer, Side, AROUND};
 use patch_generate::Rng;
 use patch_model::extract::Entry;
 use patch_model::reduce::{Reduced, Stepped};
 use patch_model::stored::Kind;
 use patch_model::{calls, extract, reduce, stored, straight, Answer, Limits, Refusal};
 use std::fmt::{Display, Formatter, Write};
-use std::sync::OnceLock;
 
 const L: Limits = Limits::BASE;
 
+/// The public calls, as include/patch.h declares them.
 #[derive(Clone, Copy, Debug, PartialEq, Eq)]
 pub enum Call {
     CheckFormula,
@@ -37,6 +37,38 @@ pub enum Call {
 }
 
 impl Call {
+    pub const ALL: [Call; 17] = [
+        Call::CheckFormula,
+        Call::CheckTerm,
+        Call::CheckProof,
+        Call::FormulaText,
+        Call::TermText,
+        Call::FreeVars,
+        Call::Substitute,
+        Call::Child,
+        Call::Step,
+        Call::NormalizeBounded,
+        Call::IsNormal,
+        Call::IsStraight,
+        Call::Extract,
+        Call::StoreTerm,
+        Call::StoreProof,
+        Call::LoadTerm,
+        Call::LoadProof,
+    ];
+
+    /// Its name in C: `patch_check_term` for CheckTerm.
+    pub fn symbol(self) -> String {
+        let mut name = "patch".to_string();
+        for c in format!("{self:?}").chars() {
+            if c.is_uppercase() {
+                name.push('_');
+            }
+            name.push(c.to_ascii_lowercase());
+        }
+        name
+    }
+
     /// The least lengths of what the call is lent: output, scratch.
     pub fn rooms(self) -> Vec<usize> {
         match self {
@@ -68,48 +100,6 @@ pub struct Seen {
     lent: Vec<Buffer>,
 }
 
-/// A lent buffer between bytes that are not lent.
-#[derive(PartialEq, Eq)]
-struct Buffer {
-    bytes: Vec<u8>,
-}
-
-const AROUND: usize = 32;
-
-impl Buffer {
-    /// Random bytes, the same for each run of a case.
-    fn new(length: usize) -> Buffer {
-        static NOISE: OnceLock<Vec<u8>> = OnceLock::new();
-        let noise = NOISE.get_or_init(|| {
-            let mut noise = vec![0; 1 << 16];
-            Rng::new(0x6e6f_6973_6500, 0).fill(&mut noise);
-            noise
-        });
-        Buffer { bytes: noise[..length + 2 * AROUND].to_vec() }
-    }
-
-    fn lent(&mut self) -> &mut [u8] {
-        let end = self.bytes.len() - AROUND;
-        &mut self.bytes[AROUND..end]
-    }
-
-    /// What is lent, with the bytes behind it or before it.
-    fn at(&self, side: Side) -> &[u8] {
-        match side {
-            Side::Start => &self.bytes[AROUND..],
-            Side::End => &self.bytes[..self.bytes.len() - AROUND],
-        }
-    }
-
-    fn at_mut(&mut self, side: Side) -> &mut [u8] {
-        let end = self.bytes.len() - AROUND;
-        match side {
-            Side::Start => &mut self.bytes[AROUND..],
-            Side::End => &mut self.bytes[..end],
-        }
-    }
-}
-
 impl Case {
     pub fn new(call: Call, inputs: Vec<Vec<u8>>) -> Case {
         Case { call, inputs, number: 0, lent: call.rooms() }
@@ -135,7 +125,7 @@ impl Case {
     pub fn model(&self) -> Seen {
         let mut buffers = self.buffers();
         let answer = {
-            let mut lent = buffers.iter_mut().map(Buffer::lent);
+            let mut lent = buffers.iter_mut().map(Buffer::lent_mut);
             let mut next = || lent.next().unwrap();
             self.ask_model(&mut next)
         };
@@ -175,32 +165,13 @@ impl Case {
         }
     }
 
-    /// What the port does. Inputs and lent buffers stand at pages that nobody may touch, at the one end or the other; the bytes around a buffer
-    /// are compared where there are some.
+    /// What the port does, at one side of what nobody may touch or at the other.
     pub fn port(&self) -> Seen {
         let mut buffers = self.buffers();
         let side = if self.inputs[0].len() % 2 == 0 { Side::Start } else { Side::End };
-        let lengths: Vec<usize> = self.inputs.iter().map(Vec::len).chain(buffers.iter().map(|b| b.bytes.len() - AROUND)).collect();
-        let answer = guarded::with(&lengths, side, |parts| {
-            let (inputs, lent) = parts.split_at_mut(self.inputs.len());
-            for (part, input) in inputs.iter_mut().zip(&self.inputs) {
-                part.copy_from_slice(input);
-            }
-            for (part, buffer) in lent.iter_mut().zip(&buffers) {
-                part.copy_from_slice(buffer.at(side));
-            }
-            let inputs: Vec<&[u8]> = inputs.iter().map(|part| &**part).collect();
-            let answer = {
-                let mut parts = lent.iter_mut().map(|part| match side {
-                    Side::Start => part.split_last_chunk_mut::<AROUND>().unwrap().0,
-                    Side::End => part.split_first_chunk_mut::<AROUND>().unwrap().1,
-                });
-                self.ask_port(&inputs, &mut || parts.next().unwrap())
-            };
-            for (part, buffer) in lent.iter().zip(&mut buffers) {
-                buffer.at_mut(side).copy_from_slice(part);
-            }
-            answer
+        let answer = guarded::call(&self.inputs, &mut buffers, side, |inputs, lent| {
+            let mut parts = lent.iter_mut().map(|part| &mut **part);
+            self.ask_port(inputs, &mut || parts.next().unwrap())
         });
         Seen { answer, lent: buffers }
     }
@@ -296,8 +267,7 @@ impl Seen {
 
     /// What the output holds.
     pub fn output(&self) -> &[u8] {
-        let bytes = &self.lent[0].bytes;
-        &bytes[AROUND..bytes.len() - AROUND]
+        self.lent[0].lent()
     }
 
     /// Model against port, in words.

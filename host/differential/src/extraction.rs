@@ -121,7 +121,9 @@ pub fn all() -> Verdict {
             }
             check(bytes)
         })?
-        + random("Extract of every proof to 3 rules over a small alphabet", every, |index| extract(small(&tops, index), (index % 12) as u32))?
+        + random("Extract of every proof to 3 rules over a small alphabet", every, |index| {
+            extract(small(&tops, index), (index % 12) as u32)
+        })?
         + random("Extract of random proofs", 200_000, |index| {
             let mut rng = Rng::new(0x6578_7472, index);
             let mut bytes = proof(&mut rng);

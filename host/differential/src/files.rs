@@ -41,7 +41,10 @@ pub fn all() -> Verdict {
             one(Call::LoadTerm, changed(blocks(1, &[3, 2, 2]), (index / 255) as usize, (index % 255) as u8))
         })?
         + random("Load of nine blocks with any byte changed", L.stored_room as u64 * 4, |index| {
-            one(Call::LoadTerm, changed(blocks(1, &of_length(L.bytes)), (index / 4) as usize, (index.wrapping_mul(0x9e37_79b9) >> 7) as u8 % 255))
+            one(
+                Call::LoadTerm,
+                changed(blocks(1, &of_length(L.bytes)), (index / 4) as usize, (index.wrapping_mul(0x9e37_79b9) >> 7) as u8 % 255),
+            )
         })?
         + random("Store of terms and proofs, some damaged", 40_000, |index| {
             let mut rng = Rng::new(0x7374_6f72, index);

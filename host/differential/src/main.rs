@@ -2,11 +2,13 @@
 //! Fixed seeds; ends with status 1 at the first difference, made as small as it gets.
 
 mod case;
+mod died;
 mod extraction;
 mod files;
 mod formulas;
 mod guarded;
 mod itself;
+mod pool;
 mod program;
 mod readers;
 mod reduction;
@@ -20,6 +22,9 @@ mod terms;
 
 use std::process::ExitCode;
 use std::time::Instant;
+
+#[global_allocator]
+static POOL: pool::Pool = pool::Pool;
 
 type Family = (&'static str, fn() -> run::Verdict);
 
@@ -41,7 +46,8 @@ fn main() -> ExitCode {
     let asked: Vec<String> = std::env::args().skip(1).collect();
     if let [word, numbers @ ..] = &asked[..] {
         match word.as_str() {
-            "soak" => return soaked(numbers),
+            "soak" => return soak::all(numbers),
+            "soak-part" => return soak::part(numbers),
             "stack" => return stack::all(!numbers.is_empty()),
             "stack-one" => return stack::one(numbers),
             _ => {}
@@ -63,24 +69,6 @@ fn main() -> ExitCode {
                 println!("{name}: DIFFERENT\n{difference}");
                 return ExitCode::FAILURE;
             }
-        }
-    }
-    ExitCode::SUCCESS
-}
-
-/// `soak SEED CASES SECONDS`
-fn soaked(numbers: &[String]) -> ExitCode {
-    let numbers: Vec<u64> = numbers.iter().filter_map(|n| n.parse().ok()).collect();
-    let [seed, cases, seconds] = numbers[..] else {
-        eprintln!("soak takes three numbers: a seed, how many cases, how many seconds");
-        return ExitCode::from(2);
-    };
-    let start = Instant::now();
-    match soak::run(seed, cases, seconds) {
-        Ok(cases) => println!("soak, seed {seed}: {cases} cases equal ({:.1} s)", start.elapsed().as_secs_f32()),
-        Err(difference) => {
-            println!("soak: DIFFERENT\n{difference}");
-            return ExitCode::FAILURE;
         }
     }
     ExitCode::SUCCESS

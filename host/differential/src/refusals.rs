@@ -2,6 +2,7 @@
 //! here by hand from document 01; port and model are both held to it.
 
 use crate::case::{Call, Case};
+use crate::itself::hold;
 use crate::run::Verdict;
 use patch_model::stored::{blocks, seal};
 use std::collections::BTreeSet;
@@ -261,7 +262,17 @@ const GIVEN: [(Call, &[u64]); 17] = [
     (Call::LoadProof, &[1, 3, 4, 5, 6, 7, 10, 11, 12, 13]),
 ];
 
+/// That every entry point of the header is a call that is tried here.
+fn every_entry_point() -> Result<(), String> {
+    let header = include_str!("../../../include/patch.h");
+    let declared: BTreeSet<String> =
+        header.lines().filter_map(|line| Some(line.strip_prefix("void ")?.split_once('(')?.0.into())).collect();
+    let tried: BTreeSet<String> = Call::ALL.into_iter().map(Call::symbol).collect();
+    hold(declared == tried, &format!("the header declares {declared:?}, and tried are {tried:?}"))
+}
+
 pub fn all() -> Verdict {
+    every_entry_point()?;
     let mut table = Table { met: BTreeSet::new(), cases: 0, wrong: Vec::new() };
     for call in [Call::CheckFormula, Call::FormulaText] {
         one_input(&mut table, call, &FORMULA);

@@ -13,7 +13,7 @@ pub type Verdict = Result<u64, String>;
 const THREADS: usize = 2;
 const CHUNK: u64 = 32;
 /// The Rust's walks call themselves, as deep as a term is.
-const STACK: usize = 256 << 20;
+pub const STACK: usize = 256 << 20;
 
 /// Holds `try_one` to every index below `count`: the first index at which it fails, with what it says.
 pub fn each(count: u64, try_one: impl Fn(u64) -> Result<(), String> + Sync) -> Result<(), (u64, String)> {

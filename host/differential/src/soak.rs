@@ -1,41 +1,20 @@
-//! Any call on any input, whole, at a limit or damaged, for so many cases or seconds, whichever ends first.
+//! Any call on any input, whole, at a limit or damaged, for so many cases or seconds, whichever ends first, in a process for each processor.
+//! A case is made from the seed and its index, so any number of processes tries the same cases.
 
 use crate::case::{Call, Case};
 use crate::extraction::proof;
 use crate::formulas::formula;
 use crate::readers::term;
 use crate::reduction::reducible;
-use crate::run::{each, Verdict};
-use crate::shrink;
+use crate::run::STACK;
+use crate::{died, shrink};
 use patch_generate::damage::damage;
 use patch_generate::{files, names, proofs, straight, Rng};
 use patch_model::Limits;
-use std::collections::BTreeMap;
-use std::sync::atomic::{AtomicBool, AtomicU64, Ordering};
-use std::sync::Mutex;
+use std::process::{Child, Command, ExitCode, Stdio};
 use std::time::{Duration, Instant};
 
 const L: Limits = Limits::BASE;
-
-const CALLS: [Call; 17] = [
-    Call::CheckFormula,
-    Call::CheckTerm,
-    Call::CheckProof,
-    Call::FormulaText,
-    Call::TermText,
-    Call::FreeVars,
-    Call::Substitute,
-    Call::Child,
-    Call::Step,
-    Call::NormalizeBounded,
-    Call::IsNormal,
-    Call::IsStraight,
-    Call::Extract,
-    Call::StoreTerm,
-    Call::StoreProof,
-    Call::LoadTerm,
-    Call::LoadProof,
-];
 
 /// A small term, so that millions of them are soon done; now and then one of any size.
 fn some_term(rng: &mut Rng) -> Vec<u8> {
@@ -65,7 +44,7 @@ fn inputs(rng: &mut Rng, call: Call) -> Vec<Vec<u8>> {
 
 fn any(seed: u64, index: u64) -> Case {
     let mut rng = Rng::new(seed, index);
-    let call = *rng.pick(&CALLS);
+    let call = *rng.pick(&Call::ALL);
     let mut inputs = inputs(&mut rng, call);
     if rng.one_in(3) {
         let at = rng.below(inputs.len());
@@ -80,43 +59,105 @@ fn any(seed: u64, index: u64) -> Case {
     Case { number, ..Case::new(call, inputs) }.lent_by(&mut rng)
 }
 
-pub fn run(seed: u64, cases: u64, seconds: u64) -> Verdict {
-    let end = Instant::now() + Duration::from_secs(seconds);
-    let (late, done) = (AtomicBool::new(false), AtomicU64::new(0));
-    let answers = Mutex::new(BTreeMap::<(String, u64), u64>::new());
-    let outcome = each(cases, |index| {
-        if late.load(Ordering::Relaxed) {
-            return Ok(());
+/// How often each call gave each answer: 0 where it succeeded, else the refusal's number.
+#[derive(Clone, Copy)]
+struct Counts([[u64; 15]; Call::ALL.len()]);
+
+impl Counts {
+    const NONE: Counts = Counts([[0; 15]; Call::ALL.len()]);
+
+    fn total(&self) -> u64 {
+        self.0.iter().flatten().sum()
+    }
+
+    fn print(&self) {
+        for (call, answers) in Call::ALL.iter().zip(&self.0) {
+            let refused: Vec<String> = (1..15).filter(|n| answers[*n] > 0).map(|n| format!(", {} refused {n}", answers[n])).collect();
+            println!("  {call:?}: {} good{}", answers[0], refused.concat());
         }
-        if index % 1024 == 0 && Instant::now() > end {
-            late.store(true, Ordering::Relaxed);
+    }
+
+    /// One number to a line, as a process tells them.
+    fn told(&self) -> String {
+        self.0.iter().flatten().map(|n| format!("{n}\n")).collect()
+    }
+
+    fn add(&mut self, told: &str) -> Option<()> {
+        let mut numbers = told.lines().map(|line| line.parse::<u64>().ok());
+        for count in self.0.iter_mut().flatten() {
+            *count += numbers.next()??;
         }
+        Some(())
+    }
+}
+
+fn numbers<const N: usize>(words: &[String]) -> Option<[u64; N]> {
+    let numbers: Vec<u64> = words.iter().filter_map(|word| word.parse().ok()).collect();
+    numbers.try_into().ok()
+}
+
+/// `soak SEED CASES SECONDS`
+pub fn all(words: &[String]) -> ExitCode {
+    let Some([seed, cases, seconds]) = numbers(words) else {
+        eprintln!("soak takes three numbers: a seed, how many cases, how many seconds");
+        return ExitCode::from(2);
+    };
+    let start = Instant::now();
+    let processes = std::thread::available_parallelism().map_or(1, |n| n.get() as u64);
+    let begin = |first: u64| {
+        let words = [seed, first, processes, cases, seconds].map(|n| n.to_string());
+        Command::new(std::env::current_exe().unwrap()).arg("soak-part").args(words).stdout(Stdio::piped()).spawn().unwrap()
+    };
+    let parts: Vec<Child> = (0..processes).map(begin).collect();
+    let mut counts = Counts::NONE;
+    let mut equal = true;
+    for part in parts {
+        let ended = part.wait_with_output().unwrap();
+        let said = String::from_utf8_lossy(&ended.stdout);
+        if !ended.status.success() || counts.add(&said).is_none() {
+            println!("soak: {}\n{said}", ended.status);
+            equal = false;
+        }
+    }
+    counts.print();
+    let (total, took) = (counts.total(), start.elapsed().as_secs_f32());
+    let watched = if cfg!(feature = "sanitized") { ", AddressSanitizer on" } else { "" };
+    println!("soak, seed {seed}: {total} of {cases} cases equal ({took:.1} s, {processes} processes{watched})");
+    ExitCode::from(!equal as u8)
+}
+
+/// `soak-part SEED FIRST STEP CASES SECONDS`: every so many-th case, from the first, below `CASES`.
+pub fn part(words: &[String]) -> ExitCode {
+    let Some([seed, first, step, cases, seconds]) = numbers(words) else {
+        return ExitCode::from(2);
+    };
+    died::tell();
+    let work = move || run(seed, (first..cases).step_by(step as usize), Instant::now() + Duration::from_secs(seconds));
+    match std::thread::Builder::new().stack_size(STACK).spawn(work).unwrap().join().unwrap() {
+        Ok(counts) => {
+            print!("{}", counts.told());
+            ExitCode::SUCCESS
+        }
+        Err(difference) => {
+            println!("{difference}");
+            ExitCode::FAILURE
+        }
+    }
+}
+
+fn run(seed: u64, indices: impl Iterator<Item = u64>, end: Instant) -> Result<Counts, String> {
+    let mut counts = Counts::NONE;
+    for (tried, index) in indices.enumerate() {
+        if tried % 256 == 0 && Instant::now() > end {
+            break;
+        }
+        died::at(seed, index);
         let case = any(seed, index);
         let seen = case.model();
         if !case.agrees(&seen) {
-            return Err(String::new());
+            return Err(format!("DIFFERENT: seed {seed}, case {index}\n{}", shrink::smallest(case)));
         }
-        done.fetch_add(1, Ordering::Relaxed);
-        *answers.lock().unwrap().entry((format!("{:?}", case.call), seen.number())).or_default() += 1;
-        Ok(())
-    });
-    if let Err((index, _)) = outcome {
-        return Err(format!("soak, seed {seed}, case {index}\n{}", shrink::smallest(any(seed, index))));
+        counts.0[case.call as usize][seen.number() as usize] += 1;
     }
-    let mut line = String::new();
-    for ((call, number), count) in answers.into_inner().unwrap() {
-        if !line.starts_with(&format!("  {call}:")) {
-            print_line(&line);
-            line = format!("  {call}:");
-        }
-        line += &if number == 0 { format!(" {count} good") } else { format!(", {count} refused {number}") };
-    }
-    print_line(&line);
-    Ok(done.load(Ordering::Relaxed))
-}
-
-fn print_line(line: &str) {
-    if !line.is_empty() {
-        println!("{line}");
-    }
+    Ok(counts)
 }

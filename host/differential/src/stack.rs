@@ -4,24 +4,6 @@
 use crate::case::{Call, Case};
 use std::process::{Command, ExitCode, Stdio};
 
-const CALLS: [Call; 15] = [
-    Call::CheckFormula,
-    Call::CheckTerm,
-    Call::CheckProof,
-    Call::FormulaText,
-    Call::TermText,
-    Call::FreeVars,
-    Call::Substitute,
-    Call::Step,
-    Call::NormalizeBounded,
-    Call::IsNormal,
-    Call::IsStraight,
-    Call::Extract,
-    Call::StoreTerm,
-    Call::StoreProof,
-    Call::LoadTerm,
-];
-
 /// Enough for every call on every input; `make test` shows it.
 pub const ENOUGH: usize = 256 << 10;
 
@@ -60,7 +42,7 @@ fn deep(call: Call, part: usize) -> Vec<Vec<u8>> {
         Call::CheckFormula | Call::FormulaText => {
             vec![nested(&[11], &[5], &[], of(1023)), nested(&[3], &[5], &[5], of(511)), nested(&[3, 5], &[5], &[], of(511))]
         }
-        Call::CheckProof | Call::Extract | Call::StoreProof => {
+        Call::CheckProof | Call::Extract | Call::StoreProof | Call::LoadProof => {
             vec![nested(&[4, 0, 1], &[3, 0, 0], &[], of(511)), nested(&[2, 5, 0, 2], &[3, 0, 0], &[3, 0, 0], of(255))]
         }
         _ => vec![
@@ -78,6 +60,7 @@ fn cases(call: Call, part: usize) -> Vec<Case> {
     let more = |input: Vec<u8>| match call {
         Call::Substitute => vec![input, b"z".to_vec(), vec![2]],
         Call::LoadTerm => vec![patch_model::stored::blocks(1, &input)],
+        Call::LoadProof => vec![patch_model::stored::blocks(2, &input)],
         _ => vec![input],
     };
     deep(call, part).into_iter().map(|input| Case { number: 3, ..Case::new(call, more(input)) }).collect()
@@ -89,7 +72,7 @@ pub fn one(numbers: &[String]) -> ExitCode {
     let [call, part, bytes] = numbers[..] else {
         return ExitCode::from(2);
     };
-    for case in cases(CALLS[call], part) {
+    for case in cases(Call::ALL[call], part) {
         let inputs = case.inputs.clone();
         let mut lent: Vec<Vec<u8>> = case.lent.iter().map(|n| vec![0; *n]).collect();
         let work = move || {
@@ -128,7 +111,7 @@ fn least(call: usize, part: usize) -> usize {
 
 /// Whether all calls live with `ENOUGH`; with `measure`, what each takes at full depth, and what is there without depth.
 pub fn all(measure: bool) -> ExitCode {
-    for (number, call) in CALLS.iter().enumerate() {
+    for (number, call) in Call::ALL.iter().enumerate() {
         if !enough(number, 256, ENOUGH) {
             println!("{call:?} takes more than {} KB of stack", ENOUGH >> 10);
             return ExitCode::FAILURE;

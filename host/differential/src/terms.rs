@@ -46,10 +46,14 @@ fn substitution(small: &[Vec<u8>]) -> Verdict {
     let call = Call::Substitute;
     let mut listed_cases = Vec::new();
     let values: Vec<Vec<u8>> = (1..=2).flat_map(|nodes| terms::all(nodes, &NAMES)).map(|t| term_bytes(&t)).collect();
-    let every = random("Substitute in every term to 4 nodes over three names, every value to 2 nodes", small.len() as u64 * values.len() as u64, |index| {
-        let (t, v) = (index as usize / values.len(), index as usize % values.len());
-        Case::new(call, vec![small[t].clone(), b"x".to_vec(), values[v].clone()])
-    })?;
+    let every = random(
+        "Substitute in every term to 4 nodes over three names, every value to 2 nodes",
+        small.len() as u64 * values.len() as u64,
+        |index| {
+            let (t, v) = (index as usize / values.len(), index as usize % values.len());
+            Case::new(call, vec![small[t].clone(), b"x".to_vec(), values[v].clone()])
+        },
+    )?;
     let [whole, cut, long] = probes();
     // the first fault in the order of the arguments, wherever others stand
     for t in [&whole, &cut, &long] {

@@ -1,5 +1,5 @@
 //! Terms as people write them: as they are printed, but `\` may stand for the Abs sign, `<>` for Trivial, brackets may stand round any term, spaces
-//! may stand between words, and a Discard names what it discards: `discard E in B`.
+//! may stand between words, and a Discard names what it discards: `discard E in B`. A name that is one of the printed words stands in quotes: `"in"`.
 
 use lolli_core::Term;
 
@@ -37,8 +37,7 @@ struct Reader<'a> {
     at: usize,
 }
 
-const WORDS: [&str; 13] =
-    ["let", "in", "case", "of", "inl", "inr", "fst", "snd", "absurd", "derelict", "discard", "copy", "as"];
+const WORDS: [&str; 13] = ["let", "in", "case", "of", "inl", "inr", "fst", "snd", "absurd", "derelict", "discard", "copy", "as"];
 
 impl<'a> Reader<'a> {
     fn rest(&self) -> &'a str {
@@ -75,13 +74,17 @@ impl<'a> Reader<'a> {
         }
     }
 
+    /// A name, bare or in quotes; only in quotes is a word of the language one.
     fn name(&mut self) -> Parsed<String> {
-        self.space();
+        let quoted = self.takes("\"");
         let word = self.word();
-        if word.is_empty() || word.starts_with(|c: char| c.is_ascii_digit()) || WORDS.contains(&word) {
+        if word.is_empty() || word.starts_with(|c: char| c.is_ascii_digit()) || (!quoted && WORDS.contains(&word)) {
             return self.fault("a name");
         }
         self.at += word.len();
+        if quoted {
+            self.expect("\"")?;
+        }
         Ok(word.to_string())
     }
 
@@ -147,7 +150,8 @@ impl<'a> Reader<'a> {
         if self.takes("(") {
             return self.bracketed();
         }
-        self.name().map(Term::Var).or_else(|_| self.fault("a term"))
+        let start = self.at;
+        self.name().map(Term::Var).map_err(|fault| if fault.at == start { Fault { expected: "a term", ..fault } } else { fault })
     }
 
     /// After `case`: `E of { inl X => L | inr Y => R }`.
@@ -192,8 +196,17 @@ mod tests {
     #[test]
     fn printed_terms_are_read() {
         for text in [
-            "x", "()", "⟨⟩", "(λx. x ())", "λx. (x ())", "(a, (b c))", "let (x, y) = (y, ()) in (x y)", "!derelict z", "absurd inl inr fst snd u",
-            "copy s as (x, y) in (λz. z x)", "case inl a of { inl x => x | inr y => (y y) }",
+            "x",
+            "()",
+            "⟨⟩",
+            "(λx. x ())",
+            "λx. (x ())",
+            "(a, (b c))",
+            "let (x, y) = (y, ()) in (x y)",
+            "!derelict z",
+            "absurd inl inr fst snd u",
+            "copy s as (x, y) in (λz. z x)",
+            "case inl a of { inl x => x | inr y => (y y) }",
         ] {
             assert_eq!(term(text).unwrap().pretty(), text);
         }
@@ -206,8 +219,21 @@ mod tests {
     }
 
     #[test]
+    fn names_in_quotes_may_be_any() {
+        for word in super::WORDS.into_iter().chain(["x", "_1"]) {
+            let text = format!("let (\"{word}\", y) = \"{word}\" in (y \"{word}\")");
+            assert_eq!(term(&text).unwrap().pretty(), text.replace('"', ""));
+        }
+        assert_eq!(term("(\"in\" in)").unwrap_err().shown_in("(\"in\" in)"), "(\"in\" in)\n      ^ expected a term");
+        assert_eq!(term("\"let").unwrap_err().shown_in("\"let"), "\"let\n    ^ expected \"");
+    }
+
+    #[test]
     fn faults_are_shown_where_they_are() {
-        assert_eq!(term("let (x, 1) = a in b").unwrap_err().shown_in("let (x, 1) = a in b"), "let (x, 1) = a in b\n        ^ expected a name");
+        assert_eq!(
+            term("let (x, 1) = a in b").unwrap_err().shown_in("let (x, 1) = a in b"),
+            "let (x, 1) = a in b\n        ^ expected a name"
+        );
         assert_eq!(term("(a b").unwrap_err().shown_in("(a b"), "(a b\n    ^ expected )");
         assert_eq!(term("").unwrap_err().shown_in(""), "\n^ expected a term");
     }
