@@ -1,7 +1,7 @@
 -- A draft of a term: rows of five numbers, in which a part is told by its number. Part 0 is Unit, part 1 is Trivial, and part 2 + i is what
 -- row i says. A part can stand in several places and is written down once. Names are told by a stem and a number.
 -- Assumes nothing: these are definitions.
-use Prim.Native.Nat.{ℕ, zero, suc, _+_, _*_, _<_, _≤_}
+use Prim.Native.Nat.{ℕ, zero, suc, _+_, _*_, _/_, _%_, _<_, _≤_}
 use mathlib.Core.Path.{_≡_}
 use mathlib.Core.List.{List, [], _∷_}
 use lib.ListN.{length, getD, take, drop}
@@ -22,6 +22,10 @@ numbered (suc n) = decimal n
 
 abbrev pub nameOf : Bytes → (stem number : ℕ) → Name
 nameOf s p n = stemAt s p ‥ numbered n
+
+-- the last two digits of a number
+abbrev pub lastTwo : ℕ → Bytes
+lastTwo n = (48 + n / 10 % 10) ∷ (48 + n % 10) ∷ []
 
 -- `x` and a counter
 abbrev pub xName : ℕ → Name

@@ -7,19 +7,55 @@ ghost use lib.Seq.{slice};
 ghost use Rattle.rules.specs.Basic.{decimal};
 ghost use Rattle.rules.specs.Name.{encodeName, lowerByte, lower};
 ghost use Rattle.runs.specs.Wrote.{Wrote};
-ghost use Rattle.draft.specs.Draft.{stemAt, numbered, nameOf, xName};
+ghost use Rattle.draft.specs.Draft.{stemAt, numbered, nameOf, xName, lastTwo};
 
-// How many digits a number has.
+// How many digits a number has: most have three at most.
 fn digit_count(n: usize) -> usize
     ensures { λ r. ⌜ r ≡ length (decimal n) ⌝ }
 {
     let mut rest = n;
-    let mut count = 1;
-    while 10 <= rest {
-        rest = rest / 10;
-        count += 1;
+    let mut count = 0;
+    while 1000 <= rest {
+        rest = rest / 1000;
+        count += 3;
     }
-    count
+    if rest < 10 {
+        return count + 1;
+    }
+    if rest < 100 {
+        return count + 2;
+    }
+    count + 3
+}
+
+// The last two digits of a number.
+fn put_two_digits(n: usize, out: &mut [u8], at: usize) -> usize
+    requires { ⌜ at + 2 ≤ length (now out) ⌝ }
+    ensures { λ r. ⌜ Wrote (now (out .entry)) at (lastTwo n) (now (out .exit)) r ⌝ }
+{
+    out[at] = 48 + (n / 10 % 10) as u8;
+    out[at + 1] = 48 + (n % 10) as u8;
+    at + 2
+}
+
+// The digits of a number: three at most without a call.
+fn put_digits(n: usize, out: &mut [u8], at: usize) -> usize
+    requires { ⌜ at + length (decimal n) ≤ length (now out) ⌝ }
+    ensures { λ r. ⌜ Wrote (now (out .entry)) at (decimal n) (now (out .exit)) r ⌝ }
+{
+    if n < 10 {
+        out[at] = 48 + n as u8;
+        return at + 1;
+    }
+    if n < 100 {
+        return put_two_digits(n, out, at);
+    }
+    if n < 1000 {
+        out[at] = 48 + (n / 100) as u8;
+        return put_two_digits(n, out, at + 1);
+    }
+    let past = put_decimal((n / 100) as u64, out, at);
+    put_two_digits(n, out, past)
 }
 
 fn number_len(number: usize) -> usize
@@ -111,7 +147,7 @@ fn put_number(number: usize, out: &mut [u8], at: usize) -> usize
     if number == 0 {
         return at;
     }
-    put_decimal((number - 1) as u64, out, at)
+    put_digits(number - 1, out, at)
 }
 
 // Writes a name: its length, the stem in lower case, the digits.
@@ -134,5 +170,5 @@ pub fn put_x(number: usize, out: &mut [u8], at: usize) -> usize
     out[at] = n as u8;
     let stem = at + 1;
     out[stem] = 120;
-    put_decimal(number as u64, out, stem + 1)
+    put_digits(number, out, stem + 1)
 }

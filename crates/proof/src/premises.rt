@@ -30,12 +30,25 @@ fn read_premises(s: &[u8], t: &[u8; 256], most: Most, from: Reached, n: usize) -
     requires { ⌜ (most .formulas ≤ 65536) × (from .next ≤ length (now s)) ⌝ }
     ensures { λ r. ⌜ ((depth : ℕ) → most .rules ≤ from .rules + depth → r ≡ seen (found (many (proofAt (within most) depth) n) (now (s .entry)) from)) ⌝ }
 {
-    let mut reached = from;
+    let mut next = from.next;
+    let mut rules = from.rules;
+    let mut formulas = from.formulas;
     let mut left = n;
     while 0 < left {
-        match read_rule(s, t, most, reached) {
+        match read_rule(
+            s,
+            t,
+            most,
+            Reached {
+                next,
+                rules,
+                formulas,
+            },
+        ) {
             Reading::To(past) => {
-                reached = past;
+                next = past.next;
+                rules = past.rules;
+                formulas = past.formulas;
             }
             Reading::Fault { number, place } => {
                 return Reading::Fault { number, place };
@@ -43,5 +56,9 @@ fn read_premises(s: &[u8], t: &[u8; 256], most: Most, from: Reached, n: usize) -
         }
         left -= 1;
     }
-    Reading::To(reached)
+    Reading::To(Reached {
+        next,
+        rules,
+        formulas,
+    })
 }

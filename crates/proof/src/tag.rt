@@ -46,13 +46,13 @@ pub fn read_tag(s: &[u8], at: usize, used: usize, most: usize) -> Tag
             place: at,
         };
     }
-    let kind = kind_of(s[at]);
     if most <= used {
         return Tag::Fault {
             number: 6,
             place: at,
         };
     }
+    let kind = kind_of(s[at]);
     if kind == 0 {
         return Tag::Fault {
             number: 4,

@@ -12,18 +12,18 @@ use Rattle.draft.proofs.names.put_number.Tie as tie
 returns : tie.Need-returns
 returns c = wrote-as (sym (numbered-none _ (c .if1 .taken))) (wrote-none _ _)
 
-sub-put-decimal : tie.Need-sub-put-decimal
-sub-put-decimal c = search needs
+sub-put-digits : tie.Need-sub-put-digits
+sub-put-digits c = search needs
 
-put-decimal-requires : tie.Need-put-decimal-requires
-put-decimal-requires c κs = omega (arith, ap length (numbered-some _ (c .before .if1 .left)))
+put-digits-requires : tie.Need-put-digits-requires
+put-digits-requires c κs = omega (arith, ap length (numbered-some _ (c .before .if1 .left)))
 
 same-length : tie.Need-same-length
 same-length c = search needs
 
 returns-2 : tie.Need-returns-2
-returns-2 c = wrote-as (sym (numbered-some _ (c .before .before .before .before .if1 .left))) (c .before .before .put-decimal .ensures)
+returns-2 c = wrote-as (sym (numbered-some _ (c .before .before .before .before .if1 .left))) (c .before .before .put-digits .ensures)
 
 pub put-number-spec : {M : Type 1} → statement M
 put-number-spec =
-    tie.close (tie.spec returns sub-put-decimal put-decimal-requires same-length returns-2)
+    tie.close (tie.spec returns sub-put-digits put-digits-requires same-length returns-2)

@@ -31,22 +31,22 @@ slice-write-out-2 c =
     let a = b .args in
     simp length-set (omega (arith, b .pre, x-length (a .number)))
 
-add-put-decimal : tie.Need-add-put-decimal
-add-put-decimal c = search needs
+add-put-digits : tie.Need-add-put-digits
+add-put-digits c = search needs
 
-put-decimal-requires : tie.Need-put-decimal-requires
-put-decimal-requires c κs =
+put-digits-requires : tie.Need-put-digits-requires
+put-digits-requires c κs =
     let b = c .before .before .before in
     let a = b .args in
     simp length-set (omega (arith, b .pre, x-length (a .number)))
 
 same-length : tie.Need-same-length
-same-length c = c .before .before .put-decimal .kept .1 .0 ∙ simp length-set
+same-length c = c .before .before .put-digits .kept .1 .0 ∙ simp length-set
 
 returns : tie.Need-returns
 returns c = let a = c .before .before .before .before .before .before .args in
     wrote-as (ap (λ (k : ℕ). k ∷ xName (a .number)) (c .before .before .before .before .x-len .ensures .0))
-    (chain (wrote-one (now (a .out)) (a .at) (c .before .before .before .before .x-len .result)) (then-byte (set (now (a .out)) (a .at) (c .before .before .before .before .x-len .result)) (a .at + 1) 120 (c .before .before .put-decimal .ensures)))
+    (chain (wrote-one (now (a .out)) (a .at) (c .before .before .before .before .x-len .result)) (then-byte (set (now (a .out)) (a .at) (c .before .before .before .before .x-len .result)) (a .at + 1) 120 (c .before .before .put-digits .ensures)))
 
 pub put-x-spec : {M : Type 1} → statement M
 put-x-spec =
@@ -57,7 +57,7 @@ put-x-spec =
     slice-write-out
     add-stem
     slice-write-out-2
-    add-put-decimal
-    put-decimal-requires
+    add-put-digits
+    put-digits-requires
     same-length
     returns)

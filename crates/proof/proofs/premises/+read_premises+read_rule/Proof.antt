@@ -45,10 +45,11 @@ read-rule-below t =
     and 2 read-rule-kinds.ps (falls 2 read-rule-kinds.ps _<_ μ-read-rule t) read-rule.Pre
 
 abbrev read-premises-Inv-loop : read-premises-lts.InvT-loop
-read-premises-Inv-loop s t most n reached₀ left₀ reached left = Going (within most) s n reached₀ reached left
+read-premises-Inv-loop s t most n next₀ rules₀ formulas₀ left₀ next rules formulas left =
+    Going (within most) s n (record { next = next₀; rules = rules₀; formulas = formulas₀ }) (record { next = next; rules = rules; formulas = formulas }) left
 
 abbrev read-premises-μ-loop : read-premises-lts.MeasureT-loop
-read-premises-μ-loop s t most n reached₀ left₀ reached left = left
+read-premises-μ-loop s t most n next₀ rules₀ formulas₀ left₀ next rules formulas left = left
 
 abbrev read-premises-claims : ℕ → read-premises-lts.Claims
 read-premises-claims t = (read-rule-below t, read-rule.Post)
