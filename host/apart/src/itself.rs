@@ -1,10 +1,10 @@
 //! The model against the ported Rust and against itself: what it adds to the Rust has a second route here, so that a slip in it shows
 //! without the port.
 
-use crate::run::{each, Verdict};
 use lolli_core::Term;
 use patch_generate::damage::damage;
 use patch_generate::{files, formulas, proofs, terms, Rng};
+use patch_harness::{hold, many, Verdict};
 use patch_model::calls::{fits, name_list};
 use patch_model::form::{formula_bytes, formula_nodes, proof_bytes, proof_formula_nodes, proof_rules, term_bytes, term_nodes};
 use patch_model::reduce::{contracted, redex, reduce, size};
@@ -12,24 +12,6 @@ use patch_model::stored::{content, load, store, Kind};
 use patch_model::{calls, extract, read, Limits};
 
 const L: Limits = Limits::BASE;
-
-pub fn hold(fact: bool, what: &str) -> Result<(), String> {
-    if fact {
-        Ok(())
-    } else {
-        Err(what.into())
-    }
-}
-
-pub fn many(label: &str, count: u64, seed: u64, try_one: impl Fn(&mut Rng) -> Result<(), String> + Sync) -> Verdict {
-    match each(count, |index| try_one(&mut Rng::new(seed, index))) {
-        Ok(()) => {
-            println!("  {label}: {count} cases");
-            Ok(count)
-        }
-        Err((index, said)) => Err(format!("{label}, case {index} of {count}: {said}")),
-    }
-}
 
 pub fn all() -> Verdict {
     Ok(many("reading undoes writing", 20_000, 1, reads_back)?

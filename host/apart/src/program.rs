@@ -1,10 +1,10 @@
 //! The program patchrun itself, run by host/patchrun.sh: what it writes for its standard input is held to the model, byte for byte.
 
-use crate::readers::{bad_inputs, TERMS};
-use crate::reduction::{doubled, reducible};
-use crate::run::{each, Verdict};
 use lolli_core::Term;
+use patch_generate::bad::{bad_inputs, TERMS};
+use patch_generate::inputs::{doubled, reducible};
 use patch_generate::{files, Rng};
+use patch_harness::{each, Verdict};
 use patch_model::form::term_bytes;
 use patch_model::program::patchrun;
 use patch_model::stored::{blocks, seal, BLOCK};
@@ -48,7 +48,7 @@ pub fn all() -> Verdict {
 /// Runs the program on the inputs that `make` gives for the indices below `count`, and prints how they were answered: 0 for a term.
 fn run(label: &str, count: u64, make: impl Fn(u64) -> Vec<u8> + Sync) -> Result<BTreeMap<u8, u64>, String> {
     let answers = Mutex::new(BTreeMap::new());
-    let outcome = each(count, |index| {
+    let outcome = each(count, &|index| {
         let input = make(index);
         let wanted = patchrun(&L, &input);
         let wrote = written(&input, index % 50 == 0)?;
