@@ -10,12 +10,12 @@ use Rattle.rules.specs.Term.{Term, var, leaf, one, two, abs, both, branch, enco
 use Rattle.rules.specs.Legal.{Legal, LegalName}
 use Rattle.runs.specs.Wrote.{Wrote}
 use Rattle.runs.specs.Writing.{wrote-length}
 use Rattle.draft.specs.Draft.{Row, rowAt, nameOf, Shape, shapeOf, named, identity, discarding, letting, branching, copying, wrapping, joining, shaped}
 use Rattle.draft.specs.Made.{Small}
 use Rattle.draft.specs.Heads.{head, partsOf, summed, Middleroom}
-use Rattle.draft.specs.Writing.{Writable, Puts}
-use Rattle.draft.proofs.Shapes.{shaped-size}
-use Rattle.draft.proofs.Opening.{Opened, opened}
+use Rattle.draft_term.specs.Writing.{Writable, Puts}
+use Rattle.draft_term.proofs.Shapes.{shaped-size}
+use Rattle.draft_term.proofs.Opening.{Opened, opened}
 
 -- sums over so many parts
 summed-head : (c h a b : ℕ) → h ≤ summed c h a b

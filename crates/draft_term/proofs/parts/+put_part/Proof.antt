@@ -1,21 +1,21 @@
--- `draft::parts::put_part` meets its contract: the head, then each part in the room that is left; a part's number falls. Assumes nothing.
+-- `draft_term::parts::put_part` meets its contract: the head, then each part in the room that is left; a part's number falls. Assumes nothing.
 use mathlib.Core.Path.{_∙_}
 use native.Mathlib.Omega.{arith}
 use lib.ListN.{length-set}
 use denote.Ref.{now}
-use Rattle.draft.proofs.Opening.{row-in, first-before, second-before}
-use Rattle.draft.proofs.Rooms.{head-room, first-room, second-room, third-room, some-byte}
-use Rattle.draft.proofs.Endings.{end-unit, end-trivial, end-head, end-first, end-second, end-third}
+use Rattle.draft_term.proofs.Opening.{row-in, first-before, second-before}
+use Rattle.draft_term.proofs.Rooms.{head-room, first-room, second-room, third-room, some-byte}
+use Rattle.draft_term.proofs.Endings.{end-unit, end-trivial, end-head, end-first, end-second, end-third}
 use Prim.Native.Nat.{ℕ, _<_}
 use borrow.Fn.Kinds.{In}
 use borrow.Fn.PlainCycle.{Measures, is, falls, and}
-use Rattle.draft.proofs.parts.put_part.Reads as put-part
-use Rattle.draft.proofs.parts.put_part.Kinds as put-part-kinds
-use Rattle.draft.proofs.parts.+put_part.Lts-put_part as put-part-lts
+use Rattle.draft_term.proofs.parts.put_part.Reads as put-part
+use Rattle.draft_term.proofs.parts.put_part.Kinds as put-part-kinds
+use Rattle.draft_term.proofs.parts.+put_part.Lts-put_part as put-part-lts
 use Rattle.draft.proofs.heads.parts_of.Reads as parts-of-reads
 use Rattle.draft.proofs.heads.put_head.Reads as put-head-reads
-use Rattle.draft.proofs.parts.+put_part.{statement}
-use Rattle.draft.proofs.parts.+put_part.Tie.{close}
+use Rattle.draft_term.proofs.parts.+put_part.{statement}
+use Rattle.draft_term.proofs.parts.+put_part.Tie.{close}
 
 abbrev μ-put-part : Measures 3 put-part-kinds.ps ℕ
 μ-put-part κs a = a .1 .1 .1 .0

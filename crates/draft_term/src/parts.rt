@@ -1,9 +1,9 @@
 // The term of a part, written from its rows.
-use crate::heads::parts_of;
-use crate::heads::put_head;
+use draft::heads::parts_of;
+use draft::heads::put_head;
 ghost use Rattle.rules.specs.Term.{Term};
 ghost use Rattle.draft.specs.Made.{Small};
-ghost use Rattle.draft.specs.Writing.{Writable, Puts};
+ghost use Rattle.draft_term.specs.Writing.{Writable, Puts};
 
 // Writes a part, and returns the place after it: the head of its row, then the parts that the row names; a branching's second part twice.
 pub fn put_part(

@@ -11,12 +11,12 @@ use borrow.Author.Tests.{ltb-true, ltb-false, leb-true, leb-false, le-leb, lt-le
 use Rattle.rules.specs.Basic.{Bytes}
 use Rattle.rules.specs.Limits.{limits}
 use Rattle.rules.specs.Term.{Term, encode, nodes, size, fits}
 use Rattle.draft.specs.Draft.{rowAt, Shape, shapeOf, named, identity, discarding, letting, branching, copying, wrapping, joining, drafted, Rows, Drafts}
 use Rattle.draft.specs.Steady.{drafts, drafts-one, drafts-unit, drafts-trivial}
 use Rattle.draft.specs.Heads.{head, partsOf, nodesOf, summed}
-use Rattle.draft.specs.Measured.{cap, capped, Sized, Countable, Measured}
-use Rattle.draft.proofs.Shapes.{shaped-size, shaped-nodes}
-use Rattle.draft.proofs.Opening.{row-opened}
+use Rattle.draft_term.specs.Measured.{cap, capped, Sized, Countable, Measured}
+use Rattle.draft_term.proofs.Shapes.{shaped-size, shaped-nodes}
+use Rattle.draft_term.proofs.Opening.{row-opened}
 
 -- a sum of capped sizes
 pub capped-sum : (c h a b : ℕ) → capped (summed c h (capped a) (capped b)) ≡ capped (summed c h a b)

@@ -1,13 +1,13 @@
--- `draft::sizes::measure_row` meets its contract: its parts come before it, so their sizes stand, and its own are put behind them.
+-- `draft_term::sizes::measure_row` meets its contract: its parts come before it, so their sizes stand, and its own are put behind them.
 -- Assumes nothing.
 use native.Mathlib.Omega.{arith}
 use lib.ListN.{length-set}
 use denote.Ref.{now}
 use Rattle.draft.specs.Draft.{rowAt, shapeOf}
-use Rattle.draft.proofs.Sizing.{first-in, second-in, first-bytes, second-bytes, first-nodes, second-nodes, few-nodes, row-bytes, row-nodes, measured-more, measured-as}
+use Rattle.draft_term.proofs.Sizing.{first-in, second-in, first-bytes, second-bytes, first-nodes, second-nodes, few-nodes, row-bytes, row-nodes, measured-more, measured-as}
 use borrow.Author.Needs.{needs}
-use Rattle.draft.proofs.sizes.measure_row.Statement.{statement}
-use Rattle.draft.proofs.sizes.measure_row.Tie as tie
+use Rattle.draft_term.proofs.sizes.measure_row.Statement.{statement}
+use Rattle.draft_term.proofs.sizes.measure_row.Tie as tie
 
 mul-row : tie.Need-mul-row
 mul-row c = search needs

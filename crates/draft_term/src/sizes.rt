@@ -1,14 +1,14 @@
 // The sizes of the parts of a draft, held at a cap: a branching writes a part twice, so that a term can be far larger than its draft.
-use crate::heads::head_len;
-use crate::heads::nodes_of;
-use crate::heads::parts_of;
+use draft::heads::head_len;
+use draft::heads::nodes_of;
+use draft::heads::parts_of;
 ghost use mathlib.Core.Path.{_≡_};
 ghost use Prim.Native.Nat.{_+_, _≤_, _<_};
 ghost use Rattle.rules.specs.Limits.{limits};
 ghost use Rattle.rules.specs.Term.{Term, fits as fitsLimits};
 ghost use Rattle.draft.specs.Draft.{Drafts};
 ghost use Rattle.draft.specs.Heads.{summed};
-ghost use Rattle.draft.specs.Measured.{cap, capped as cappedAt, Countable, Measured};
+ghost use Rattle.draft_term.specs.Measured.{cap, capped as cappedAt, Countable, Measured};
 
 const CAP: usize = 65535;
 

@@ -1,9 +1,9 @@
--- `draft::sizes::total` meets its contract: no part, one, two, or the second twice. Assumes nothing.
+-- `draft_term::sizes::total` meets its contract: no part, one, two, or the second twice. Assumes nothing.
 use mathlib.Core.Path.{_∙_}
-use Rattle.draft.proofs.Sizing.{total-none, total-one, total-two, total-three}
+use Rattle.draft_term.proofs.Sizing.{total-none, total-one, total-two, total-three}
 use borrow.Author.Needs.{needs}
-use Rattle.draft.proofs.sizes.total.Statement.{statement}
-use Rattle.draft.proofs.sizes.total.Tie as tie
+use Rattle.draft_term.proofs.sizes.total.Statement.{statement}
+use Rattle.draft_term.proofs.sizes.total.Tie as tie
 
 returns : tie.Need-returns
 returns c = let a = c .before .args in total-none (a .count) (a .own) (a .a) (a .b) (c .if1 .taken) (c .before .pre .0)

@@ -8,12 +8,12 @@ use Rattle.rules.specs.Term.{Term, encode}
 use Rattle.runs.specs.Wrote.{Wrote}
 use Rattle.runs.specs.Writing.{chain}
 use Rattle.report.specs.Digits.{wrote-as, wrote-one}
 use Rattle.draft.specs.Draft.{Row, rowAt, shapeOf, Drafts}
 use Rattle.draft.specs.Steady.{drafts-unit, drafts-trivial, drafts-one}
 use Rattle.draft.specs.Heads.{front, partsOf, written}
-use Rattle.draft.specs.Writing.{Puts}
-use Rattle.draft.proofs.Shapes.{shaped-bytes}
-use Rattle.draft.proofs.Opening.{Opened, opened}
+use Rattle.draft_term.specs.Writing.{Puts}
+use Rattle.draft_term.proofs.Shapes.{shaped-bytes}
+use Rattle.draft_term.proofs.Opening.{Opened, opened}
 
 -- the bytes of so many parts
 written-three : (c : ℕ) (a b : Bytes) → (c ≡ 0 → ⊥) → (c ≡ 1 → ⊥) → (c ≡ 2 → ⊥) → written c a b ≡ a ++ (b ++ b)

@@ -1,13 +1,13 @@
--- `draft::sizes::measure` meets its contract: after i rows the first i + 2 parts are measured. Assumes nothing.
+-- `draft_term::sizes::measure` meets its contract: after i rows the first i + 2 parts are measured. Assumes nothing.
 use Prim.Native.Nat.{_+_, _-_, _≤_}
 use mathlib.Core.Path.{_≡_, refl, _∙_}
 use native.Mathlib.Omega.{arith}
 use lib.ListN.{length, length-set}
 use denote.Ref.{now}
-use Rattle.draft.specs.Measured.{Measured}
-use Rattle.draft.proofs.Sizing.{measured-two, measured-as, four-long}
-use Rattle.draft.proofs.sizes.measure.Statement.{statement}
-use Rattle.draft.proofs.sizes.measure.Tie as tie
+use Rattle.draft_term.specs.Measured.{Measured}
+use Rattle.draft_term.proofs.Sizing.{measured-two, measured-as, four-long}
+use Rattle.draft_term.proofs.sizes.measure.Statement.{statement}
+use Rattle.draft_term.proofs.sizes.measure.Tie as tie
 
 abbrev Inv-loop : tie.InvT-loop
 Inv-loop s rows used sizes₀ i₀ sizes i = (i ≤ used) × (length sizes ≡ length sizes₀) × Measured s rows used (i + 2) sizes

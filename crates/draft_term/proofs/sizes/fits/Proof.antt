@@ -1,8 +1,8 @@
--- `draft::sizes::fits` meets its contract: both limits lie below the cap. Assumes nothing.
-use Rattle.draft.proofs.Sizing.{too-long, short-enough}
+-- `draft_term::sizes::fits` meets its contract: both limits lie below the cap. Assumes nothing.
+use Rattle.draft_term.proofs.Sizing.{too-long, short-enough}
 use borrow.Author.Needs.{needs}
-use Rattle.draft.proofs.sizes.fits.Statement.{statement}
-use Rattle.draft.proofs.sizes.fits.Tie as tie
+use Rattle.draft_term.proofs.sizes.fits.Statement.{statement}
+use Rattle.draft_term.proofs.sizes.fits.Tie as tie
 
 measure-requires : tie.Need-measure-requires
 measure-requires c κs = search needs
