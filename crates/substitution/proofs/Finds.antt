@@ -14,13 +14,13 @@ use Rattle.rules.specs.Term.{Term, encode, size, parts}
 use Rattle.rules.specs.Free.{occurrences}
 use Rattle.laws.specs.SubstSize.{occurrences-bytes}
 use Rattle.runs.specs.Wrote.{Wrote}
+use Rattle.runs.specs.Writing.{chain, wrote-none, wrote-length}
 use Rattle.walk.specs.Node.{head, encodeAll, hides, hidden}
 use Rattle.walk.specs.Place.{TermAt, TermsAt}
 use Rattle.walk.specs.Seen.{Seen}
 use Rattle.walk.specs.declared.Node.{Node}
 use Rattle.walk.proofs.Terms.{Some, SkipIs, skip-one, apart-size, at-inside, at-end, at-parts, first, others, some-first}
 use Rattle.substitution.specs.Places.{places, placesAll, kept}
-use Rattle.substitution.proofs.Writes.{chain, wrote-none, wrote-length}
 use Rattle.substitution.proofs.Shapes.{var-size, var-parts, var-places, node-places, places-many}
 
 -- ---- what is kept

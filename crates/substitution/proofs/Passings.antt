@@ -1,11 +1,11 @@
 -- A node none of whose names ends as the sought one does: it is not the variable, and it covers nothing. By the shapes of terms.
 -- Assumes nothing.
-use Prim.Native.Nat.{ℕ, suc, _+_, _-_, _<_, _≤_}
+use Prim.Native.Nat.{ℕ, suc, _+_, _-_, _≤_}
 use mathlib.Core.Path.{_≡_, refl, sym, ap, _∙_}
 use mathlib.Core.Bool.{Bool, true, false}
-use mathlib.Core.List.{List, [], _∷_, _++_}
+use mathlib.Core.List.{List, [], _∷_}
 use native.Mathlib.Omega.{arith}
-use lib.ListN.{length, getD, drop, length-append, List·getD-append}
+use lib.ListN.{length, getD, length-append, List·getD-append}
 use lib.Seq.{getD-drop}
 use Rattle.rules.specs.Name.{Name, same, encodeName, encodeNames}
 use Rattle.rules.specs.Term.{Term, var, leaf, one, two, abs, both, branch}

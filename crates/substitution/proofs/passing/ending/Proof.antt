@@ -1,5 +1,4 @@
 -- `substitution::passing::ending` meets its contract: the length stands in front of the letters. Assumes nothing.
-use native.Mathlib.Omega.{arith}
 use denote.Ref.{now}
 use borrow.Author.Needs.{needs}
 use Rattle.substitution.proofs.Passings.{ending-none, ending-some}
