@@ -1,7 +1,7 @@
--- `contracting::redexes::told` meets its contract, by what was put. Assumes nothing.
+-- `parts::told` meets its contract, by what was put. Assumes nothing.
 use borrow.Author.Needs.{needs}
-use Rattle.contracting.proofs.redexes.told.Statement.{statement}
-use Rattle.contracting.proofs.redexes.told.Tie as tie
+use Rattle.parts.proofs.told.Statement.{statement}
+use Rattle.parts.proofs.told.Tie as tie
 
 enum-known-put : tie.Need-enum-known-put
 enum-known-put c = search needs
