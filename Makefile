@@ -1,4 +1,4 @@
-# make test is the gate. It takes rt, cargo, make and gcc, and no network.
+# make test is the gate. It takes rt, cargo, make, and gcc with its libasan, and no network.
 SHELL := /bin/bash
 .SHELLFLAGS := -eu -o pipefail -c
 
@@ -13,7 +13,7 @@ WARN := -Iinclude -Wall -Wextra -Wpedantic -Werror
 .PHONY: test hosted apart linked library program run try bench soak stack cases vectors
 
 # rt ci proves every crate from nothing; the static library is then built from what it has just proved. Its last line, the verdict, is kept
-# back until the runs over that library have passed too, so that it is the last line of all and nothing is proved twice.
+# back until the runs over that library have passed too, so that it is the last line of all and nothing but the entry points is proved twice.
 test:
 	@mkdir -p $(dir $(VERDICT))
 	@rm -f $(LIBRARY)
