@@ -14,9 +14,9 @@ use Rattle.laws.specs.FreeSize.{free-size}
 use Rattle.runs.specs.Wrote.{Wrote}
 use Rattle.runs.specs.Writing.{filled-up, wrote-length}
 use Rattle.walk.proofs.Terms.{whole}
-use Rattle.free.specs.declared.Gathered.{Gathered}
+use Rattle.free.specs.declared.gathering.Gathered.{Gathered}
 use Rattle.free.specs.Gather.{gather-free}
-use Rattle.free.specs.Rows.{Held, Passed, Writes}
+use Rattle.name_row.specs.Rows.{Held, Passed, Writes}
 use Rattle.free.specs.Walk.{Task, Done}
 use Rattle.free.specs.Whole.{Lists, Listed}
 

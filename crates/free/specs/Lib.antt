@@ -1,9 +1,4 @@
-pub mod Ordered
-pub mod Members
 pub mod Gather
 pub mod Ones
-pub mod Search
-pub mod Order
-pub mod Rows
 pub mod Walk
 pub mod Whole

@@ -1,0 +1,105 @@
+// One walk over a term that gathers its free names.
+ghost use mathlib.Core.Path.{_≡_};
+ghost use mathlib.Core.List.{List};
+ghost use Prim.Native.Nat.{_+_, _<_};
+ghost use Rattle.rules.specs.Basic.{_==_};
+ghost use Rattle.rules.specs.Name.{Name};
+ghost use Rattle.rules.specs.Term.{Term};
+ghost use Rattle.walk.specs.Place.{TermAt};
+ghost use Rattle.free.specs.Ones.{oneAfter, ones};
+ghost use Rattle.free.specs.Walk.{Task, Done};
+use name_row::meet;
+use name_row::push;
+
+// The tags of nodes with one part and no names: a bit each.
+const ONES: usize = 63872;
+
+fn is_one(tag: usize) -> bool
+    requires { ⌜ tag < 32 ⌝ }
+    ensures { λ r. ⌜ r ≡ (oneAfter tag == 1) ⌝ }
+{
+    (ONES >> tag) % 2 == 1
+}
+
+// The place of the first node from `at` on that has not just one part: what lies between has no names.
+fn pass_ones(s: &[u8], at: usize) -> usize
+    requires { ⌜ ((t : Term) × TermAt (now s) at t) ⌝ }
+    ensures { λ r. ⌜ ((t : Term) → TermAt (now (s .entry)) at t → r ≡ at + ones t) ⌝ }
+{
+    let mut i = at;
+    while is_one(s[i] as usize) {
+        i += 1;
+    }
+    i
+}
+
+// Where a walk has come to, and how many names the row then holds.
+pub struct Gathered {
+    pub next: usize,
+    pub count: usize,
+}
+
+// Puts the free names of the term at `at` into the row, but for those of the binders passed, which stand from low on.
+// It calls itself on each part but the last, which takes the node's place.
+pub fn gather(s: &[u8], at: usize, row: &mut [u16], low: usize, n: usize) -> Gathered
+    requires { ⌜ ((t : Term) × (xs : List Name) × (l : List Name) × Task (now s) at (now row) low n t xs l) ⌝ }
+    ensures { λ r. ⌜ ((t : Term) → (xs : List Name) → (l : List Name) → Task (now (s .entry)) at (now (row .entry)) low n t xs l → Done (now (s .entry)) at (now (row .exit)) low n t xs l r) ⌝ }
+{
+    let mut i = at;
+    let mut b = low;
+    let mut k = n;
+    loop {
+        let first = i + 1;
+        match s[i] {
+            1 => {
+                let next = walk::after_names(s, first, 1);
+                let count = meet(s, first, row, b, k);
+                return Gathered { next, count };
+            }
+            2 | 10 => {
+                return Gathered {
+                    next: first,
+                    count: k,
+                };
+            }
+            7 | 8 | 11 | 12 | 13 | 14 | 15 => {
+                i = pass_ones(s, first);
+                continue;
+            }
+            3 | 6 | 16 => {
+                let a = gather(s, first, row, b, k);
+                i = a.next;
+                k = a.count;
+                continue;
+            }
+            5 => {
+                b = push(row, b, first);
+                i = walk::after_names(s, first, 1);
+                continue;
+            }
+            4 | 17 => {
+                let second = walk::after_names(s, first, 1);
+                let start = walk::after_names(s, second, 1);
+                let a = gather(s, start, row, b, k);
+                i = a.next;
+                k = a.count;
+                let c = push(row, b, first);
+                b = push(row, c, second);
+                continue;
+            }
+            _ => {
+                let second = walk::after_names(s, first, 1);
+                let start = walk::after_names(s, second, 1);
+                let a = gather(s, start, row, b, k);
+                let left = a.next;
+                let found = a.count;
+                let c = push(row, b, first);
+                let d = gather(s, left, row, c, found);
+                i = d.next;
+                k = d.count;
+                b = push(row, b, second);
+                continue;
+            }
+        }
+    }
+}
