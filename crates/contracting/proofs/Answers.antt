@@ -17,8 +17,9 @@ use Rattle.walk.proofs.Terms.{at-tag, at-inside}
 use Rattle.search.specs.Side.{side}
 use Rattle.search.proofs.Firsts.{contracts}
 use Rattle.search.proofs.Forms.{Form, form, IsApp, IsLet, IsCase, IsFst, IsSnd, IsDerelict, IsCopy, IsDiscard}
-use Rattle.contracting.specs.Contracts.{Contracting, Contracts}
-use Rattle.contracting.specs.declared.Contracted.{Contracted}
+use Rattle.parts.specs.Contracts.{Contracts}
+use Rattle.parts.specs.declared.Contracted.{Contracted}
+use Rattle.contracting.specs.Contracting.{Contracting}
 
 module _ {s : Bytes} {at n l : ℕ} {places half made : Bytes} {t : Term} {r : Rule} {h : Option Term} {u : Term} (j : Contracting s at n l places half made t r h u) where
   pub redex-inside : at < length s
@@ -64,7 +65,7 @@ module _ {s : Bytes} {at n l : ℕ} {places half made : Bytes} {t : Term} {r : R
 
   -- a node contracts in one way
   pub answers : {t′ : Term} → t ≡ t′ → {r′ : Rule} {h′ : Option Term} {u′ : Term} → contract t′ ≡ by r′ h′ u′
-      → {made′ : Bytes} {c : Contracted} → Contracts at n l t′ r′ h′ u′ made made′ c → Contracts at n l t r h u made made′ c
+      → {made′ : Bytes} {c : Contracted} → Contracts s at n l t′ r′ h′ u′ made′ c → Contracts s at n l t r h u made′ c
   answers {t′} e {r′} {h′} {u′} is {made′} {c} d =
       let b : by r h u ≡ by r′ h′ u′ = sym (j .contracts) ∙ ap contract e ∙ is in
       let er : r ≡ r′ = cc in

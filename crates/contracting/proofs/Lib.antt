@@ -1,4 +1,5 @@
 -- What the proofs of several functions use.
-mod Standing
+mod Staying
+mod Tail
 mod Jobs
 mod Answers

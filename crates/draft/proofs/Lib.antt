@@ -1,9 +1,4 @@
 pub mod Putting
 pub mod Numbering
 pub mod Stems
-pub mod Shapes
 pub mod Sorts
-pub mod Opening
-pub mod Rooms
-pub mod Endings
-pub mod Sizing

@@ -1,8 +1,6 @@
-// A draft of a term, and the term written from it.
+// A draft of a term: its rows, and the heads that they write.
 pub mod heads;
 pub mod names;
-pub mod parts;
-pub mod sizes;
 
 ghost use Prim.Native.Nat.{_+_, _*_, _<_, _≤_};
 ghost use lib.ListN.{length};

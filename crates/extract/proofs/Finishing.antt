@@ -18,8 +18,8 @@ use Rattle.runs.specs.Wrote.{Wrote}
 use Rattle.runs.specs.Writing.{filled-up, wrote-length, wrote-none}
 use Rattle.draft.specs.Draft.{Drafts}
 use Rattle.draft.specs.Made.{Small}
-use Rattle.draft.specs.Measured.{Countable}
-use Rattle.draft.specs.Writing.{Writable}
+use Rattle.draft_term.specs.Measured.{Countable}
+use Rattle.draft_term.specs.Writing.{Writable}
 use Rattle.one_rule.specs.declared.Drafted.{Drafted}
 use Rattle.extract.specs.declared.Extraction.{Extraction}
 use Rattle.extract.specs.declared.Extraction.the-variants.{Made}

@@ -1,4 +1,6 @@
 -- What the proofs of several functions use.
 mod Shapes
-mod Shaped
+mod Leaves
+mod Pending
+mod Walking
 mod Whole

@@ -5,16 +5,15 @@ use mathlib.Core.Path.{_≡_, refl, ap, _∙_}
 use mathlib.Core.Bool.{Bool, true, _&&_}
 use mathlib.Core.List.{List, [], _∷_}
 use native.Mathlib.Omega.{arith}
-use lib.ListN.{getD}
+use lib.ListN.{length, getD}
 use borrow.Author.Tests.{leb-true}
 use Rattle.rules.specs.Basic.{say, _≤?_}
-use Rattle.rules.specs.Name.{Name}
 use Rattle.rules.specs.Formula.{Formula, atom, constant, exponential, connective, Sign, plain, negated, Constant, One, Bottom, Top, Zero, Exponential, OfCourse, WhyNot, Connective, Tensor, Par, With, Plus, Lolli, signTag, constantTag, exponentialTag, connectiveTag, encodeFormula}
 use Rattle.rules.specs.Text.{signText, constantText, exponentialText, connectiveText}
 use Rattle.laws.specs.Same.{both-true}
-use Rattle.formula_text.specs.Task.{FormulaTask}
-use Rattle.formula_text.specs.Words.{words, longOf, wordOf, signOf, shapeOf}
-use Rattle.words.specs.Steps.{first-byte}
+use Rattle.formula_text.specs.Task.{FormulaTask, Leaf}
+use Rattle.formula_text.specs.Words.{words, longOf, wordOf, signOf, shapeOf, openingOf}
+use Rattle.words.specs.Steps.{first-byte, ends-in}
 
 -- no word is longer than the eight bytes that it is written with
 abbrev few : List ℕ → Bool
@@ -39,10 +38,6 @@ constant-word Bottom = refl
 constant-word Top = refl
 constant-word Zero = refl
 
-pub exponential-word : (k : Exponential) → signOf (exponentialTag k) ≡ say (exponentialText k)
-exponential-word OfCourse = refl
-exponential-word WhyNot = refl
-
 pub connective-word : (k : Connective) → signOf (connectiveTag k) ≡ say (connectiveText k)
 connective-word Tensor = refl
 connective-word Par = refl
@@ -50,13 +45,25 @@ connective-word With = refl
 connective-word Plus = refl
 connective-word Lolli = refl
 
-abbrev tag : Formula → ℕ
+-- what stands before the parts
+pub exponential-opens : (k : Exponential) → openingOf (exponentialTag k) ∷ [] ≡ say (exponentialText k)
+exponential-opens OfCourse = refl
+exponential-opens WhyNot = refl
+
+pub connective-opens : (k : Connective) → openingOf (connectiveTag k) ≡ 40
+connective-opens Tensor = refl
+connective-opens Par = refl
+connective-opens With = refl
+connective-opens Plus = refl
+connective-opens Lolli = refl
+
+abbrev pub tag : Formula → ℕ
 tag (atom k x) = signTag k
 tag (constant k) = constantTag k
 tag (exponential k a) = exponentialTag k
 tag (connective k a b) = connectiveTag k
 
-abbrev shape : Formula → ℕ
+abbrev pub shape : Formula → ℕ
 shape (atom k x) = 0
 shape (constant k) = 1
 shape (exponential k a) = 2
@@ -92,14 +99,8 @@ tag-low (connective With a b) = omega arith
 tag-low (connective Plus a b) = omega arith
 tag-low (connective Lolli a b) = omega arith
 
-pub low-shape : (k : ℕ) → k < 3 → shapeOf k ≡ 0
-low-shape zero h = refl
-low-shape (suc zero) h = refl
-low-shape (suc (suc zero)) h = refl
-low-shape (suc (suc (suc k))) h = absurd (omega arith)
-
 module _ {s : List ℕ} {at : ℕ} {out : List ℕ} {to : ℕ} where
-  tag-at : (f : Formula) → FormulaTask s at out to f → getD s at 0 ≡ tag f
+  pub tag-at : (f : Formula) → FormulaTask s at out to f → getD s at 0 ≡ tag f
   unfolding encodeFormula
   tag-at (atom k x) t = first-byte (t .task)
   tag-at (constant k) t = first-byte (t .task)
@@ -109,29 +110,18 @@ module _ {s : List ℕ} {at : ℕ} {out : List ℕ} {to : ℕ} where
   pub tag-below : ((f : Formula) × FormulaTask s at out to f) → getD s at 0 < 16
   tag-below (f, t) = omega (arith, tag-at f t, tag-low f)
 
-  shape-at : (f : Formula) → FormulaTask s at out to f → shapeOf (getD s at 0) ≡ shape f
+  pub shape-at : (f : Formula) → FormulaTask s at out to f → shapeOf (getD s at 0) ≡ shape f
   shape-at f t = ap (λ (k : ℕ). shapeOf k) (tag-at f t) ∙ tag-shape f
 
-  pub an-atom : (f : Formula) → FormulaTask s at out to f → shapeOf (getD s at 0) ≡ 0 → (k : Sign) × (x : Name) × (f ≡ atom k x)
-  an-atom (atom k x) t h = (k, x, refl)
-  an-atom (constant k) t h = absurd (omega (arith, shape-at (constant k) t))
-  an-atom (exponential k a) t h = absurd (omega (arith, shape-at (exponential k a) t))
-  an-atom (connective k a b) t h = absurd (omega (arith, shape-at (connective k a b) t))
+  pub leaf-shape : (f : Formula) → FormulaTask s at out to f → shapeOf (getD s at 0) < 2 → Leaf f
+  leaf-shape (atom k x) t h = tt
+  leaf-shape (constant k) t h = tt
+  leaf-shape (exponential k a) t h = absurd (omega (arith, shape-at (exponential k a) t))
+  leaf-shape (connective k a b) t h = absurd (omega (arith, shape-at (connective k a b) t))
 
-  pub a-constant : (f : Formula) → FormulaTask s at out to f → shapeOf (getD s at 0) ≡ 1 → (k : Constant) × (f ≡ constant k)
-  a-constant (atom k x) t h = absurd (omega (arith, shape-at (atom k x) t))
-  a-constant (constant k) t h = (k, refl)
-  a-constant (exponential k a) t h = absurd (omega (arith, shape-at (exponential k a) t))
-  a-constant (connective k a b) t h = absurd (omega (arith, shape-at (connective k a b) t))
-
-  pub an-exponential : (f : Formula) → FormulaTask s at out to f → shapeOf (getD s at 0) ≡ 2 → (k : Exponential) × (a : Formula) × (f ≡ exponential k a)
-  an-exponential (atom k x) t h = absurd (omega (arith, shape-at (atom k x) t))
-  an-exponential (constant k) t h = absurd (omega (arith, shape-at (constant k) t))
-  an-exponential (exponential k a) t h = (k, a, refl)
-  an-exponential (connective k a b) t h = absurd (omega (arith, shape-at (connective k a b) t))
-
-  pub a-connective : (f : Formula) → FormulaTask s at out to f → shapeOf (getD s at 0) ≡ 3 → (k : Connective) × (a : Formula) × (b : Formula) × (f ≡ connective k a b)
-  a-connective (atom k x) t h = absurd (omega (arith, shape-at (atom k x) t))
-  a-connective (constant k) t h = absurd (omega (arith, shape-at (constant k) t))
-  a-connective (exponential k a) t h = absurd (omega (arith, shape-at (exponential k a) t))
-  a-connective (connective k a b) t h = (k, a, b, refl)
+  pub begun : (f : Formula) → FormulaTask s at out to f → at < length s
+  unfolding encodeFormula
+  begun (atom k x) t = omega (arith, ends-in (t .task))
+  begun (constant k) t = omega (arith, ends-in (t .task))
+  begun (exponential k a) t = omega (arith, ends-in (t .task))
+  begun (connective k a b) t = omega (arith, ends-in (t .task))

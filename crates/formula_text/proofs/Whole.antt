@@ -9,7 +9,7 @@ use Rattle.rules.specs.Limits.{limits}
 use Rattle.rules.specs.Refusal.{good, answered}
 use Rattle.rules.specs.declared.Refusal.{Refusal}
 use Rattle.rules.specs.declared.Answer.the-variants.{Good, Refused}
-use Rattle.rules.specs.Formula.{Formula, encodeFormula, formulaNodes}
+use Rattle.rules.specs.Formula.{Formula, formulaNodes}
 use Rattle.rules.specs.Reading.{readFormula}
 use Rattle.rules.specs.Text.{formulaText}
 use Rattle.rules.specs.Calls.{checkFormulaCall, formulaTextCall}
@@ -44,9 +44,6 @@ module _ (s o : List ℕ) where
 
       pub few : length (formulaText x) + 24 ≤ 11264
       few = let a = accepted in omega (arith, formula-text-size x, ap length (a .bytes), a .short, a .few)
-
-      pub size : length (encodeFormula x) < 65536
-      size = let a = accepted in omega (arith, ap length (a .bytes), a .short)
 
       pub task : FormulaTask s 0 o 0 x
       task = let a = accepted in record { legal = a .legal; task = start (a .bytes) (omega (arith, a .short)) (omega (arith, few)) (omega (arith, few)) }

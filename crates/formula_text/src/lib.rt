@@ -1,20 +1,21 @@
-// The text of a formula. A walk hands back the place after the text, times 65,536, and the place after the bytes, in one number.
+// The text of a formula, by one loop over its nodes.
 ghost use mathlib.Core.Path.{_≡_};
-ghost use Prim.Native.Nat.{_+_, _≤_, _<_};
+ghost use Prim.Native.Nat.{_+_, _*_, _/_, _%_, _≤_, _<_};
 ghost use lib.ListN.{length};
-ghost use Rattle.rules.specs.Name.{Name};
-ghost use Rattle.rules.specs.Formula.{Formula, Sign, Constant, Exponential, Connective, atom as atomOf, constant as constantOf, exponential as exponentialOf, connective as connectiveOf};
+ghost use Rattle.rules.specs.Formula.{Formula};
 ghost use Rattle.rules.specs.Limits.{limits};
-ghost use Rattle.rules.specs.Refusal.{answered};
+ghost use Rattle.rules.specs.Reading.{readFormula};
+ghost use Rattle.rules.specs.Refusal.{good, answered};
 ghost use Rattle.rules.specs.Calls.{formulaTextCall};
 ghost use Rattle.words.specs.Prints.{Prints};
-ghost use Rattle.formula_text.specs.Task.{FormulaTask, FormulaDone};
-ghost use Rattle.formula_text.specs.Words.{wordOf, signOf, shapeOf};
+ghost use Rattle.formula_text.specs.Task.{Leaf, FormulaTask, FormulaDone, said};
+ghost use Rattle.formula_text.specs.Words.{wordOf, signOf, shapeOf, openingOf, keptOf};
 use rules::Answer;
 use rules::FORMULA_TEXT_ROOM;
 use rules::Refusal;
 use words::byte;
-use words::name;
+use words::closes;
+use words::few;
 use words::number;
 use words::places;
 
@@ -36,6 +37,8 @@ fn word_of(tag: u8) -> u64
         11 => 0x0100000000000021,
         12 => 0x010000000000003f,
         13 => 0x05000020b88ae220,
+        14 => 0,
+        15 => 0,
         _ => 0,
     }
 }
@@ -56,69 +59,95 @@ fn shape(tag: usize) -> usize
     (244832192usize >> (tag * 2)) % 4
 }
 
-fn atom(s: &[u8], at: usize, out: &mut [u8], to: usize) -> usize
-    requires { ⌜ ((k : Sign) × (x : Name) × FormulaTask (now s) at (now out) to (atomOf k x)) ⌝ }
-    ensures { λ r. ⌜ ((k : Sign) → (x : Name) → FormulaTask (now (s .entry)) at (now (out .entry)) to (atomOf k x) → FormulaDone at (now (out .entry)) to (atomOf k x) (now (out .exit)) r) ⌝ }
+// What is printed before the parts of an exponential or a connective.
+fn opening(tag: u8) -> u8
+    ensures { λ r. ⌜ r ≡ openingOf tag ⌝ }
 {
-    let first = at + 1;
-    let n = s[first] as usize;
-    let o = name(s, first, out, to);
-    places(first + 1 + n, sign(s[at], out, o))
-}
-
-fn constant(s: &[u8], at: usize, out: &mut [u8], to: usize) -> usize
-    requires { ⌜ ((k : Constant) × FormulaTask (now s) at (now out) to (constantOf k)) ⌝ }
-    ensures { λ r. ⌜ ((k : Constant) → FormulaTask (now (s .entry)) at (now (out .entry)) to (constantOf k) → FormulaDone at (now (out .entry)) to (constantOf k) (now (out .exit)) r) ⌝ }
-{
-    places(at + 1, sign(s[at], out, to))
-}
-
-fn exponential(s: &[u8], at: usize, out: &mut [u8], to: usize) -> usize
-    requires { ⌜ ((k : Exponential) × (a : Formula) × FormulaTask (now s) at (now out) to (exponentialOf k a)) ⌝ }
-    ensures { λ r. ⌜ ((k : Exponential) → (a : Formula) → FormulaTask (now (s .entry)) at (now (out .entry)) to (exponentialOf k a) → FormulaDone at (now (out .entry)) to (exponentialOf k a) (now (out .exit)) r) ⌝ }
-{
-    let o = sign(s[at], out, to);
-    part(&*s, at + 1, out, o)
-}
-
-fn connective(s: &[u8], at: usize, out: &mut [u8], to: usize) -> usize
-    requires { ⌜ ((k : Connective) × (a : Formula) × (b : Formula) × FormulaTask (now s) at (now out) to (connectiveOf k a b)) ⌝ }
-    ensures { λ r. ⌜ ((k : Connective) → (a : Formula) → (b : Formula) → FormulaTask (now (s .entry)) at (now (out .entry)) to (connectiveOf k a b) → FormulaDone at (now (out .entry)) to (connectiveOf k a b) (now (out .exit)) r) ⌝ }
-{
-    let a = byte(out, to, b'(');
-    let left = part(&*s, at + 1, out, a);
-    let b = sign(s[at], out, left / 65536);
-    let right = part(&*s, left % 65536, out, b);
-    let c = byte(out, right / 65536, b')');
-    places(right % 65536, c)
-}
-
-// Most parts are atoms, and need no call of `node`.
-fn part(s: &[u8], at: usize, out: &mut [u8], to: usize) -> usize
-    requires { ⌜ ((f : Formula) × FormulaTask (now s) at (now out) to f) ⌝ }
-    ensures { λ r. ⌜ ((f : Formula) → FormulaTask (now (s .entry)) at (now (out .entry)) to f → FormulaDone at (now (out .entry)) to f (now (out .exit)) r) ⌝ }
-{
-    if s[at] < 3 {
-        return atom(&*s, at, out, to);
+    if tag == 11 {
+        return 33;
     }
-    node(&*s, at, out, to)
+    if tag == 12 {
+        return 63;
+    }
+    40
 }
 
-fn node(s: &[u8], at: usize, out: &mut [u8], to: usize) -> usize
-    requires { ⌜ ((f : Formula) × FormulaTask (now s) at (now out) to f) ⌝ }
-    ensures { λ r. ⌜ ((f : Formula) → FormulaTask (now (s .entry)) at (now (out .entry)) to f → FormulaDone at (now (out .entry)) to f (now (out .exit)) r) ⌝ }
+// The brackets to come after the next part: a connective keeps them for its second part.
+fn kept(shape: usize, brackets: usize) -> usize
+    ensures { λ r. ⌜ r ≡ keptOf shape brackets ⌝ }
 {
-    let k = shape(s[at] as usize);
-    if k == 3 {
-        return connective(&*s, at, out, to);
+    if shape == 3 {
+        return 0;
     }
-    if k == 2 {
-        return exponential(&*s, at, out, to);
+    brackets
+}
+
+// A connective that is open: its tag, and the brackets that come after its own.
+fn entry(brackets: usize, tag: u8) -> u16
+    requires { ⌜ (brackets < 4095) × (tag < 16) ⌝ }
+    ensures { λ r. ⌜ r ≡ brackets * 16 + tag ⌝ }
+{
+    (brackets * 16 + tag as usize) as u16
+}
+
+fn tag_of(entry: u16) -> u8
+    ensures { λ r. ⌜ r ≡ entry % 16 ⌝ }
+{
+    (entry % 16) as u8
+}
+
+// The brackets after its second part, its own among them.
+fn brackets_of(entry: u16) -> usize
+    ensures { λ r. ⌜ r ≡ entry / 16 + 1 ⌝ }
+{
+    entry as usize / 16 + 1
+}
+
+// An atom or a constant. A constant is taken for one with a name of no bytes, so that there is no branch.
+fn leaf(s: &[u8], at: usize, out: &mut [u8], to: usize) -> usize
+    requires { ⌜ ((f : Formula) × Leaf f × FormulaTask (now s) at (now out) to f) ⌝ }
+    ensures { λ r. ⌜ ((f : Formula) → Leaf f → FormulaTask (now (s .entry)) at (now (out .entry)) to f → FormulaDone at (now (out .entry)) to f (now (out .exit)) r) ⌝ }
+{
+    let tag = s[at];
+    let named = 1 - shape(tag as usize);
+    let n = named * s[at + named] as usize;
+    let from = at + 1 + named;
+    let a = few(s, from, n, out, to);
+    places(from + n, sign(tag, out, a))
+}
+
+// The text of the whole formula. The row holds the connectives whose first part is being printed.
+fn walk(s: &[u8], out: &mut [u8], row: &mut [u16; 512]) -> usize
+    requires { ⌜ ((f : Formula) × (readFormula limits 1 (now s) ≡ good f)) ⌝ }
+    requires { ⌜ (11264 ≤ length (now out)) × (length (now row) ≡ 512) ⌝ }
+    ensures { λ r. ⌜ Prints (now (out .entry)) 0 (said (now (s .entry))) (now (out .exit)) r ⌝ }
+{
+    let mut at = 0;
+    let mut to = 0;
+    let mut depth = 0;
+    let mut brackets = 0;
+    loop {
+        let tag = s[at];
+        let k = shape(tag as usize);
+        if 2 <= k {
+            to = byte(out, to, opening(tag));
+            row[depth] = entry(brackets, tag);
+            depth += k - 2;
+            brackets = kept(k, brackets);
+            at += 1;
+            continue;
+        }
+        let r = leaf(s, at, out, to);
+        let o = closes(out, r / 65536, brackets);
+        if depth == 0 {
+            return o;
+        }
+        depth -= 1;
+        let e = row[depth];
+        to = sign(tag_of(e), out, o);
+        brackets = brackets_of(e);
+        at = r % 65536;
     }
-    if k == 1 {
-        return constant(&*s, at, out, to);
-    }
-    atom(&*s, at, out, to)
 }
 
 // The formula's text, then zeros.
@@ -135,7 +164,8 @@ pub fn pretty(formula: &[u8], out: &mut [u8]) -> Answer
     }
     match reader::check_formula(formula) {
         Answer::Good(_) => {
-            let past = node(formula, 0, out, 0) / 65536;
+            let mut row = [0u16; 512];
+            let past = walk(formula, out, &mut row);
             runs::clear(out, past);
             Answer::Good(past)
         }

@@ -1,13 +1,13 @@
--- A contraction where the search stands: it is the step of the whole, its test is the rules' test, and what it makes is put where the redex
--- ended. Assumes nothing.
+-- A contraction where the search stands: it is the step of the whole, its test is the rules' test, and what was written is put in front of
+-- what stays of the redex. Assumes nothing.
 use Prim.Native.Nat.{ℕ, _+_, _-_, _≤_}
 use mathlib.Core.Path.{_≡_, refl, sym, subst, ap, _∙_}
 use mathlib.Core.Bool.{Bool, true, false, _&&_}
-use mathlib.Core.List.{List, [], _∷_, _++_}
+use mathlib.Core.List.{List, [], _∷_, _++_, append-assoc}
 use native.Mathlib.Omega.{arith}
-use lib.ListN.{length}
-use lib.Seq.{sets, length-sets, slice}
-use Rattle.rules.specs.Basic.{Bytes, if_then_else_}
+use lib.ListN.{length, take, drop, length-append, take-append-drop}
+use lib.Seq.{length-sets, slice, length-slice, length-take-le, drop-append-le}
+use Rattle.rules.specs.Basic.{Bytes}
 use Rattle.rules.specs.Limits.{limits}
 use Rattle.rules.specs.Term.{Term, encode, nodes, size, fits}
 use Rattle.rules.specs.declared.Rule.{Rule}
@@ -15,10 +15,12 @@ use Rattle.rules.specs.Step.{halfFits, stepFits}
 use Rattle.laws.specs.Same.{both-true}
 use Rattle.runs.specs.Wrote.{Wrote}
 use Rattle.walk.proofs.Names.{drop-app, long}
-use Rattle.contracting.specs.Beside.{fitsAround, step-fits-in-frame}
-use Rattle.contracting.specs.Contracts as contracting
-use Rattle.contracting.specs.declared.Contracted.{Contracted}
-use Rattle.contracting.specs.declared.Contracted.the-variants.{Made, Outgrown}
+use Rattle.parts.specs.Beside.{fitsAround, step-fits-in-frame}
+use Rattle.parts.specs.Contracts as parts
+use Rattle.parts.specs.Contracts.{becomes, outgrows}
+use Rattle.parts.specs.declared.Contracted.{Contracted}
+use Rattle.parts.specs.declared.Contracted.the-variants.{Made, Outgrown}
+use Rattle.contracting.specs.Contracting.{Contracting}
 use Rattle.gap.specs.Hole.{Above, plug, rights}
 use Rattle.gap.specs.Quiet.{Quiet, Steps}
 use Rattle.gap.specs.Seen.{Contracts}
@@ -26,7 +28,7 @@ use Rattle.gap.specs.Standing.{Standing, Nearly, Landed}
 use Rattle.gap.specs.Fired.{Firing, Lands, Over}
 use Rattle.gap.specs.declared.place.Place.{Place}
 use Rattle.gap.proofs.Contexts.{plug-frame, plug-size, only-nearest, first-same}
-use Rattle.gap.proofs.Buffers.{wrote-left, wrote-right, fits-few}
+use Rattle.gap.proofs.Buffers.{wrote-right, fits-few}
 use Rattle.gap.proofs.Redexes.{redex-steps}
 use Rattle.gap.proofs.Entries.{sides-size, whole-short}
 use Rattle.gap.proofs.Seeking.{stands-at}
@@ -36,14 +38,10 @@ nearly : (c : Above) (t u : Term) → Quiet c t → Nearly c u
 nearly [] t u q = tt
 nearly (f ∷ c) t u q = (q .0, λ ne. first-same f t u ne (q .1), only-nearest f c t u q)
 
--- the answer of a test
-data Told (b : Bool) (r : Rule) (l e n : ℕ) (c : Contracted) : Type 0 where
-  made : b ≡ true → c ≡ Made r l e n → Told b r l e n c
-  over : b ≡ false → c ≡ Outgrown → Told b r l e n c
-
-told : (b : Bool) (r : Rule) (l e n : ℕ) (c : Contracted) → c ≡ (if b then Made r l e n else Outgrown) → Told b r l e n c
-told true r l e n c q = made refl q
-told false r l e n c q = over refl q
+-- what follows, in two runs
+drop-slice : (i j : ℕ) (l : Bytes) → i ≤ j → j ≤ length l → drop i l ≡ slice i j l ++ drop j l
+drop-slice i j l h g =
+    ap (λ (z : Bytes). drop i z) (sym (take-append-drop j l)) ∙ drop-append-le i (take j l) (drop j l) (omega (arith, length-take-le j l g))
 
 module _ {w : Term} {out scratch stack : List ℕ} {o i d n : ℕ} {places half out₁ : Bytes} (e : Firing w out scratch stack o i d n places half out₁) where
   abbrev s : Standing w out scratch stack o i d
@@ -67,7 +65,7 @@ module _ {w : Term} {out scratch stack : List ℕ} {o i d n : ℕ} {places half 
   pub short : l ≤ 4096
   short = whole-short s
 
-  pub job : contracting.Contracting scratch i n l places half out₁ t (x .rule) (x .half) u
+  pub job : Contracting scratch i n l places half out₁ t (x .rule) (x .half) u
   job =
       record {
         redex =
@@ -75,6 +73,7 @@ module _ {w : Term} {out scratch stack : List ℕ} {o i d n : ℕ} {places half 
               stands = stands-at s;
               nodes-in = omega (arith, e .count, ap nodes (s .is), plug-frame (s .above) .count t);
               bytes-in = omega (arith, sides-size s, ap size (s .is), plug-size (s .above) t);
+              behind = omega arith;
               few = omega (arith, e .count, fits-few w (s .fits));
               short = short;
             };
@@ -99,32 +98,31 @@ module _ {w : Term} {out scratch stack : List ℕ} {o i d n : ℕ} {places half 
       ∙ ap (λ (k : ℕ). halfFits limits (x .half) && fitsAround (nodes (plug (s .above) t)) k t u) b
       ∙ step-fits-in-frame (plug-frame (s .above)) t u (x .half)
 
-  module _ {made₁ : Bytes} {a : Contracted} (v : contracting.Contracts i n l t (x .rule) (x .half) u out₁ made₁ a) where
-    tells : Told test (x .rule) (size u) (i + size t) (n - nodes t + nodes u) a
-    tells = told test (x .rule) (size u) (i + size t) (n - nodes t + nodes u) a (v .says)
-
+  module _ {made₁ : Bytes} {a : Contracted} (v : parts.Contracts scratch i n l t (x .rule) (x .half) u made₁ a) where
     pub outgrew : a ≡ Outgrown → Over w out scratch stack o i d
-    outgrew q = go tells
+    outgrew q = go v
       where
-        go : Told test (x .rule) (size u) (i + size t) (n - nodes t + nodes u) a → Over w out scratch stack o i d
-        go (made b c) = absurd (let z : _≡_ {A = ℕ} 0 1 = cc in omega arith)
-        go (over b c) = record { rule = x .rule; half = x .half; next = next; steps = steps; tested = sym tested ∙ b; stands = s }
+        go : parts.Contracts scratch i n l t (x .rule) (x .half) u made₁ a → Over w out scratch stack o i d
+        go (becomes k end b c y) = absurd (let z : _≡_ {A = ℕ} 0 1 = cc in omega arith)
+        go (outgrows b c) = record { rule = x .rule; half = x .half; next = next; steps = steps; tested = sym tested ∙ b; stands = s }
 
     module _ {r : Rule} {k end m : ℕ} (q : a ≡ Made r k end m) where
       -- what was made
       record Is : Type 0 where
         passes : test ≡ true
         rule : r ≡ x .rule
-        long : k ≡ size u
-        ends : end ≡ i + size t
         count : m ≡ n - nodes t + nodes u
+        replaced : parts.Replaced scratch i t u made₁ k end
 
       is : Is
-      is = go tells
+      is = go v
         where
-          go : Told test (x .rule) (size u) (i + size t) (n - nodes t + nodes u) a → Is
-          go (made b c) = record { passes = b; rule = cc; long = cc; ends = cc; count = cc }
-          go (over b c) = absurd (let z : _≡_ {A = ℕ} 0 1 = cc in omega arith)
+          go : parts.Contracts scratch i n l t (x .rule) (x .half) u made₁ a → Is
+          go (becomes k′ end′ b c y) =
+              let ek : k ≡ k′ = cc in
+              let ee : end ≡ end′ = cc in
+              record { passes = b; rule = cc; count = cc; replaced = rw (ek, ee) y }
+          go (outgrows b c) = absurd (let z : _≡_ {A = ℕ} 0 1 = cc in omega arith)
 
       passes : stepFits limits (x .half) next ≡ true
       passes = sym tested ∙ is .passes
@@ -146,38 +144,47 @@ module _ {w : Term} {out scratch stack : List ℕ} {o i d n : ℕ} {places half 
       end-inside : i + size t ≤ length scratch
       end-inside = omega (arith, s .sides .inside, long scratch (encode t) (rights (s .above)) i (s .sides .right))
 
+      made-long : length (slice 0 k made₁) ≡ k
+      made-long = length-slice 0 k made₁ (is .replaced .written) ∙ omega arith
+
+      -- what was written, and what stays, are as long as what the redex becomes
+      long-is : k + (i + size t - end) ≡ size u
+      long-is =
+          sym (omega (arith, made-long, length-append (slice 0 k made₁) (slice end (i + size t) scratch), length-slice end (i + size t) scratch end-inside))
+          ∙ ap (λ (z : Bytes). length z) (is .replaced .bytes)
+
       pub made-room : (k ≤ end) × (k ≤ 4096) × (end - k + k ≡ end) × (end ≤ length scratch)
       made-room =
           let b = fits-before in
           let f = end-inside in
           let g = s .sides .scratch-room in
-          let h : k ≤ end = omega (arith, is .long, is .ends) in
-          (h, omega (arith, is .long, is .ends), omega arith, omega (arith, is .ends))
-
-      wrote : Wrote out₁ 0 (encode u) made₁ k
-      wrote =
-          let b : made₁ ≡ sets out₁ 0 (encode u) = v .leaves ∙ ap (λ (z : Bool). if z then sets out₁ 0 (encode u) else out₁) (is .passes) in
-          record { holds = b; ends = omega (arith, is .long) }
+          let y = is .replaced .inside in
+          let h : k ≤ end = omega (arith, long-is) in
+          (h, omega (arith, long-is), omega arith, omega arith)
 
       pub copy-room : (k ≤ length made₁) × (end - k + (k - 0) ≤ length scratch)
-      copy-room =
-          let b = ap (λ (z : Bytes). length z) (wrote .holds) in
-          let r = made-room in
-          (omega (arith, b, length-sets out₁ 0 (encode u), e .made-room), omega arith)
-
-      made-is : slice 0 k made₁ ≡ encode u
-      made-is = wrote-left wrote (omega (arith, made-room, is .long, e .made-room))
+      copy-room = let r = made-room in (is .replaced .written, omega arith)
 
       module _ {scratch₁ : List ℕ} {p : ℕ} (c : Wrote scratch (end - k) (slice 0 k made₁) scratch₁ p) where
-        placed : Wrote scratch (end - k) (encode u) scratch₁ p
-        placed = rw made-is at c
+        ends-at : p ≡ end
+        ends-at = let r = made-room in c .ends ∙ omega (arith, made-long)
+
+        -- what was written stands in front of what stays
+        right : drop (end - k) scratch₁ ≡ encode u ++ rights (s .above)
+        right =
+            let r = made-room in
+            wrote-right c (omega (arith, r, made-long))
+            ∙ ap (λ (j : ℕ). slice 0 k made₁ ++ drop j scratch) ends-at
+            ∙ ap (λ (z : Bytes). slice 0 k made₁ ++ z) (drop-slice end (i + size t) scratch (is .replaced .inside) end-inside)
+            ∙ ap (λ (z : Bytes). slice 0 k made₁ ++ (slice end (i + size t) scratch ++ z)) (drop-app (encode t) (rights (s .above)) scratch i (i + size t) (s .sides .right) refl)
+            ∙ sym (append-assoc (slice 0 k made₁) (slice end (i + size t) scratch) (rights (s .above)))
+            ∙ ap (λ (z : Bytes). z ++ rights (s .above)) (is .replaced .bytes)
 
         pub landed : Landed next out scratch₁ stack o (end - k) d
         landed =
             let r = made-room in
             let y = s .sides in
-            let f : p ≡ i + size t = placed .ends ∙ omega (arith, is .long, is .ends) in
-            let g : length scratch₁ ≡ length scratch = ap (λ (z : Bytes). length z) (placed .holds) ∙ length-sets scratch (end - k) (encode u) in
+            let g : length scratch₁ ≡ length scratch = ap (λ (z : Bytes). length z) (c .holds) ∙ length-sets scratch (end - k) (slice 0 k made₁) in
             record {
               above = s .above;
               at = u;
@@ -188,9 +195,7 @@ module _ {w : Term} {out scratch stack : List ℕ} {o i d n : ℕ} {places half 
                   record {
                     left = y .left;
                     long = y .long;
-                    right =
-                        wrote-right placed (omega (arith, r, is .long))
-                        ∙ ap (λ (z : Bytes). encode u ++ z) (drop-app (encode t) (rights (s .above)) scratch i p (y .right) f);
+                    right = right;
                     inside = omega (arith, r, g);
                     held = y .held;
                     depth = y .depth;

@@ -4,7 +4,7 @@ ghost use Rattle.gap.specs.Standing.{Standing, Landed};
 ghost use Rattle.gap.specs.Fired.{Firing, Fires};
 use crate::place::Place;
 use crate::place::SECOND;
-use contracting::Contracted;
+use parts::Contracted;
 use rules::Rule;
 use search::reduces;
 
@@ -51,7 +51,7 @@ fn wake(out: &[u8], o: usize, scratch: &mut [u8], i: usize, stack: &[u16], depth
     here
 }
 
-// Contracts the redex at i, in a whole of so many nodes. What it becomes ends where the redex ended.
+// Contracts the redex at i, in a whole of so many nodes. What was written is put in front of what stays of the redex.
 pub fn fire(
     out: &[u8],
     o: usize,

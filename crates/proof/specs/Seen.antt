@@ -23,6 +23,9 @@ metBy q = record { rules = q .rules; formulas = q .formulas }
 abbrev pub reached : Met → ℕ → Reached
 reached u p = record { next = p; rules = u .rules; formulas = u .formulas }
 
+abbrev pub reachedAt : (next rules formulas : ℕ) → Reached
+reachedAt p r f = record { next = p; rules = r; formulas = f }
+
 -- a byte further on; and a rule more besides
 abbrev pub pastByte : Reached → Reached
 pastByte q = record { next = q .next + 1; rules = q .rules; formulas = q .formulas }

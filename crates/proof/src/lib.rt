@@ -51,13 +51,8 @@ fn check_within(s: &[u8], bytes: usize, most: Most, input: u8) -> Answer
             input,
         });
     }
-    let start = Reached {
-        next: 0,
-        rules: 0,
-        formulas: 0,
-    };
     let t = table_of(Form::Formula);
-    match read_rule(s, &t, most, start) {
+    match read_rule(s, &t, most, 0, 0, 0) {
         Reading::To(end) => {
             if end.next < s.len() {
                 Answer::Refused(Refusal {

@@ -5,19 +5,31 @@ ghost use lib.ListN.{length};
 ghost use Rattle.rules.specs.Formula.{formulas as formulaLayout};
 ghost use Rattle.rules.specs.Reading.{many, proofAt};
 ghost use Rattle.reader.specs.Classes.{Classes};
-ghost use Rattle.proof.specs.Seen.{seen, found, within};
+ghost use Rattle.proof.specs.Seen.{seen, found, reachedAt, within};
 use crate::Most;
 use crate::Reached;
 use crate::Reading;
 use crate::conclusion::Conclusion;
 use crate::conclusion::read_conclusion;
 
-// A rule and all its premises.
-pub fn read_rule(s: &[u8], t: &[u8; 256], most: Most, from: Reached) -> Reading
+// A rule and all its premises, where so many rules and formula nodes were met before it: numbers, which need no room in memory.
+pub fn read_rule(
+    s: &[u8],
+    t: &[u8; 256],
+    most: Most,
+    next: usize,
+    rules: usize,
+    formulas: usize,
+) -> Reading
     requires { ⌜ Classes formulaLayout (now t) ⌝ }
-    requires { ⌜ (most .formulas ≤ 65536) × (from .next ≤ length (now s)) ⌝ }
-    ensures { λ r. ⌜ ((depth : ℕ) → most .rules ≤ from .rules + depth → r ≡ seen (found (proofAt (within most) depth) (now (s .entry)) from)) ⌝ }
+    requires { ⌜ (most .formulas ≤ 65536) × (next ≤ length (now s)) ⌝ }
+    ensures { λ r. ⌜ ((depth : ℕ) → most .rules ≤ rules + depth → r ≡ seen (found (proofAt (within most) depth) (now (s .entry)) (reachedAt next rules formulas))) ⌝ }
 {
+    let from = Reached {
+        next,
+        rules,
+        formulas,
+    };
     match read_conclusion(s, t, most, from) {
         Conclusion::Before { reached, premises } => read_premises(s, t, most, reached, premises),
         Conclusion::Fault { number, place } => Reading::Fault { number, place },
@@ -35,16 +47,7 @@ fn read_premises(s: &[u8], t: &[u8; 256], most: Most, from: Reached, n: usize) -
     let mut formulas = from.formulas;
     let mut left = n;
     while 0 < left {
-        match read_rule(
-            s,
-            t,
-            most,
-            Reached {
-                next,
-                rules,
-                formulas,
-            },
-        ) {
+        match read_rule(s, t, most, next, rules, formulas) {
             Reading::To(past) => {
                 next = past.next;
                 rules = past.rules;

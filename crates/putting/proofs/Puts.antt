@@ -6,7 +6,7 @@ use mathlib.Core.Bool.{true, false}
 use mathlib.Core.Option.{none}
 use mathlib.Core.List.{List}
 use native.Mathlib.Omega.{arith}
-use lib.ListN.{length, take}
+use lib.ListN.{length}
 use borrow.Author.Tests.{leb-true, le-leb, lt-leb}
 use Rattle.rules.specs.Basic.{Bytes, _≤?_}
 use Rattle.rules.specs.Limits.{limits}
@@ -16,14 +16,13 @@ use Rattle.rules.specs.Free.{occurrences}
 use Rattle.rules.specs.Substitution.{subst}
 use Rattle.laws.specs.Same.{both-true}
 use Rattle.runs.specs.Wrote.{Wrote}
-use Rattle.substitution.specs.Places.{places, kept}
+use Rattle.substitution.specs.Places.{places}
 use Rattle.substitution.specs.Spliced.{spliced, Left}
 use Rattle.substitution.specs.Sizes.{Growth}
-use Rattle.substitution.proofs.Writes.{wrote-part}
 use Rattle.substitution.proofs.Shapes.{places-many}
 use Rattle.substitution.proofs.Splices.{spliced-term, spaced-term}
-use Rattle.substitution.proofs.Finds.{kept-length, kept-small}
-use Rattle.substitution.proofs.Growths.{product, count-small, nodes-after, bytes-after}
+use Rattle.substitution.proofs.Finds.{kept-length}
+use Rattle.substitution.proofs.Growths.{nodes-go, bytes-go, count-small, nodes-after, bytes-after}
 use Rattle.putting.specs.Beside.{fitsBeside}
 use Rattle.putting.specs.Put.{Putting, Puts}
 use Rattle.putting.specs.declared.Put.the-variants.{Written, Outgrown}
@@ -43,7 +42,13 @@ module _ (others rest : ℕ) (u : Term) where
   unfolding fitsBeside
   beside-yes h k = rw (le-leb (others + nodes u) 512 h) (le-leb (rest + size u) 4096 k)
 
-  beside-many : 512 < others + nodes u → fitsBeside others rest u ≡ false
+  pub beside-within : fitsBeside others rest u ≡ true → (others + nodes u ≤ 512) × (rest + size u ≤ 4096)
+  unfolding fitsBeside
+  beside-within e =
+      let h = both-true (others + nodes u ≤? 512) (rest + size u ≤? 4096) e in
+      (leb-true (others + nodes u) 512 (h .0), leb-true (rest + size u) 4096 (h .1))
+
+  pub beside-many : 512 < others + nodes u → fitsBeside others rest u ≡ false
   unfolding fitsBeside
   beside-many h = rw (lt-leb (others + nodes u) 512 h)
 
@@ -56,80 +61,73 @@ module _ (others rest : ℕ) (u : Term) where
 
 -- ---- a body with a value for a name
 
-module _ {body : Bytes} {n : ℕ} {value : Bytes} {m others rest : ℕ} {e v : Term} (j : Putting body n value m others rest e v) where
-  body-long : length body ≤ 4096
-  body-long = omega (arith, ap (λ (z : Bytes). length z) (j .body-is .bytes), within e (j .body-is .fits))
+module _ {body held : Bytes} {gap : ℕ} {value : Bytes} {m n l : ℕ} {x : Name} {e v : Term} (j : Putting body held gap value m n l x e v) where
+  abbrev others : ℕ
+  others = n - nodes e
 
-  pub body-short : {room : ℕ} → 4096 ≤ room → (length body ≤ 65536) × (length body ≤ room)
-  body-short {room} h = (omega (arith, body-long), omega (arith, body-long))
+  abbrev rest : ℕ
+  rest = l - size e
 
-  module _ (name : Name) {k : ℕ} {places₀ places₁ : Bytes} (w : (t : Term) → body ≡ encode t → Wrote places₀ 0 (kept (places name t 0)) places₁ k) where
-    kept-are : Wrote places₀ 0 (kept (places name e 0)) places₁ k
-    kept-are = w e (j .body-is .bytes)
+  body-long : length body ≡ size e
+  body-long = ap (λ (z : Bytes). length z) (j .body-is)
 
-    many : k ≡ 2 * occurrences name e
-    many = omega (arith, kept-are .ends, kept-length (places name e 0), places-many name e 0)
+  many : length held ≡ 2 * occurrences x e
+  many = ap (λ (z : Bytes). length z) (j .held-are) ∙ kept-length (places x e 0) ∙ ap (λ (k : ℕ). 2 * k) (places-many x e 0)
 
-    pub growth : Growth (length body) n (k / 2) (2 + length name) (length value) m name e v
-    growth =
-        let b = within e (j .body-is .fits) in
-        let c = within v (j .value-is .fits) in
-        let d : length value ≡ size v = ap (λ (z : Bytes). length z) (j .value-is .bytes) in
-        record {
-          bytes-are = ap (λ (z : Bytes). length z) (j .body-is .bytes);
-          nodes-are = j .body-is .count;
-          count-is = omega (arith, many);
-          gap-is = refl;
-          value-is = d;
-          added-is = j .value-is .count;
-          small = (omega (arith, body-long), omega (arith, b, j .body-is .count), omega (arith, c, d), omega (arith, c, j .value-is .count));
-        }
+  growth : Growth (length body) (nodes e) (length held / 2) gap (length value) m x e v
+  growth =
+      let c = within v (j .value-is .fits) in
+      let d : length value ≡ size v = ap (λ (z : Bytes). length z) (j .value-is .bytes) in
+      record {
+        bytes-are = body-long;
+        nodes-are = refl;
+        count-is = omega (arith, many);
+        gap-is = j .gap-is;
+        value-is = d;
+        added-is = j .value-is .count;
+        small = (omega (arith, body-long, j .bytes-in, j .short), omega (arith, j .nodes-in, j .few), omega (arith, c, d), omega (arith, c, j .value-is .count));
+      }
 
-    pub few : k ≤ 4096
-    few = omega (arith, kept-are .ends, kept-small name e 0, within e (j .body-is .fits))
+  pub nodes-room : (length held / 2 * 1 ≤ n) × (n ≤ 65536) × (length held / 2 ≤ 65536) × (m ≤ 65536)
+  nodes-room = (omega (arith, nodes-go growth, j .nodes-in), omega (arith, j .few), count-small growth, growth .small .3)
 
-    result : spliced body value (2 + length name) 0 (places name e 0) (length body) ≡ encode (subst name v e)
-    result = rw (j .value-is .bytes) (spliced-term name v e body (j .body-is .bytes))
+  pub bytes-room : (length held / 2 * gap ≤ l) × (l ≤ 65536) × (length held / 2 ≤ 65536) × (length value ≤ 65536)
+  bytes-room = (omega (arith, bytes-go growth, body-long, j .bytes-in), omega (arith, j .short), count-small growth, growth .small .2)
 
-    module _ {p : ℕ} (ep : p ≡ n - (k / 2) * 1 + (k / 2) * m) where
-      pub total-small : others + p ≤ 4295100000
-      total-small =
-          omega (arith, ep, product (k / 2) m (count-small growth) (growth .small .3), j .beside .few, growth .small .1)
+  result : spliced body value gap 0 (places x e 0) (length body) ≡ encode (subst x v e)
+  result = rw (j .value-is .bytes, j .gap-is) (spliced-term x v e body (j .body-is))
 
-      total : p ≡ nodes (subst name v e)
-      total = ep ∙ nodes-after growth
+  module _ {p : ℕ} (ep : p ≡ n - length held / 2 * 1 + length held / 2 * m) where
+    total : p ≡ others + nodes (subst x v e)
+    total = omega (arith, ep, nodes-after growth, nodes-go growth, j .nodes-in)
 
-      pub too-many : {out : Bytes} → 512 < others + p → Puts others rest none (subst name v e) out out Outgrown
-      too-many {out} l = outgrown others rest (subst name v e) out (beside-many others rest (subst name v e) (omega (arith, total)))
+    pub too-many : {out : Bytes} → 512 < p → Puts others rest none (subst x v e) out out Outgrown
+    too-many {out} h = outgrown others rest (subst x v e) out (beside-many others rest (subst x v e) (omega (arith, total)))
 
-      module _ (few-enough : others + p ≤ 512) {q : ℕ} (eq : q ≡ length body - (k / 2) * (2 + length name) + (k / 2) * length value) where
-        pub long-small : rest + q ≤ 4295100000
-        long-small =
-            omega (arith, eq, product (k / 2) (length value) (count-small growth) (growth .small .2), j .beside .short, body-long)
+    module _ (few-enough : p ≤ 512) {q : ℕ} (eq : q ≡ l - length held / 2 * gap + length held / 2 * length value) where
+      long : q ≡ rest + size (subst x v e)
+      long = omega (arith, eq, bytes-after growth, bytes-go growth, body-long, j .bytes-in)
 
-        long : q ≡ size (subst name v e)
-        long = eq ∙ bytes-after growth
+      pub too-long : {out : Bytes} → 4096 < q → Puts others rest none (subst x v e) out out Outgrown
+      too-long {out} h = outgrown others rest (subst x v e) out (beside-long others rest (subst x v e) (omega (arith, total)) (omega (arith, long)))
 
-        pub too-long : {out : Bytes} → 4096 < rest + q → Puts others rest none (subst name v e) out out Outgrown
-        too-long {out} l = outgrown others rest (subst name v e) out (beside-long others rest (subst name v e) (omega (arith, total)) (omega (arith, long)))
+      module _ (short-enough : q ≤ 4096) {out : Bytes} (room : 4096 ≤ length out) where
+        left : Left body held gap value 0 0 out 0 (places x e 0)
+        left =
+            record {
+              held = j .held-are;
+              spaced = rw (j .gap-is) (spaced-term x v e body (j .body-is));
+              room = omega (arith, ap (λ (z : Bytes). length z) result, long);
+            }
 
-        module _ (short-enough : rest + q ≤ 4096) (h : 4096 ≤ length places₀) {out : Bytes} (room : 4096 ≤ length out) where
-          left : Left body (take (k - 0) places₁) (2 + length name) value 0 0 out 0 (places name e 0)
-          left =
-              record {
-                held = wrote-part kept-are (omega (arith, few));
-                spaced = spaced-term name v e body (j .body-is .bytes);
-                room = omega (arith, ap (λ (z : Bytes). length z) result, long);
-              }
+        pub splice-left : (ps : List ℕ) × Left body held gap value 0 0 out 0 ps
+        splice-left = (places x e 0, left)
 
-          pub splice-left : (ps : List ℕ) × Left body (take (k - 0) places₁) (2 + length name) value 0 0 out 0 ps
-          splice-left = (places name e 0, left)
-
-          pub put-whole : {out₁ : Bytes} {o₁ : ℕ}
-              → ((ps : List ℕ) → Left body (take (k - 0) places₁) (2 + length name) value 0 0 out 0 ps → Wrote out 0 (spliced body value (2 + length name) 0 ps (length body)) out₁ o₁)
-              → Puts others rest none (subst name v e) out out₁ (Written o₁ (others + p))
-          put-whole {out₁} {o₁} g =
-              let x : Wrote out 0 (encode (subst name v e)) out₁ o₁ = rw result at (g (places name e 0) left) in
-              let y = beside-yes others rest (subst name v e) (omega (arith, total)) (omega (arith, long)) in
-              let s : o₁ ≡ size (subst name v e) = omega (arith, x .ends) in
-              record { says = rw (y, s, total); leaves = rw y (x .holds) }
+        pub put-whole : {out₁ : Bytes} {o₁ : ℕ}
+            → ((ps : List ℕ) → Left body held gap value 0 0 out 0 ps → Wrote out 0 (spliced body value gap 0 ps (length body)) out₁ o₁)
+            → Puts others rest none (subst x v e) out out₁ (Written o₁ p)
+        put-whole {out₁} {o₁} g =
+            let w : Wrote out 0 (encode (subst x v e)) out₁ o₁ = rw result at (g (places x e 0) left) in
+            let y = beside-yes others rest (subst x v e) (omega (arith, total)) (omega (arith, long)) in
+            let s : o₁ ≡ size (subst x v e) = omega (arith, w .ends) in
+            record { says = rw (y, s, total); leaves = rw y (w .holds) }

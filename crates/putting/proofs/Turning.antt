@@ -1,81 +1,162 @@
--- Two substitutions in turn: the first makes a term by itself, with nothing beside it, and the second goes on from there.
--- Assumes nothing.
-use Prim.Native.Nat.{ℕ, _+_, _-_, _≤_}
-use mathlib.Core.Path.{_≡_, refl, sym, _∙_}
-use mathlib.Core.Bool.{Bool, true, false}
+-- Two substitutions in turn: the first makes a term by itself, and the second goes on from there. A substitution takes no nodes away, so
+-- where the first has too many in the whole, the second has. Assumes nothing.
+use Prim.Native.Nat.{ℕ, _+_, _-_, _*_, _<_, _≤_}
+use mathlib.Core.Path.{_≡_, refl, ap, _∙_}
+use mathlib.Core.Bool.{Bool, true, false, _&&_}
 use mathlib.Core.Option.{none, some}
+use native.Mathlib.Nat.{mul-le-mul-left}
 use native.Mathlib.Omega.{arith}
 use lib.ListN.{length, take}
 use lib.Seq.{sets}
-use Rattle.rules.specs.Basic.{Bytes, if_then_else_}
+use borrow.Author.Tests.{lt-leb, leb-true, leb-false}
+use Rattle.rules.specs.Basic.{Bytes, if_then_else_, _≤?_}
 use Rattle.rules.specs.Limits.{limits}
 use Rattle.rules.specs.Name.{Name}
-use Rattle.rules.specs.Term.{Term, encode, nodes, size, fits}
+use Rattle.rules.specs.Term.{Term, var, leaf, one, two, abs, both, branch, encode, nodes, size, fits}
+use Rattle.rules.specs.Free.{occurrences}
 use Rattle.rules.specs.Substitution.{subst}
+use Rattle.laws.specs.SubstSize.{subst-nodes}
+use Rattle.runs.specs.Wrote.{Wrote}
+use Rattle.substitution.specs.Places.{places, kept}
 use Rattle.substitution.proofs.Writes.{wrote-part}
-use Rattle.putting.specs.Beside.{fitsBeside, fits-alone}
+use Rattle.substitution.proofs.Finds.{kept-small}
+use Rattle.putting.specs.Beside.{fitsBeside}
 use Rattle.putting.specs.Put.{Putting, Turns, Puts}
 use Rattle.putting.specs.declared.Put.{Put}
 use Rattle.putting.specs.declared.Put.the-variants.{Written, Outgrown}
-use Rattle.putting.proofs.Puts.{within}
+use Rattle.putting.proofs.Puts.{fits-yes, beside-yes, beside-within, beside-many}
 
--- what `put_in` ensures of the first
-abbrev HalfIs : (body : Bytes) (n : ℕ) (a : Bytes) (k : ℕ) → Name → (half₀ half₁ : Bytes) → Put → Type 0
-HalfIs body n a k x half₀ half₁ r = (e v : Term) → Putting body n a k 0 0 e v → Puts 0 0 none (subst x v e) half₀ half₁ r
+some-node : (t : Term) → 1 ≤ nodes t
+unfolding nodes
+some-node (var x) = omega arith
+some-node (leaf k) = omega arith
+some-node (one k e) = omega arith
+some-node (two k a b) = omega arith
+some-node (abs x e) = omega arith
+some-node (both k x y e b) = omega arith
+some-node (branch x y e l r) = omega arith
 
--- what is known once the result tells which way it went
-record Went (u : Term) (half₀ half₁ : Bytes) (l c : ℕ) : Type 0 where
-  fit : fits limits u ≡ true
+no-fewer : (y : Name) (w u : Term) → nodes u ≤ nodes (subst y w u)
+no-fewer y w u =
+    let h : occurrences y u * 1 ≤ occurrences y u * nodes w = mul-le-mul-left (occurrences y u) (some-node w) in
+    omega (arith, subst-nodes y w u)
+
+not-both : (a : Bool) {b : Bool} → b ≡ false → (a && b) ≡ false
+not-both true e = e
+not-both false e = refl
+
+fits-long : (u : Term) → 4096 < size u → fits limits u ≡ false
+unfolding fits
+fits-long u h = not-both (nodes u ≤? 512) (lt-leb (size u) 4096 h)
+
+-- what is too large halfway is too large in the end
+too-large : (others rest : ℕ) (u z : Term) → fitsBeside others 0 u ≡ false → nodes u ≤ nodes z → (fits limits u && fitsBeside others rest z) ≡ false
+too-large others rest u z e h = go (others + nodes u ≤? 512) refl (size u ≤? 4096) refl
+  where
+    go : (b : Bool) → (others + nodes u ≤? 512) ≡ b → (d : Bool) → (size u ≤? 4096) ≡ d → (fits limits u && fitsBeside others rest z) ≡ false
+    go false q d r = not-both (fits limits u) (beside-many others rest z (omega (arith, leb-false (others + nodes u) 512 q)))
+    go true q false r = rw (fits-long u (leb-false (size u) 4096 r))
+    go true q true r =
+        let y = beside-yes others 0 u (leb-true (others + nodes u) 512 q) (omega (arith, leb-true (size u) 4096 r)) in
+        absurd (let f : false ≡ true = cc in let k : _≡_ {A = ℕ} 0 1 = cc in omega arith)
+
+-- what is known once the answer tells which way the first went
+record Went (others : ℕ) (u : Term) (half₀ half₁ : Bytes) (l c : ℕ) : Type 0 where
+  fit : (others + nodes u ≤ 512) × (0 + size u ≤ 4096)
   long : l ≡ size u
-  count : c ≡ nodes u
+  count : c ≡ others + nodes u
   leaves : half₁ ≡ sets half₀ 0 (encode u)
 
-went : (u : Term) (half₀ half₁ : Bytes) (r : Put) (l c : ℕ) → Puts 0 0 none u half₀ half₁ r → r ≡ Written l c → Went u half₀ half₁ l c
-went u half₀ half₁ r l c d is = go (fitsBeside 0 0 u) refl (d .says) (d .leaves)
+went : (others : ℕ) (u : Term) (half₀ half₁ : Bytes) (r : Put) (l c : ℕ) → Puts others 0 none u half₀ half₁ r → r ≡ Written l c → Went others u half₀ half₁ l c
+went others u half₀ half₁ r l c d is = go (fitsBeside others 0 u) refl (d .says) (d .leaves)
   where
-    go : (b : Bool) → fitsBeside 0 0 u ≡ b → r ≡ (if b then Written (size u) (0 + nodes u) else Outgrown) → half₁ ≡ (if b then sets half₀ 0 (encode u) else half₀) → Went u half₀ half₁ l c
-    go true y s h =
-        let n : c ≡ 0 + nodes u = cc in
-        record { fit = sym (fits-alone u) ∙ y; long = cc; count = omega arith; leaves = h }
+    go : (b : Bool) → fitsBeside others 0 u ≡ b → r ≡ (if b then Written (size u) (others + nodes u) else Outgrown) → half₁ ≡ (if b then sets half₀ 0 (encode u) else half₀) → Went others u half₀ half₁ l c
+    go true y s h = record { fit = beside-within others 0 u y; long = cc; count = cc; leaves = h }
     go false y s h = absurd (let z : _≡_ {A = ℕ} 0 1 = cc in omega arith)
 
-stuck : (u : Term) (half₀ half₁ : Bytes) (r : Put) → Puts 0 0 none u half₀ half₁ r → r ≡ Outgrown → fits limits u ≡ false
-stuck u half₀ half₁ r d is = go (fitsBeside 0 0 u) refl (d .says)
+stuck : (others : ℕ) (u : Term) (half₀ half₁ : Bytes) (r : Put) → Puts others 0 none u half₀ half₁ r → r ≡ Outgrown → fitsBeside others 0 u ≡ false
+stuck others u half₀ half₁ r d is = go (fitsBeside others 0 u) refl (d .says)
   where
-    go : (b : Bool) → fitsBeside 0 0 u ≡ b → r ≡ (if b then Written (size u) (0 + nodes u) else Outgrown) → fits limits u ≡ false
+    go : (b : Bool) → fitsBeside others 0 u ≡ b → r ≡ (if b then Written (size u) (others + nodes u) else Outgrown) → fitsBeside others 0 u ≡ false
     go true y s = absurd (let z : _≡_ {A = ℕ} 0 1 = cc in omega arith)
-    go false y s = sym (fits-alone u) ∙ y
+    go false y s = y
 
-module _ {body : Bytes} {n : ℕ} {a : Bytes} {k : ℕ} {b : Bytes} {m others rest : ℕ} {e v w : Term} (j : Turns body n a k b m others rest e v w) where
-  pub first-job : Putting body n a k 0 0 e v
-  first-job = record { beside = record { few = omega arith; short = omega arith }; body-is = j .body-is; value-is = j .first }
+module _ {body held : Bytes} {many gap : ℕ} {a : Bytes} {k : ℕ} {b : Bytes} {m n rest : ℕ} {x : Name} {e v w : Term} (j : Turns body held many gap a k b m n rest x e v w) where
+  abbrev others : ℕ
+  others = n - nodes e
 
-  module _ (x : Name) {half₀ half₁ : Bytes} (h : 4096 ≤ length half₀) {r : Put} (p : HalfIs body n a k x half₀ half₁ r) where
-    half-made : Puts 0 0 none (subst x v e) half₀ half₁ r
-    half-made = p e v first-job
+  abbrev u : Term
+  u = subst x v e
 
-    pub half-outgrown : (u : Term) (out : Bytes) → r ≡ Outgrown → Puts others rest (some (subst x v e)) u out out Outgrown
-    half-outgrown u out is = let y = stuck (subst x v e) half₀ half₁ r half-made is in record { says = rw y; leaves = rw y }
+  body-long : length body ≡ size e
+  body-long = ap (λ (z : Bytes). length z) (j .body-is)
+
+  pub first-job : Putting body (take (many - 0) held) gap a k n (length body) x e v
+  first-job =
+      let z : many - 0 ≡ many = omega arith in
+      record {
+        body-is = j .body-is;
+        held-are = rw z (j .held-are);
+        gap-is = j .gap-is;
+        value-is = j .first;
+        nodes-in = j .nodes-in;
+        bytes-in = omega (arith, body-long);
+        few = j .few;
+        short = omega (arith, body-long, j .short);
+      }
+
+  module _ {half₀ half₁ : Bytes} {r : Put} (p : Puts (n - nodes e) (length body - size e) none (subst x v e) half₀ half₁ r) where
+    half-made : Puts others 0 none u half₀ half₁ r
+    half-made = let z : length body - size e ≡ 0 = omega (arith, body-long) in rw z at p
+
+    pub half-outgrown : (y : Name) (out : Bytes) → r ≡ Outgrown → Puts others rest (some u) (subst y w u) out out Outgrown
+    half-outgrown y out is =
+        let q = too-large others rest u (subst y w u) (stuck others u half₀ half₁ r half-made is) (no-fewer y w u) in
+        record { says = rw q; leaves = rw q }
 
     module _ {l c : ℕ} (is : r ≡ Written l c) where
-      half : Went (subst x v e) half₀ half₁ l c
-      half = went (subst x v e) half₀ half₁ r l c half-made is
+      half : Went others u half₀ half₁ l c
+      half = went others u half₀ half₁ r l c half-made is
+
+      fit : fits limits u ≡ true
+      fit = fits-yes u (omega (arith, half .fit)) (omega (arith, half .fit))
 
       pub half-short : l ≤ 4096
-      half-short = omega (arith, half .long, within (subst x v e) (half .fit))
+      half-short = omega (arith, half .long, half .fit)
 
-      pub second-job : Putting (take (l - 0) half₁) c b m others rest (subst x v e) w
-      second-job =
-          record {
-            beside = j .beside;
-            body-is =
-                record {
-                  bytes = wrote-part (record { holds = half .leaves; ends = half .long ∙ omega arith }) (omega (arith, half-short));
-                  count = half .count;
-                  fits = half .fit;
-                };
-            value-is = j .second;
-          }
+      module _ (h : 4096 ≤ length half₀) where
+        bytes : take (l - 0) half₁ ≡ encode u
+        bytes = wrote-part (record { holds = half .leaves; ends = half .long ∙ omega arith }) (omega (arith, half-short))
 
-      pub finished : {u : Term} {out out′ : Bytes} {q : Put} → Puts others rest none u out out′ q → Puts others rest (some (subst x v e)) u out out′ q
-      finished d = record { says = rw (half .fit) (d .says); leaves = rw (half .fit) (d .leaves) }
+        long : length (take (l - 0) half₁) ≡ size u
+        long = ap (λ (z : Bytes). length z) bytes
+
+        pub half-term : {room : ℕ} → 4096 ≤ room → ((t : Term) × (take (l - 0) half₁ ≡ encode t)) × ((length (take (l - 0) half₁) ≤ 65536) × (length (take (l - 0) half₁) ≤ room))
+        half-term g = ((u, bytes), (omega (arith, long, half .fit), omega (arith, long, half .fit)))
+
+        module _ (y : Name) {places₀ places₁ : Bytes} {f : ℕ} (g : 4096 ≤ length places₀) (o : (t : Term) → take (l - 0) half₁ ≡ encode t → Wrote places₀ 0 (kept (places y t 0)) places₁ f) where
+          found : Wrote places₀ 0 (kept (places y u 0)) places₁ f
+          found = o u bytes
+
+          pub found-short : f ≤ 4096
+          found-short = omega (arith, found .ends, kept-small y u 0, half .fit)
+
+          pub second-job : Putting (take (l - 0) half₁) (take (f - 0) places₁) (2 + length y) b m c (rest + l) y u w
+          second-job =
+              record {
+                body-is = bytes;
+                held-are = wrote-part found (omega (arith, found-short));
+                gap-is = refl;
+                value-is = j .second;
+                nodes-in = omega (arith, half .count);
+                bytes-in = omega (arith, half .long);
+                few = omega (arith, half .count, half .fit);
+                short = omega (arith, half .long, half .fit, j .short);
+              }
+
+      pub finished : (y : Name) {out out′ : Bytes} {q : Put} → Puts (c - nodes u) (rest + l - size u) none (subst y w u) out out′ q → Puts others rest (some u) (subst y w u) out out′ q
+      finished y d =
+          let eo : c - nodes u ≡ others = omega (arith, half .count) in
+          let er : rest + l - size u ≡ rest = omega (arith, half .long) in
+          let d′ = rw (eo, er) at d in
+          record { says = rw fit (d′ .says); leaves = rw fit (d′ .leaves) }

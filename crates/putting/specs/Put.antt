@@ -1,34 +1,42 @@
--- What is written for a redex, and what it is made of: the body, and the values that go into it. Assumes nothing: these are definitions.
+-- What is written for a redex, and what it is made of: a body, the places of a name in it, and the values that go in. Assumes nothing: these are definitions.
 use Prim.Native.Nat.{ℕ, _+_, _≤_}
 use mathlib.Core.Path.{_≡_}
 use mathlib.Core.Bool.{_&&_}
 use mathlib.Core.Option.{Option}
-use lib.ListN.{length}
+use lib.ListN.{length, take}
 use lib.Seq.{sets}
 use Rattle.rules.specs.Basic.{Bytes, if_then_else_}
 use Rattle.rules.specs.Limits.{limits, outputRoom}
+use Rattle.rules.specs.Name.{Name}
 use Rattle.rules.specs.Term.{Term, encode, nodes, size}
 use Rattle.rules.specs.Step.{halfFits}
+use Rattle.substitution.specs.Places.{places, kept}
 use Rattle.spans.specs.Given.{Given}
 use Rattle.putting.specs.Beside.{fitsBeside}
 use Rattle.putting.specs.declared.Put.{Put}
 use Rattle.putting.specs.declared.Put.the-variants.{Written, Outgrown}
 
--- what is beside the redex breaks no limit
-pub record Beside (others rest : ℕ) : Type 0 where
-  pub few : others ≤ limits .nodes
-  pub short : rest ≤ limits .bytes
-
-pub record Putting (body : Bytes) (n : ℕ) (value : Bytes) (m others rest : ℕ) (e v : Term) : Type 0 where
-  pub beside : Beside others rest
-  pub body-is : Given body n e
+-- the body e, with the places where x is free in it; it stands in a whole of n nodes and l bytes, and the value v has m nodes
+pub record Putting (body held : Bytes) (gap : ℕ) (value : Bytes) (m n l : ℕ) (x : Name) (e v : Term) : Type 0 where
+  pub body-is : body ≡ encode e
+  pub held-are : held ≡ kept (places x e 0)
+  pub gap-is : gap ≡ 2 + length x
   pub value-is : Given value m v
+  pub nodes-in : nodes e ≤ n
+  pub bytes-in : size e ≤ l
+  pub few : n ≤ limits .nodes
+  pub short : l ≤ limits .bytes + limits .bytes
 
-pub record Turns (body : Bytes) (n : ℕ) (a : Bytes) (k : ℕ) (b : Bytes) (m others rest : ℕ) (e v w : Term) : Type 0 where
-  pub beside : Beside others rest
-  pub body-is : Given body n e
+-- the same for two values, v for x first; so many bytes of `held` are x's places, and beside the redex stand `rest` bytes
+pub record Turns (body held : Bytes) (many gap : ℕ) (a : Bytes) (k : ℕ) (b : Bytes) (m n rest : ℕ) (x : Name) (e v w : Term) : Type 0 where
+  pub body-is : body ≡ encode e
+  pub held-are : take many held ≡ kept (places x e 0)
+  pub gap-is : gap ≡ 2 + length x
   pub first : Given a k v
   pub second : Given b m w
+  pub nodes-in : nodes e ≤ n
+  pub few : n ≤ limits .nodes
+  pub short : rest + size e ≤ limits .bytes
 
 -- u is written if it fits beside so many other nodes and bytes, and what was there halfway fits by itself; else the output is as it was
 pub record Puts (others rest : ℕ) (half : Option Term) (u : Term) (out out′ : Bytes) (r : Put) : Type 0 where

@@ -1,7 +1,9 @@
-// What a redex becomes, written by itself. The sizes of the new whole are known before anything is written: beside the redex stand
-// `others` nodes and `rest` bytes.
+// What a redex becomes, written by itself. The sizes of the new whole are known before anything is written.
 ghost use mathlib.Core.Option.{none, some};
-ghost use Rattle.rules.specs.Term.{Term};
+ghost use Prim.Native.Nat.{_-_, _≤_};
+ghost use lib.ListN.{length};
+ghost use Rattle.rules.specs.Name.{Name};
+ghost use Rattle.rules.specs.Term.{Term, nodes as nodesOf, size as sizeOf};
 ghost use Rattle.rules.specs.Substitution.{subst};
 ghost use Rattle.putting.specs.Put.{Putting, Turns, Puts, Room};
 use rules::MOST_BYTES;
@@ -16,71 +18,81 @@ pub enum Put {
     Outgrown,
 }
 
-// The body with the value for the name.
+// The body with the value at each of its kept places. With the body as it is, the whole has so many nodes and bytes.
 pub fn put_in(
     body: &[u8],
-    nodes: usize,
-    name: &[u8],
+    places: &[u8],
+    gap: usize,
     value: &[u8],
     added: usize,
-    others: usize,
-    rest: usize,
-    places: &mut [u8],
+    nodes: usize,
+    length: usize,
     out: &mut [u8],
 ) -> Put
-    requires { ⌜ ((e : Term) × (v : Term) × Putting (now body) nodes (now value) added others rest e v) ⌝ }
-    requires { ⌜ Room (now places) × Room (now out) ⌝ }
-    ensures { λ r. ⌜ ((e : Term) → (v : Term) → Putting (now (body .entry)) nodes (now (value .entry)) added others rest e v → Puts others rest none (subst (now (name .entry)) v e) (now (out .entry)) (now (out .exit)) r) ⌝ }
+    requires { ⌜ ((x : Name) × (e : Term) × (v : Term) × Putting (now body) (now places) gap (now value) added nodes length x e v) ⌝ }
+    requires { ⌜ Room (now out) ⌝ }
+    ensures { λ r. ⌜ ((x : Name) → (e : Term) → (v : Term) → Putting (now (body .entry)) (now (places .entry)) gap (now (value .entry)) added nodes length x e v → Puts (nodes - nodesOf e) (length - sizeOf e) none (subst x v e) (now (out .entry)) (now (out .exit)) r) ⌝ }
 {
-    let kept = free_places(body, name, places);
-    let gap = 2 + name.len();
-    let count = kept / 2;
-    let total = others + grown(nodes, count, 1, added);
+    let count = places.len() / 2;
+    let total = grown(nodes, count, 1, added);
     if MOST_NODES < total {
         return Put::Outgrown;
     }
-    if MOST_BYTES < rest + grown(body.len(), count, gap, value.len()) {
+    if MOST_BYTES < grown(length, count, gap, value.len()) {
         return Put::Outgrown;
     }
-    let size = splice(body, &places[0..kept], gap, value, out, 0);
+    let size = splice(body, places, gap, value, out, 0);
     Put::Written { size, nodes: total }
 }
 
-// The body with a for x, then b for y in all that results; what the first makes is tested as a term by itself.
+// The body with a for x, whose places are kept, then b for y in all that results; what the first makes is tested as a term by itself.
+// Its nodes are no more than those of the whole, which the second does not lessen: so only its bytes are.
 pub fn in_turn(
     body: &[u8],
-    nodes: usize,
-    x: &[u8],
+    kept: usize,
+    gap: usize,
     a: &[u8],
     added: usize,
     y: &[u8],
     b: &[u8],
     more: usize,
-    others: usize,
+    nodes: usize,
     rest: usize,
     places: &mut [u8],
     half: &mut [u8],
     out: &mut [u8],
 ) -> Put
-    requires { ⌜ ((e : Term) × (v : Term) × (w : Term) × Turns (now body) nodes (now a) added (now b) more others rest e v w) ⌝ }
-    requires { ⌜ Room (now places) × Room (now half) × Room (now out) ⌝ }
-    ensures { λ r. ⌜ ((e : Term) → (v : Term) → (w : Term) → Turns (now (body .entry)) nodes (now (a .entry)) added (now (b .entry)) more others rest e v w → Puts others rest (some (subst (now (x .entry)) v e)) (subst (now (y .entry)) w (subst (now (x .entry)) v e)) (now (out .entry)) (now (out .exit)) r) ⌝ }
+    requires { ⌜ ((x : Name) × (e : Term) × (v : Term) × (w : Term) × Turns (now body) (now places) kept gap (now a) added (now b) more nodes rest x e v w) ⌝ }
+    requires { ⌜ (kept ≤ length (now places)) × Room (now places) × Room (now half) × Room (now out) ⌝ }
+    ensures { λ r. ⌜ ((x : Name) → (e : Term) → (v : Term) → (w : Term) → Turns (now (body .entry)) (now (places .entry)) kept gap (now (a .entry)) added (now (b .entry)) more nodes rest x e v w → Puts (nodes - nodesOf e) rest (some (subst x v e)) (subst (now (y .entry)) w (subst x v e)) (now (out .entry)) (now (out .exit)) r) ⌝ }
 {
-    match put_in(body, nodes, x, a, added, 0, 0, places, half) {
+    let other_gap = 2 + y.len();
+    match put_in(
+        body,
+        &places[0..kept],
+        gap,
+        a,
+        added,
+        nodes,
+        body.len(),
+        half,
+    ) {
         Put::Outgrown => Put::Outgrown,
         Put::Written {
             size,
             nodes: halfway,
-        } => put_in(
-            &half[0..size],
-            halfway,
-            y,
-            b,
-            more,
-            others,
-            rest,
-            places,
-            out,
-        ),
+        } => {
+            let found = free_places(&half[0..size], y, places);
+            put_in(
+                &half[0..size],
+                &places[0..found],
+                other_gap,
+                b,
+                more,
+                halfway,
+                rest + size,
+                out,
+            )
+        }
     }
 }

@@ -21,9 +21,8 @@ ghost use Rattle.rules.specs.Calls.{storeCall, loadCall};
 ghost use Rattle.stored.specs.Storing.{sizeWrong};
 ghost use Rattle.stored.specs.Answers.{Filled, accepted};
 
-mod block;
 mod blocks;
-mod sums;
+mod writing;
 
 // Refusal 10: stored length 0, no multiple of 512, or over 4,608.
 fn size_wrong(size: usize) -> bool

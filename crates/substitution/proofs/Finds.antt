@@ -14,13 +14,13 @@ use Rattle.rules.specs.Term.{Term, encode, size, parts}
 use Rattle.rules.specs.Free.{occurrences}
 use Rattle.laws.specs.SubstSize.{occurrences-bytes}
 use Rattle.runs.specs.Wrote.{Wrote}
+use Rattle.runs.specs.Writing.{chain, wrote-none, wrote-length}
 use Rattle.walk.specs.Node.{head, encodeAll, hides, hidden}
 use Rattle.walk.specs.Place.{TermAt, TermsAt}
 use Rattle.walk.specs.Seen.{Seen}
 use Rattle.walk.specs.declared.Node.{Node}
 use Rattle.walk.proofs.Terms.{Some, SkipIs, skip-one, apart-size, at-inside, at-end, at-parts, first, others, some-first}
 use Rattle.substitution.specs.Places.{places, placesAll, kept}
-use Rattle.substitution.proofs.Writes.{chain, wrote-none, wrote-length}
 use Rattle.substitution.proofs.Shapes.{var-size, var-parts, var-places, node-places, places-many}
 
 -- ---- what is kept
@@ -126,7 +126,7 @@ module _ {s : Bytes} {at n mask : ℕ} {x : Name} {out₀ : Bytes} {to : ℕ} {o
       bare-end t w e = omega (arith, f t w .start, apart-size t, ap (λ (z : List Term). length (encodeAll z)) e)
 
       module _ (hit : node .is ≡ true) where
-        hit-end : (t : Term) → TermAt s i t → node .start ≡ i + size t
+        pub hit-end : (t : Term) → TermAt s i t → node .start ≡ i + size t
         hit-end t w = bare-end t w (var-parts x t (sym (f t w .is) ∙ hit))
 
         pub hit-further : (i + 2 ≤ node .start) × (node .start ≤ length s)
@@ -139,7 +139,7 @@ module _ {s : Bytes} {at n mask : ℕ} {x : Name} {out₀ : Bytes} {to : ℕ} {o
         hit-turn out₁ o₁ w = turn (node .start) hit-end out₁ o₁ (λ t u. rw (open-first t, var-places x t i (sym (f t u .is) ∙ hit)) w)
 
       module _ (miss : node .is ≡ false) where
-        seen-places : (t : Term) → TermAt s i t → places x t i ≡ placesAll x (node .hides) (parts t) (node .start)
+        pub seen-places : (t : Term) → TermAt s i t → places x t i ≡ placesAll x (node .hides) (parts t) (node .start)
         seen-places t w =
             node-places x t i (sym (f t w .is) ∙ miss)
             ∙ ap (λ (m : ℕ). placesAll x m (parts t) (i + length (head t))) (sym (f t w .hides))
@@ -198,7 +198,7 @@ module _ {s : Bytes} {at n mask : ℕ} {x : Name} {out₀ : Bytes} {to : ℕ} {o
 
         -- gone into
         module _ (m o₁ : ℕ) (out₁ : Bytes) (h : FindIs s (node .start) (node .parts) (node .hides) x out o m o₁ out₁) where
-          deep-end : (t : Term) → TermAt s i t → m ≡ i + size t
+          pub deep-end : (t : Term) → TermAt s i t → m ≡ i + size t
           deep-end t w = omega (arith, h (parts t) (seen-parts t w) .0, f t w .start, apart-size t)
 
           pub deep-further : (i < m) × (m ≤ length s)

@@ -3,6 +3,8 @@ pub mod Writes
 pub mod Shapes
 pub mod Splices
 pub mod Finds
+mod Passings
+mod Sweeps
 mod Splicing
 pub mod Growths
 mod Works

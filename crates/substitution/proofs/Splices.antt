@@ -11,12 +11,12 @@ use Rattle.rules.specs.Basic.{Bytes, if_then_else_}
 use Rattle.rules.specs.Name.{Name}
 use Rattle.rules.specs.Term.{Term, var, leaf, one, two, abs, both, branch, encode, size, parts}
 use Rattle.rules.specs.Substitution.{subst}
+use Rattle.runs.specs.Writing.{slice-split, slice-is}
 use Rattle.walk.specs.Node.{head, encodeAll, isVar, hides, hidden}
 use Rattle.walk.specs.Place.{TermAt, TermsAt}
 use Rattle.walk.proofs.Terms.{apart, at-parts, first, others, whole}
 use Rattle.substitution.specs.Places.{places, placesAll}
 use Rattle.substitution.specs.Spliced.{spliced, Spaced}
-use Rattle.substitution.proofs.Writes.{slice-split, slice-is}
 use Rattle.substitution.proofs.Shapes.{substAll, var-size, var-places, var-subst, node-subst, node-places}
 
 module _ (s v : Bytes) (gap : ℕ) where

@@ -7,10 +7,10 @@ use lib.ListN.{length, getD, length-append}
 use lib.Seq.{slice, length-slice, take-length}
 use Rattle.rules.specs.Basic.{Bytes, low-high}
 use Rattle.runs.specs.Wrote.{Wrote}
+use Rattle.runs.specs.Writing.{chain, wrote-length}
 use Rattle.walk.proofs.Names.{drop-app, head-byte, long}
 use Rattle.substitution.specs.Places.{kept}
 use Rattle.substitution.specs.Spliced.{spliced, Spaced, Left}
-use Rattle.substitution.proofs.Writes.{chain, wrote-length}
 
 -- what `splice` ensures, from a place on
 abbrev pub SpliceIs : Bytes → Bytes → ℕ → Bytes → ℕ → ℕ → Bytes → ℕ → ℕ → Bytes → Type 0

@@ -5,7 +5,7 @@ use mathlib.Core.Path.{_≡_, refl, sym, ap, _∙_}
 use mathlib.Core.Bool.{Bool, true, false}
 use mathlib.Core.List.{List, _++_}
 use native.Mathlib.Omega.{arith}
-use lib.ListN.{length, take, replicate, length-append, length-replicate}
+use lib.ListN.{length, take, replicate}
 use lib.Seq.{sets}
 use borrow.Author.Tests.{leb-true}
 use Rattle.rules.specs.Basic.{Bytes, _≤?_}
@@ -18,11 +18,12 @@ use Rattle.rules.specs.Free.{occurrences}
 use Rattle.rules.specs.Substitution.{subst}
 use Rattle.laws.specs.Same.{both-true}
 use Rattle.runs.specs.Wrote.{Wrote}
+use Rattle.runs.specs.Writing.{wrote-length, filled-up}
 use Rattle.substitution.specs.Places.{places, kept}
 use Rattle.substitution.specs.Spliced.{spliced, Left}
 use Rattle.substitution.specs.Sizes.{Growth}
 use Rattle.substitution.specs.Work.{Job, Done}
-use Rattle.substitution.proofs.Writes.{chain, wrote-length, sets-all, wrote-part, zeros}
+use Rattle.substitution.proofs.Writes.{wrote-part, zeros}
 use Rattle.substitution.proofs.Shapes.{places-many}
 use Rattle.substitution.proofs.Splices.{spliced-term, spaced-term}
 use Rattle.substitution.proofs.Finds.{kept-length, kept-small}
@@ -87,14 +88,7 @@ module _ {term name value out scratch : Bytes} {n m : ℕ} {t v : Term} (j : Job
 
         module _ (out₂ scratch₂ : Bytes) (p : out₂ ≡ sets out₁ end (replicate (length out₁ - end) 0)) (q : scratch₂ ≡ sets scratch₁ 0 (replicate (length scratch₁ - 0) 0)) where
           zeros-behind : out₂ ≡ encode (subst name v t) ++ replicate (length out - size (subst name v t)) 0
-          zeros-behind =
-              let u : Bytes = encode (subst name v t) in
-              let d : length out₁ - end ≡ length out - size (subst name v t) = omega (arith, written .ends, wrote-length written) in
-              let w : Wrote out 0 (u ++ replicate (length out - size (subst name v t)) 0) out₂ (end + length (replicate {A = ℕ} (length out - size (subst name v t)) 0)) =
-              chain written (record { holds = p ∙ ap (λ (z : ℕ). sets out₁ end (replicate z 0)) d; ends = refl }) in
-              w .holds
-              ∙ sets-all out (u ++ replicate (length out - size (subst name v t)) 0)
-              (omega (arith, length-append u (replicate (length out - size (subst name v t)) 0), length-replicate {A = ℕ} (length out - size (subst name v t)) 0, fit, j .out-room))
+          zeros-behind = filled-up written p (omega (arith, fit, j .out-room))
 
           pub done : Done name t v out scratch (Good end) out₂ scratch₂
           done =

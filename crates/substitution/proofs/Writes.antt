@@ -1,46 +1,12 @@
--- Runs of bytes: a slice cut in two, and two writes one after the other. Assumes nothing.
-use Prim.Native.Nat.{ℕ, zero, suc, _+_, _-_, _≤_}
-use mathlib.Core.Path.{_≡_, refl, sym, ap, _∙_}
-use mathlib.Core.List.{List, [], _∷_, _++_, append-nil}
-use native.Mathlib.Nat.{add-zero, zero-add, suc-add, le-of-suc-le-suc, not-suc-le-zero}
+-- What was written from the start of a list, up to where it ends or over all of it. Assumes nothing.
+use Prim.Native.Nat.{ℕ, _+_, _-_, _≤_}
+use mathlib.Core.Path.{_≡_, sym, ap, _∙_}
+use mathlib.Core.List.{List, _++_, append-nil}
 use native.Mathlib.Omega.{arith}
-use lib.ListN.{length, drop, take, set, replicate, length-append, length-replicate, drop-of-length-le}
-use lib.Seq.{sets, sets-eq, length-sets, slice, take-at, take-append-seam, take-nil}
+use lib.ListN.{length, drop, take, replicate, length-replicate, drop-of-length-le}
+use lib.Seq.{sets, sets-eq, take-at}
 use Rattle.runs.specs.Wrote.{Wrote}
-
-pub slice-split : (i j k : ℕ) (s : List ℕ) → i ≤ j → j ≤ k → slice i k s ≡ slice i j s ++ slice j k s
-slice-split zero zero k s h g = refl
-slice-split zero (suc j) zero s h g = absurd (not-suc-le-zero g)
-slice-split zero (suc j) (suc k) [] h g = refl
-slice-split zero (suc j) (suc k) (x ∷ s) h g = ap (λ (l : List ℕ). x ∷ l) (slice-split zero j k s (omega arith) (le-of-suc-le-suc g))
-slice-split (suc i) zero k s h g = absurd (not-suc-le-zero h)
-slice-split (suc i) (suc j) zero s h g = absurd (not-suc-le-zero g)
-slice-split (suc i) (suc j) (suc k) [] h g = refl
-slice-split (suc i) (suc j) (suc k) (x ∷ s) h g = slice-split i j k s (le-of-suc-le-suc h) (le-of-suc-le-suc g)
-
--- a run of bytes, as a slice
-pub slice-is : (i : ℕ) (s a b : List ℕ) → drop i s ≡ a ++ b → slice i (i + length a) s ≡ a
-slice-is zero s a b e = rw (zero-add, e) (take-append-seam a b)
-slice-is (suc i) [] [] b e = rw take-nil
-slice-is (suc i) [] (x ∷ a) b e = absurd (omega (arith, ap (λ (z : List ℕ). length z) e))
-slice-is (suc i) (x ∷ s) a b e = rw suc-add (slice-is i s a b e)
-
-sets-app : (xs ys l : List ℕ) (i : ℕ) → sets l i (xs ++ ys) ≡ sets (sets l i xs) (i + length xs) ys
-sets-app [] ys l i = rw add-zero
-sets-app (x ∷ xs) ys l i = sets-app xs ys (set l i x) (suc i) ∙ ap (λ (k : ℕ). sets (sets (set l i x) (suc i) xs) k ys) (omega arith)
-
-pub chain : {out out₁ out₂ xs ys : List ℕ} {to o p : ℕ} → Wrote out to xs out₁ o → Wrote out₁ o ys out₂ p → Wrote out to (xs ++ ys) out₂ p
-chain {out} {out₁} {out₂} {xs} {ys} {to} {o} {p} a b =
-    record {
-      holds = b .holds ∙ ap (λ (z : List ℕ). sets z o ys) (a .holds) ∙ ap (λ (k : ℕ). sets (sets out to xs) k ys) (a .ends) ∙ sym (sets-app xs ys out to);
-      ends = omega (arith, a .ends, b .ends, length-append xs ys);
-    }
-
-pub wrote-none : (out : List ℕ) (to : ℕ) → Wrote out to [] out to
-wrote-none out to = record { holds = refl; ends = omega arith }
-
-pub wrote-length : {out out₁ xs : List ℕ} {to o : ℕ} → Wrote out to xs out₁ o → length out₁ ≡ length out
-wrote-length {out} {out₁} {xs} {to} {o} w = ap (λ (z : List ℕ). length z) (w .holds) ∙ length-sets out to xs
+pub use Rattle.runs.specs.Writing.{slice-is, chain, wrote-length}
 
 -- a write that fills the list
 pub sets-all : (l zs : List ℕ) → length zs ≡ length l → sets l 0 zs ≡ zs

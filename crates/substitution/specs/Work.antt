@@ -7,7 +7,7 @@ use Rattle.rules.specs.Limits.{limits, outputRoom}
 use Rattle.rules.specs.Refusal.{Outcome, good, refused, answered}
 use Rattle.rules.specs.declared.Answer.{Answer}
 use Rattle.rules.specs.Name.{Name}
-use Rattle.rules.specs.Term.{Term, encode, nodes}
+use Rattle.rules.specs.Term.{Term, nodes}
 use Rattle.rules.specs.Substitution.{subst}
 use Rattle.rules.specs.Buffers.{bytesOr, filled}
 use Rattle.rules.specs.Calls.{grown}

@@ -11,6 +11,7 @@ use rules::OUTPUT_ROOM;
 use rules::Refusal;
 use rules::SCRATCH_ROOM;
 
+pub mod passing;
 pub mod places;
 pub mod sizes;
 pub mod splice;

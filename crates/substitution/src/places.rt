@@ -9,6 +9,7 @@ ghost use Rattle.runs.specs.Wrote.{Wrote};
 ghost use Rattle.walk.specs.Node.{encodeAll};
 ghost use Rattle.walk.specs.Place.{TermAt, TermsAt};
 ghost use Rattle.substitution.specs.Places.{places as placesOf, placesAll, kept};
+use crate::passing;
 
 // Keeps a place, low byte first.
 fn keep(places: &mut [u8], to: usize, place: usize) -> usize
@@ -78,13 +79,36 @@ fn find(
 }
 
 // Keeps where `name` is free in the term s, and returns how many bytes that took.
+// A node's parts follow it, so the nodes are passed as they stand; the parts of one that binds the name are walked by `find`.
 pub fn free_places(s: &[u8], name: &[u8], places: &mut [u8]) -> usize
     requires { ⌜ ((t : Term) × (now s ≡ encode t)) ⌝ }
     requires { ⌜ (length (now s) ≤ 65536) × (length (now s) ≤ length (now places)) ⌝ }
     ensures { λ r. ⌜ ((t : Term) → now (s .entry) ≡ encode t → Wrote (now (places .entry)) 0 (kept (placesOf (now (name .entry)) t 0)) (now (places .exit)) r) ⌝ }
 {
-    let f = find(s, 0, 1, 0, name, places, 0);
-    f.to
+    let last = passing::ending(name);
+    let mut i = 0;
+    let mut o = 0;
+    while i < s.len() {
+        let start = passing::pass(s, i, last);
+        if start != 0 {
+            i = start;
+            continue;
+        }
+        let node = walk::look(s, i, name);
+        if node.is {
+            o = keep(places, o, i);
+            i = node.start;
+            continue;
+        }
+        if node.hides == 0 {
+            i = node.start;
+            continue;
+        }
+        let f = find(s, node.start, node.parts, node.hides, name, places, o);
+        i = f.next;
+        o = f.to;
+    }
+    o
 }
 
 // Keeps where `name` is free in the term at the start of s, and tells where that ends.

@@ -1,6 +1,6 @@
 // Bytes with a value in the place of some of their runs. Nothing here knows a tag.
 ghost use mathlib.Core.List.{List};
-ghost use Prim.Native.Nat.{ℕ, _+_, _-_, _<_};
+ghost use Prim.Native.Nat.{ℕ, _+_, _<_};
 ghost use lib.ListN.{length};
 ghost use Rattle.runs.specs.Wrote.{Wrote};
 ghost use Rattle.substitution.specs.Spliced.{spliced, Left};

@@ -1,15 +1,15 @@
 -- Eight bytes that are stored, of which the first n count: what stands before them is kept, and printing goes on after the n.
 -- Assumes nothing.
-use Prim.Native.Nat.{ℕ, suc, _+_, _-_, _≤_}
+use Prim.Native.Nat.{ℕ, zero, suc, _+_, _-_, _≤_}
 use mathlib.Core.Path.{_≡_, refl, sym, ap, _∙_}
-use mathlib.Core.List.{List, [], _∷_, _++_, append-assoc}
-use native.Mathlib.Nat.{add-zero}
+use mathlib.Core.List.{List, [], _∷_, _++_, append-assoc, append-nil}
+use native.Mathlib.Nat.{add-zero, zero-add}
 use native.Mathlib.Omega.{arith}
-use lib.ListN.{length, getD, take, drop, set, length-append, length-drop}
+use lib.ListN.{length, getD, take, drop, set, length-append, length-drop, length-replicate}
 use lib.Seq.{sets, sets-eq, length-sets, length-take-le, take-append-add, take-append-le, take-add, take-take, take-length, drop-cons, drop-drop, drop-at, slice, length-slice}
 use Rattle.runs.specs.Wrote.{Wrote}
 use Rattle.words.specs.Steps.{chain}
-use Rattle.words.specs.Prints.{Prints}
+use Rattle.words.specs.Prints.{Prints, eight, brackets}
 
 pub stores : (out : List ℕ) (to a b c d e f g h : ℕ)
     → set (set (set (set (set (set (set (set out to a) (to + 1) b) (to + 2) c) (to + 3) d) (to + 4) e) (to + 5) f) (to + 6) g) (to + 7) h
@@ -89,15 +89,12 @@ more s out a b i to n fits ea eb =
     ∙ ap (λ (ys : List ℕ). sets out to (take n l ++ take 8 ys)) (sym (drop-drop n i s))
     ∙ ap (sets out to) (sym (take-add n 8 l))
 
--- a name of n bytes, copied with 24
-pub whole : (s out a b c : List ℕ) (i to n : ℕ) → n ≤ 24 → i + 24 ≤ length s → to + 24 ≤ length out
-    → a ≡ sets out to (take 8 (drop i s)) → b ≡ sets a (to + 8) (take 8 (drop (i + 8) s)) → c ≡ sets b (to + 16) (take 8 (drop (i + 16) s))
-    → Prints out to (take n (drop i s)) c (to + n)
-whole s out a b c i to n few fits room ea eb ec =
-    let e : c ≡ sets out to (take 24 (drop i s)) = more s out b c i to 16 (omega arith) (more s out a b i to 8 (omega arith) ea eb) ec in
-    let k : length (take 24 (drop i s)) ≡ 24 = length-take-le 24 (drop i s) (omega (arith, length-drop i s)) in
-    let t : take n (take 24 (drop i s)) ≡ take n (drop i s) = take-take n 24 (drop i s) few in
-    rw t at (prints out (take 24 (drop i s)) to n (omega arith) (omega arith) c e)
+-- the first n of m bytes that were copied
+pub copied : (s out c : List ℕ) (i to m n : ℕ) → n ≤ m → i + m ≤ length s → to + m ≤ length out → c ≡ sets out to (take m (drop i s)) → Prints out to (take n (drop i s)) c (to + n)
+copied s out c i to m n few fits room e =
+    let k : length (take m (drop i s)) ≡ m = length-take-le m (drop i s) (omega (arith, length-drop i s)) in
+    let t : take n (take m (drop i s)) ≡ take n (drop i s) = take-take n m (drop i s) few in
+    rw t at (prints out (take m (drop i s)) to n (omega arith) (omega arith) c e)
 
 -- a name of n bytes, copied with n
 pub exact : (s out out′ : List ℕ) (i to n past : ℕ) → i + n ≤ length s → to + n ≤ length out → Wrote out to (slice i (i + n) s) out′ past
@@ -129,3 +126,39 @@ with-space out xs o to p n l h room a =
     let b : Prints o p (32 ∷ []) (set o p 32) (p + 1) = prints o (32 ∷ []) p 1 (omega arith) (omega (arith, a .long)) (set o p 32) refl in
     let c : Prints out to (xs ++ 32 ∷ []) (set o p 32) (p + 1) = chain a b in
     rw (← q) (fewer n (omega (arith, length-append xs (32 ∷ []))) (omega arith) c)
+
+-- ---- brackets
+brackets-add : (m n : ℕ) → brackets (m + n) ≡ brackets m ++ brackets n
+brackets-add zero n = ap (λ (k : ℕ). brackets k) (zero-add n)
+brackets-add (suc m) n =
+    let q : suc m + n ≡ suc (m + n) = omega arith in
+    ap (λ (k : ℕ). brackets k) q ∙ ap (λ (l : List ℕ). 41 ∷ l) (brackets-add m n)
+
+brackets-few : (m n : ℕ) → n ≤ m → take n (brackets m) ≡ brackets n
+brackets-few m zero h = refl
+brackets-few zero (suc n) h = absurd (omega arith)
+brackets-few (suc m) (suc n) h = ap (λ (l : List ℕ). 41 ∷ l) (brackets-few m n (omega arith))
+
+-- All but `left` of n are printed.
+pub record Closing (out : List ℕ) (to n : ℕ) (o : List ℕ) (p left : ℕ) : Type 0 where
+  pub few : left ≤ n
+  pub done : Prints out to (brackets (n - left)) o p
+
+pub none-yet : (out : List ℕ) (to n : ℕ) → Closing out to n out to n
+none-yet out to n =
+    let z : n - n ≡ 0 = omega arith in
+    record { few = omega arith; done = rw z (record { long = refl; ends = omega arith; holds = sym (append-nil (take to out)) }) }
+
+pub still-room : {out : List ℕ} {to n : ℕ} {o : List ℕ} {p left : ℕ} → Closing out to n o p left → to + n + 8 ≤ length out → p + left + 8 ≤ length o
+still-room {n = n} {left = left} g h = omega (arith, g .few, g .done .long, g .done .ends, length-replicate {A = ℕ} (n - left) 41)
+
+module _ {out : List ℕ} {to n : ℕ} {o : List ℕ} {p left : ℕ} (g : Closing out to n o p left) {o′ : List ℕ} {q : ℕ} (k : ℕ) (h : k ≤ left) (e : k ≤ 8) (a : Prints o p (take k (eight 0x2929292929292929)) o′ q) where
+  pub some-more : Closing out to n o′ q (left - k)
+  some-more =
+      let b : Prints o p (brackets k) o′ q = rw (brackets-few 8 k e) at a in
+      let f = g .few in
+      let m : n - (left - k) ≡ n - left + k = omega arith in
+      record { few = omega arith; done = rw (m, brackets-add (n - left) k) (chain (g .done) b) }
+
+  pub all-closed : k ≡ left → Prints out to (brackets n) o′ q
+  all-closed l = let m : n - (left - k) ≡ n = omega arith in rw m at (some-more .done)

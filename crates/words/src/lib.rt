@@ -4,8 +4,11 @@ ghost use mathlib.Core.List.{[], _∷_, _++_};
 ghost use Prim.Native.Nat.{_+_, _-_, _≤_, _<_};
 ghost use lib.ListN.{length, getD, take, drop};
 ghost use lib.Seq.{sets};
-ghost use Rattle.words.specs.Prints.{Prints, eight};
+ghost use Rattle.words.specs.Prints.{Prints, eight, brackets};
 ghost use Rattle.words.specs.Task.{places as placesOf};
+
+// Eight closing brackets, as the bytes of a number.
+const BRACKETS: u64 = 0x2929292929292929;
 
 // Eight bytes; they become one store.
 fn store(out: &mut [u8], to: usize, a: u8, b: u8, c: u8, d: u8, e: u8, f: u8, g: u8, h: u8)
@@ -83,6 +86,19 @@ pub fn name(s: &[u8], at: usize, out: &mut [u8], to: usize) -> usize
     runs::copy(s, from, from + n, out, to)
 }
 
+// At most 16 bytes of s, from `from` on.
+pub fn few(s: &[u8], from: usize, n: usize, out: &mut [u8], to: usize) -> usize
+    requires { ⌜ (n ≤ 16) × (from + n ≤ length (now s)) × (to + 16 ≤ length (now out)) ⌝ }
+    ensures { λ r. ⌜ Prints (now (out .entry)) to (take n (drop from (now (s .entry)))) (now (out .exit)) r ⌝ }
+{
+    if from + 16 <= s.len() {
+        copy_eight(s, from, out, to);
+        copy_eight(s, from + 8, out, to + 8);
+        return to + n;
+    }
+    runs::copy(s, from, from + n, out, to)
+}
+
 // A name, then the first n bytes of a word.
 pub fn named(s: &[u8], at: usize, out: &mut [u8], to: usize, w: &[u8; 8], n: usize) -> usize
     requires { ⌜ (getD (now s) at 0 ≤ 24) × (at + 1 + getD (now s) at 0 ≤ length (now s)) × (to + 24 ≤ length (now out)) ⌝ }
@@ -118,6 +134,20 @@ pub fn byte(out: &mut [u8], to: usize, b: u8) -> usize
 {
     out[to] = b;
     to + 1
+}
+
+// So many closing brackets, eight at a time.
+pub fn closes(out: &mut [u8], to: usize, n: usize) -> usize
+    requires { ⌜ to + n + 8 ≤ length (now out) ⌝ }
+    ensures { λ r. ⌜ Prints (now (out .entry)) to (brackets n) (now (out .exit)) r ⌝ }
+{
+    let mut o = to;
+    let mut left = n;
+    while 8 < left {
+        o = number(out, o, BRACKETS, 8);
+        left -= 8;
+    }
+    number(out, o, BRACKETS, left)
 }
 
 // A place in the bytes and a place in the text, in one number, which comes back in a register.

@@ -8,7 +8,9 @@ pub const NAMES: [&str; 4] = ["deep", "wide", "many binders", "many names"];
 /// The term of that family with about so many nodes.
 pub fn term(family: &str, nodes: usize) -> Term {
     match family {
-        "deep" => (1..nodes).fold(var("x"), |inner, i| if i % 2 == 0 { Term::Promote(Box::new(inner)) } else { Term::Inl(Box::new(inner)) }),
+        "deep" => {
+            (1..nodes).fold(var("x"), |inner, i| if i % 2 == 0 { Term::Promote(Box::new(inner)) } else { Term::Inl(Box::new(inner)) })
+        }
         "wide" => wide(nodes.div_ceil(2), &mut 0, &|i| ["a", "b1", "in_left", "x"][i % 4].to_string()),
         "many binders" => (0..nodes / 3).rev().fold(var("x"), |rest, i| {
             let name = format!("v{i}");

@@ -1,34 +1,71 @@
-//! Instructions for each byte of input: valgrind counts a run of few and a run of many repeats, and the difference is the repeats' own.
+//! Instructions for each byte of input. One run under valgrind goes over all rows; it counts inside `patch_bench_counted` alone and writes a file
+//! each time that this is left, so each file has one side of one row.
 
-use crate::rows::Row;
+use crate::rows::{rows, Row};
+use std::hint::black_box;
+use std::path::Path;
 use std::process::{Command, ExitCode};
 
-const FEW: u64 = 1;
-const MANY: u64 = 51;
-
-pub fn table(rows: &[Row]) -> ExitCode {
-    println!("{:<36} {:>6} {:>6}  {:<10} {:>10} {:>10}", "call", "nodes", "bytes", "beside", "its", "port");
-    for (i, row) in rows.iter().enumerate() {
-        let per_byte = |side| Some((counted(i, side, MANY)? - counted(i, side, FEW)?) as f64 / ((MANY - FEW) as f64 * row.bytes as f64));
-        let (Some(other), Some(port)) = (per_byte("other"), per_byte("port")) else {
-            eprintln!("valgrind did not count");
-            return ExitCode::FAILURE;
-        };
-        let bytes = row.bytes / row.inputs;
-        println!("{:<36} {:>6} {:>6}  {:<10} {:>10.2} {:>10.2}", row.name, row.nodes, bytes, row.other_name, other, port);
-    }
-    println!("instructions for each byte of input");
-    ExitCode::SUCCESS
+#[no_mangle]
+#[inline(never)]
+pub fn patch_bench_counted(side: &dyn Fn()) {
+    side();
+    // or it would be left before the side begins
+    black_box(());
 }
 
-fn counted(row: usize, side: &str, times: u64) -> Option<u64> {
-    let this = std::env::current_exe().ok()?;
-    let output = Command::new("valgrind")
-        .args(["--tool=callgrind", "--callgrind-out-file=/dev/null"])
-        .arg(this)
-        .args(["once", &row.to_string(), side, &times.to_string()])
-        .output()
-        .ok()?;
-    let said = String::from_utf8_lossy(&output.stderr).into_owned();
-    said.lines().find_map(|line| line.split_once("Collected : ")?.1.trim().parse().ok())
+/// One side, once to warm up and once to be counted. It has a frame of its own, by whose end valgrind sees on every machine that the call is over.
+#[inline(never)]
+fn one(side: &dyn Fn()) {
+    let frame = black_box([0u64; 4]);
+    side();
+    patch_bench_counted(side);
+    black_box(frame);
+}
+
+/// What valgrind runs.
+pub fn counted(word: &str) {
+    for row in rows(word) {
+        let sides = row.sides();
+        one(&*sides.other);
+        one(&*sides.port);
+    }
+}
+
+pub fn table(word: &str) -> ExitCode {
+    let folder = std::env::temp_dir().join(format!("patch-bench-{}", std::process::id()));
+    let outcome = std::fs::create_dir_all(&folder).ok().and_then(|()| print(word, &folder));
+    let _ = std::fs::remove_dir_all(&folder);
+    if outcome.is_none() {
+        eprintln!("valgrind did not count");
+    }
+    ExitCode::from(outcome.is_none() as u8)
+}
+
+fn print(word: &str, folder: &Path) -> Option<()> {
+    let rows = rows(word);
+    let mut out_file = std::ffi::OsString::from("--callgrind-out-file=");
+    out_file.push(folder.join("count"));
+    let counting = ["--tool=callgrind", "--toggle-collect=patch_bench_counted", "--dump-after=patch_bench_counted"];
+    let ended =
+        Command::new("valgrind").args(counting).arg(out_file).arg(std::env::current_exe().ok()?).args(["counted", word]).output().ok()?;
+    ended.status.success().then_some(())?;
+    let wide = crate::widest(&rows);
+    println!("{:<wide$} {:>6} {:>6}  {:<10} {:>10} {:>10}", "call", "nodes", "bytes", "beside", "its", "port");
+    for (i, row) in rows.into_iter().enumerate() {
+        let Row { name, nodes, beside, .. } = &row;
+        let head = format!("{name:<wide$} {nodes:>6}");
+        let beside = *beside;
+        let sides = row.sides();
+        let per_byte = |part: usize| Some(count(&folder.join(format!("count.{part}")))? as f64 / sides.bytes as f64);
+        println!("{head} {:>6}  {beside:<10} {:>10.2} {:>10.2}", sides.bytes / sides.inputs, per_byte(2 * i + 1)?, per_byte(2 * i + 2)?);
+    }
+    println!("instructions for each byte of input");
+    Some(())
+}
+
+/// The total of one file.
+fn count(file: &Path) -> Option<u64> {
+    let text = std::fs::read_to_string(file).ok()?;
+    text.lines().find_map(|line| line.strip_prefix("summary: ").or(line.strip_prefix("totals: "))?.trim().parse().ok())
 }

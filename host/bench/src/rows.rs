@@ -1,211 +1,200 @@
 //! What is compared: for each row the port, and beside it the ported Rust or a plain loop, over the same inputs.
 
+use crate::calls::{self, kept, Call};
 use crate::{families, proofs, reducible};
 use lolli_core::{Formula, Proof, Term};
 use patch_generate::{formulas, terms, Rng};
 use patch_model::form::{formula_bytes, term_bytes};
+use patch_model::stored::blocks;
 use std::cell::RefCell;
+use std::collections::BTreeSet;
 use std::hint::black_box;
+use std::rc::Rc;
 
+/// A row before its inputs are made.
 pub struct Row {
     pub name: String,
     pub nodes: usize,
+    pub beside: &'static str,
+    symbol: &'static str,
+    make: Box<dyn FnOnce() -> Sides>,
+}
+
+/// Both sides of a row, over all its inputs.
+pub struct Sides {
     /// of all inputs together
     pub bytes: usize,
     pub inputs: usize,
-    pub other_name: &'static str,
     pub other: Box<dyn Fn()>,
     pub port: Box<dyn Fn()>,
 }
 
-const INPUTS: u64 = 8;
+impl Row {
+    fn new<T: 'static>(
+        name: impl Into<String>,
+        nodes: usize,
+        call: Call,
+        inputs: impl FnOnce() -> Vec<(T, Vec<u8>)> + 'static,
+        beside: &'static str,
+        other: impl Fn(&T, &[u8]) + 'static,
+    ) -> Row {
+        let symbol = call.symbol;
+        let make = move || {
+            let theirs = Rc::new(inputs());
+            let ours = theirs.clone();
+            let lent = RefCell::new(call.lent());
+            Sides {
+                bytes: ours.iter().map(|(_, bytes)| bytes.len()).sum(),
+                inputs: ours.len(),
+                other: Box::new(move || theirs.iter().for_each(|(value, bytes)| other(black_box(value), black_box(bytes)))),
+                port: Box::new(move || ours.iter().for_each(|(_, bytes)| (call.run)(black_box(bytes), &mut lent.borrow_mut()))),
+            }
+        };
+        Row { name: name.into(), nodes, beside, symbol, make: Box::new(make) }
+    }
 
-fn row<T: 'static>(
-    name: impl Into<String>,
-    nodes: usize,
-    inputs: Vec<(T, Vec<u8>)>,
-    other_name: &'static str,
-    other: impl Fn(&T, &[u8]) + 'static,
-    port: impl Fn(&T, &[u8]) + 'static,
-) -> Row {
-    let bytes = inputs.iter().map(|(_, bytes)| bytes.len()).sum();
-    let count = inputs.len();
-    let inputs = std::rc::Rc::new(inputs);
-    let ours = inputs.clone();
-    Row {
-        name: name.into(),
-        nodes,
-        bytes,
-        inputs: count,
-        other_name,
-        other: Box::new(move || inputs.iter().for_each(|(value, bytes)| other(black_box(value), black_box(bytes)))),
-        port: Box::new(move || ours.iter().for_each(|(value, bytes)| port(black_box(value), black_box(bytes)))),
+    /// Beside a loop over the bytes, for a call that the Rust has not.
+    fn by_bytes<T: 'static>(name: &str, nodes: usize, call: Call, inputs: impl FnOnce() -> Vec<(T, Vec<u8>)> + 'static) -> Row {
+        Row::new(name, nodes, call, inputs, "byte loop", |_, bytes| kept(byte_loop(bytes)))
+    }
+
+    pub fn sides(self) -> Sides {
+        (self.make)()
     }
 }
 
-/// A result that the compiler may not leave out.
-fn kept<T>(result: T) {
-    black_box(result);
+/// The rows that have the word in their name.
+pub fn rows(word: &str) -> Vec<Row> {
+    let mut rows: Vec<Row> = [any_input(), of_families(), of_reducibles(), of_proofs(), stored(), fixed()].into_iter().flatten().collect();
+    let header = include_str!("../../../include/patch.h");
+    let declared = header.lines().filter_map(|line| Some(line.strip_prefix("void ")?.split_once('(')?.0)).collect::<BTreeSet<&str>>();
+    assert_eq!(declared, rows.iter().map(|row| row.symbol).collect(), "each public call has a row");
+    rows.retain(|row| row.name.contains(word));
+    rows
 }
 
-pub fn rows() -> Vec<Row> {
+/// Calls on random formulas and terms.
+fn any_input() -> Vec<Row> {
     let mut rows = Vec::new();
     for nodes in [1, 10, 100, 1024] {
-        let out = RefCell::new(vec![0; patch::FORMULA_TEXT_ROOM]);
-        rows.push(row(
-            "text of formulas",
-            nodes,
-            some_formulas(nodes),
-            "Rust",
-            |formula: &Formula, _| kept(formula.pretty()),
-            move |_, bytes| kept(patch::formula_text_to(bytes, &mut out.borrow_mut()).unwrap()),
-        ));
+        let inputs = move || some_formulas(nodes);
+        rows.push(Row::new("text of formulas", nodes, calls::FORMULA_TEXT, inputs, "Rust", |f: &Formula, _| kept(f.pretty())));
     }
     for nodes in [10, 100, 1024] {
-        rows.push(row(
-            "check of formulas",
-            nodes,
-            some_formulas(nodes),
-            "byte loop",
-            |_, bytes| kept(byte_loop(bytes)),
-            |_, bytes| kept(patch::check_formula(bytes).unwrap()),
-        ));
+        rows.push(Row::by_bytes("check of formulas", nodes, calls::CHECK_FORMULA, move || some_formulas(nodes)));
     }
     for nodes in [10, 100, 512] {
-        rows.push(row(
-            "check of terms",
-            nodes,
-            some_terms(nodes),
-            "byte loop",
-            |_, bytes| kept(byte_loop(bytes)),
-            |_, bytes| kept(patch::check_term(bytes).unwrap()),
-        ));
+        rows.push(Row::by_bytes("check of terms", nodes, calls::CHECK_TERM, move || some_terms(nodes)));
     }
     for nodes in [10, 100, 512] {
-        let out = RefCell::new(vec![0; patch::OUTPUT_ROOM]);
-        rows.push(row(
-            "free names",
-            nodes,
-            some_terms(nodes),
-            "Rust",
-            |term: &Term, _| kept(term.free_vars()),
-            move |_, bytes| kept(patch::free_vars_to(bytes, &mut out.borrow_mut()).unwrap()),
-        ));
+        rows.push(Row::new("free names", nodes, calls::FREE_NAMES, move || some_terms(nodes), "Rust", |t: &Term, _| kept(t.free_vars())));
     }
-    // an inner node, put in where the outcome still fits
-    let value = Term::Fst(Box::new(Term::Var("y".into())));
     for nodes in [10, 100, 400] {
-        let (out, scratch) = (RefCell::new(vec![0; patch::OUTPUT_ROOM]), RefCell::new(vec![0; patch::SCRATCH_ROOM]));
-        let (ours, theirs) = (term_bytes(&value), value.clone());
-        rows.push(row(
-            "substitution",
-            nodes,
-            some_terms(nodes),
-            "Rust",
-            move |term: &Term, _| kept(term.substitute("x", &theirs)),
-            move |_, bytes| kept(patch::substitute_to(bytes, b"x", &ours, &mut out.borrow_mut(), &mut scratch.borrow_mut()).unwrap()),
-        ));
-    }
-    for family in families::NAMES {
-        for nodes in [10, 100, 512] {
-            rows.extend(of_family(family, nodes));
-        }
-    }
-    for family in reducible::NAMES {
-        for nodes in [10, 50, 100, 500] {
-            rows.extend(of_reducible(family, nodes));
-        }
-    }
-    for family in proofs::NAMES {
-        for rules in [10, 100, 500] {
-            rows.push(extraction(family, rules));
-        }
+        let value = Term::Fst(Box::new(Term::Var("y".into())));
+        let put = move |term: &Term, _: &[u8]| kept(term.substitute("x", &value));
+        rows.push(Row::new("substitution", nodes, calls::SUBSTITUTION, move || some_terms(nodes), "Rust", put));
     }
     rows
 }
 
-fn extraction(family: &str, rules: usize) -> Row {
-    let (out, scratch) = (RefCell::new(vec![0; patch::OUTPUT_ROOM]), RefCell::new(vec![0; patch::SCRATCH_ROOM]));
-    row(
-        format!("extraction, {family}"),
-        rules,
-        proofs::inputs(family, rules),
-        "Rust",
-        |proof: &Proof, _| kept(lolli_extract::Extractor::new().extract(proof)),
-        move |_, bytes| {
-            let mut extractor = patch::Extractor { counter: 0 };
-            kept(extractor.extract_to(bytes, &mut out.borrow_mut(), &mut scratch.borrow_mut()).unwrap())
-        },
-    )
+/// Calls on terms that take no step.
+fn of_families() -> Vec<Row> {
+    let mut rows = Vec::new();
+    for family in families::NAMES {
+        for nodes in [10, 100, 512] {
+            let input = move || families::input(family, nodes);
+            let named = |call: &str| format!("{call}, {family}");
+            let unit_put_in = |t: &Term, _: &[u8]| kept(t.substitute("x", &Term::Unit));
+            rows.extend([
+                Row::by_bytes(&named("check"), nodes, calls::CHECK_TERM, input),
+                Row::new(named("free names"), nodes, calls::FREE_NAMES, input, "Rust", |t: &Term, _| kept(t.free_vars())),
+                Row::new(named("substitution"), nodes, calls::UNIT_PUT_IN, input, "Rust", unit_put_in),
+                Row::new(named("text"), nodes, calls::TERM_TEXT, input, "Rust", |t: &Term, _| kept(t.pretty())),
+            ]);
+        }
+    }
+    for nodes in [10, 100, 512] {
+        let wide = move || families::input("wide", nodes);
+        rows.push(Row::new("is normal, wide", nodes, calls::IS_NORMAL, wide, "Rust", |t: &Term, _| kept(lolli_extract::is_normal(t))));
+        rows.push(Row::by_bytes("child, wide", nodes, calls::CHILD, wide));
+    }
+    rows
 }
 
 /// One step, and the whole reduction.
-fn of_reducible(family: &str, nodes: usize) -> Vec<Row> {
-    let buffers = || (RefCell::new(vec![0; patch::OUTPUT_ROOM]), RefCell::new(vec![0; patch::SCRATCH_ROOM]));
-    let ((out, scratch), (last, work)) = (buffers(), buffers());
-    let inputs = reducible::inputs(family, nodes);
-    vec![
-        row(
-            format!("step, {family}"),
-            nodes,
-            inputs.clone(),
-            "Rust",
-            |term: &Term, _| kept(lolli_extract::step(term)),
-            move |_, bytes| kept(patch::step_to(bytes, &mut out.borrow_mut(), &mut scratch.borrow_mut()).unwrap()),
-        ),
-        row(
-            format!("reduction, {family}"),
-            nodes,
-            inputs,
-            "Rust",
-            |term: &Term, _| kept(lolli_extract::normalize_bounded(term, reducible::STEPS as usize)),
-            move |_, bytes| {
-                let told = patch::normalize_bounded_to(bytes, reducible::STEPS, &mut last.borrow_mut(), &mut work.borrow_mut()).unwrap();
-                assert!(told.normal);
-                kept(told)
-            },
-        ),
-    ]
+fn of_reducibles() -> Vec<Row> {
+    let mut rows = Vec::new();
+    for family in reducible::NAMES {
+        for nodes in [10, 50, 100, 500] {
+            let inputs = move || reducible::inputs(family, nodes);
+            let reduce = |t: &Term, _: &[u8]| kept(lolli_extract::normalize_bounded(t, reducible::STEPS as usize));
+            rows.extend([
+                Row::new(format!("step, {family}"), nodes, calls::STEP, inputs, "Rust", |t: &Term, _| kept(lolli_extract::step(t))),
+                Row::new(format!("reduction, {family}"), nodes, calls::REDUCTION, inputs, "Rust", reduce),
+            ]);
+        }
+    }
+    for nodes in [10, 100, 500] {
+        rows.push(Row::by_bytes("is straight", nodes, calls::IS_STRAIGHT, move || reducible::inputs("straight", nodes)));
+    }
+    rows
 }
 
-/// The four calls on terms that take no step.
-fn of_family(family: &str, nodes: usize) -> Vec<Row> {
-    let (list, text) = (RefCell::new(vec![0; patch::OUTPUT_ROOM]), RefCell::new(vec![0; patch::TEXT_ROOM]));
-    let (out, scratch) = (RefCell::new(vec![0; patch::OUTPUT_ROOM]), RefCell::new(vec![0; patch::SCRATCH_ROOM]));
-    vec![
-        row(
-            format!("check, {family}"),
-            nodes,
-            families::input(family, nodes),
-            "byte loop",
-            |_, bytes| kept(byte_loop(bytes)),
-            |_, bytes| kept(patch::check_term(bytes).unwrap()),
-        ),
-        row(
-            format!("free names, {family}"),
-            nodes,
-            families::input(family, nodes),
-            "Rust",
-            |term: &Term, _| kept(term.free_vars()),
-            move |_, bytes| kept(patch::free_vars_to(bytes, &mut list.borrow_mut()).unwrap()),
-        ),
-        row(
-            format!("substitution, {family}"),
-            nodes,
-            families::input(family, nodes),
-            "Rust",
-            |term: &Term, _| kept(term.substitute("x", &Term::Unit)),
-            move |_, bytes| kept(patch::substitute_to(bytes, b"x", &[2], &mut out.borrow_mut(), &mut scratch.borrow_mut()).unwrap()),
-        ),
-        row(
-            format!("text, {family}"),
-            nodes,
-            families::input(family, nodes),
-            "Rust",
-            |term: &Term, _| kept(term.pretty()),
-            move |_, bytes| kept(patch::term_text_to(bytes, &mut text.borrow_mut()).unwrap()),
-        ),
-    ]
+fn of_proofs() -> Vec<Row> {
+    let mut rows = Vec::new();
+    for family in proofs::NAMES {
+        for rules in [10, 100, 500] {
+            let inputs = move || proofs::inputs(family, rules);
+            let extract = |p: &Proof, _: &[u8]| kept(lolli_extract::Extractor::new().extract(p));
+            rows.push(Row::new(format!("extraction, {family}"), rules, calls::EXTRACTION, inputs, "Rust", extract));
+        }
+    }
+    for rules in [10, 100, 500] {
+        rows.push(Row::by_bytes("check of proofs", rules, calls::CHECK_PROOF, move || proofs::inputs("random", rules)));
+    }
+    rows
+}
+
+fn stored() -> Vec<Row> {
+    let mut rows = Vec::new();
+    for nodes in [10, 100, 512] {
+        rows.push(Row::by_bytes("store, terms", nodes, calls::STORE_TERM, move || some_terms(nodes)));
+        rows.push(Row::by_bytes("load, terms", nodes, calls::LOAD_TERM, move || files(1, some_terms(nodes))));
+    }
+    for rules in [10, 100, 500] {
+        rows.push(Row::by_bytes("store, proofs", rules, calls::STORE_PROOF, move || proofs::inputs("random", rules)));
+        rows.push(Row::by_bytes("load, proofs", rules, calls::LOAD_PROOF, move || files(2, proofs::inputs("random", rules))));
+    }
+    rows
+}
+
+/// The smallest input of each call, beside the zeros that the rules ask for: behind the answer, and in the scratch.
+fn fixed() -> Vec<Row> {
+    let step = [15, 14, 2];
+    let smallest: [(&str, Call, Vec<u8>, usize); 12] = [
+        ("check", calls::CHECK_TERM, vec![2], 0),
+        ("is normal", calls::IS_NORMAL, vec![2], 0),
+        ("text of formulas", calls::FORMULA_TEXT, vec![5], 1),
+        ("text of terms", calls::TERM_TEXT, vec![2], 2),
+        ("free names", calls::FREE_NAMES, vec![2], 0),
+        ("substitution", calls::UNIT_PUT_IN, vec![2], 1),
+        ("step, none found", calls::STEP, vec![2], patch::OUTPUT_ROOM),
+        ("step", calls::STEP, step.to_vec(), 1),
+        ("reduction", calls::REDUCTION, vec![2], 1),
+        ("extraction", calls::EXTRACTION, vec![3, 0, 0], 1),
+        ("store", calls::STORE_TERM, vec![2], 512),
+        ("load", calls::LOAD_TERM, blocks(1, &[2]), 1),
+    ];
+    let row = |(name, call, input, answer): (&str, Call, Vec<u8>, usize)| {
+        let lent = RefCell::new(call.lent());
+        let zeros = move |_: &(), _: &[u8]| {
+            let lent = &mut *lent.borrow_mut();
+            black_box(&mut lent.out[answer..]).fill(0);
+            black_box(&mut lent.scratch).fill(0);
+        };
+        Row::new(format!("fixed, {name}"), 1, call, move || vec![((), input)], "zeros", zeros)
+    };
+    smallest.into_iter().map(row).collect()
 }
 
 /// The least that a reader does: each byte is looked up once.
@@ -226,6 +215,8 @@ fn byte_loop(bytes: &[u8]) -> u64 {
     sum
 }
 
+const INPUTS: u64 = 8;
+
 fn some_formulas(nodes: usize) -> Vec<(Formula, Vec<u8>)> {
     let pool: Vec<String> = ["A", "B1", "in_left", "x"].map(String::from).to_vec();
     let make = |i| formulas::of_nodes(&mut Rng::new(0x6265_6e63, i), &pool, nodes);
@@ -236,4 +227,9 @@ fn some_terms(nodes: usize) -> Vec<(Term, Vec<u8>)> {
     let style = terms::Style { pool: ["a", "b1", "in_left", "x"].map(String::from).to_vec(), redexes: 4 };
     let make = |i| style.of_nodes(&mut Rng::new(0x6265_6e64, i), nodes);
     (0..INPUTS).map(make).map(|term| (term.clone(), term_bytes(&term))).collect()
+}
+
+/// The stored forms of these contents.
+fn files<T>(kind: u8, contents: Vec<(T, Vec<u8>)>) -> Vec<(T, Vec<u8>)> {
+    contents.into_iter().map(|(value, bytes)| (value, blocks(kind, &bytes))).collect()
 }

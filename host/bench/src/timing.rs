@@ -6,27 +6,28 @@ const ROUNDS: usize = 41;
 /// How long one side of a round runs.
 const NANOS: f64 = 2e6;
 
-pub fn table(rows: &[Row]) {
+pub fn table(rows: Vec<Row>) {
+    let wide = crate::widest(&rows);
     println!(
-        "{:<36} {:>6} {:>6}  {:<10} {:>12} {:>12} {:>9}  middle half",
+        "{:<wide$} {:>6} {:>6}  {:<10} {:>12} {:>12} {:>9}  middle half",
         "call", "nodes", "bytes", "beside", "its ns", "port ns", "ratio"
     );
     for row in rows {
-        let (other, port) = (repeats(&row.other), repeats(&row.port));
+        let head = format!("{:<wide$} {:>6}", row.name, row.nodes);
+        let beside = row.beside;
+        let sides = row.sides();
+        let (other, port) = (repeats(&sides.other), repeats(&sides.port));
         let (mut others, mut ports, mut ratios) = (Vec::new(), Vec::new(), Vec::new());
         for _ in 0..ROUNDS {
-            let a = nanos(&row.other, other) / row.inputs as f64;
-            let b = nanos(&row.port, port) / row.inputs as f64;
+            let a = nanos(&sides.other, other) / sides.inputs as f64;
+            let b = nanos(&sides.port, port) / sides.inputs as f64;
             others.push(a);
             ports.push(b);
             ratios.push(a / b);
         }
         println!(
-            "{:<36} {:>6} {:>6}  {:<10} {:>12.0} {:>12.0} {:>9.2}  {:.2} to {:.2}",
-            row.name,
-            row.nodes,
-            row.bytes / row.inputs,
-            row.other_name,
+            "{head} {:>6}  {beside:<10} {:>12.0} {:>12.0} {:>9.2}  {:.2} to {:.2}",
+            sides.bytes / sides.inputs,
             quantile(&mut others, 2),
             quantile(&mut ports, 2),
             quantile(&mut ratios, 2),

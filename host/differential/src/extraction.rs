@@ -2,75 +2,12 @@
 
 use crate::case::{Call, Case};
 use crate::readers::lent_lengths;
-use crate::run::{listed, random, Verdict};
+use crate::run::{listed, random};
+use patch_generate::bad::bad_proofs;
 use patch_generate::damage::damage;
+use patch_generate::inputs::proof;
 use patch_generate::{proofs, Rng};
-use patch_model::form::proof_bytes;
-use patch_model::Limits;
-
-const L: Limits = Limits::BASE;
-
-/// One input for each rule of refusal, at its edges.
-fn bad_proofs() -> Vec<Vec<u8>> {
-    let mut bad = vec![vec![]];
-    for byte in 0..=255 {
-        bad.push(vec![byte]);
-        bad.push(vec![byte, 0, 0]);
-        bad.push(vec![byte, 0, 0, 0, 0]);
-        // as a count of formulas, with too few and with enough; as a count of premises
-        bad.push(vec![3, byte, 5, 5, 0]);
-        bad.push([vec![3, byte], vec![5; byte as usize], vec![0]].concat());
-        bad.push([vec![3, 0, byte], [3, 0, 0].repeat(3)].concat());
-        // as the formula of a cut, in a list, as either byte of an index
-        bad.push(vec![2, byte, 0, 0]);
-        bad.push(vec![1, 2, 5, byte, 0]);
-        bad.push(vec![16, byte, 255, 0, 0]);
-        bad.push(vec![17, 255, byte, 0, 0]);
-        bad.push(vec![1, 1, 1, 1, byte, 0]);
-    }
-    for length in 1..12 {
-        bad.push([2, 3, 1, 1, b'A', 5, 1, 6, 2, 3, 0, 0][..length].to_vec());
-    }
-    for length in [L.bytes, L.bytes + 1] {
-        bad.push(vec![3; length]);
-        bad.push(vec![0; length]);
-    }
-    // rules and formula nodes at their limits, and one over, with a last tag that is listed and one that is not
-    for rules in L.rules - 1..=L.rules + 1 {
-        for last in [3, 0, 19] {
-            bad.push([[4, 0, 1].repeat(rules - 1), vec![last, 0, 0]].concat());
-        }
-    }
-    for nodes in L.formulas - 1..=L.formulas + 1 {
-        for last in [5, 0, 14] {
-            // spread over a cut formula and four lists
-            let mut proof = [vec![2], vec![11; nodes - 1021], vec![5]].concat();
-            for list in 0..4 {
-                proof.extend([255]);
-                proof.extend(vec![6; 254]);
-                proof.push(if list == 3 { last } else { 6 });
-                proof.extend(if list == 3 { vec![0] } else { vec![1, 1] });
-            }
-            bad.push(proof);
-        }
-    }
-    bad
-}
-
-/// A proof of any size, at a limit, or one over.
-pub fn proof(rng: &mut Rng) -> Vec<u8> {
-    let made = match rng.below(30) {
-        0 => proofs::of_rules(rng, L.rules, 200),
-        1 => proofs::of_rules(rng, L.rules + 1, 200),
-        2 => proofs::of_rules(rng, 100, L.formulas + 40),
-        3 | 4 => {
-            let height = rng.within(1, 40);
-            proofs::doubling(rng, height)
-        }
-        _ => proofs::random(rng, L.rules),
-    };
-    proof_bytes(&made)
-}
+use patch_harness::Verdict;
 
 /// All that may stand before the count of premises: an Axiom over each list of at most two of A, A⊥ and 1, a Cut on one of these, on a Tensor and
 /// on a Plus, and each other rule.

@@ -1,17 +1,25 @@
 //! Stored forms.
 
 use crate::case::{Call, Case};
-use crate::readers::{bad_inputs, lent_lengths, mostly_damaged, term, TERMS};
-use crate::run::{listed, random, Verdict};
+use crate::readers::lent_lengths;
+use crate::run::{listed, random};
+use patch_generate::bad::{bad_inputs, TERMS};
+use patch_generate::damage::mostly_damaged;
+use patch_generate::inputs::term;
 use patch_generate::{files, proofs, terms, Rng};
+use patch_harness::Verdict;
 use patch_model::form::{proof_bytes, term_bytes};
 use patch_model::stored::{blocks, seal};
 use patch_model::Limits;
 
 const L: Limits = Limits::BASE;
 
-pub fn all() -> Verdict {
-    let one = |call: Call, bytes: Vec<u8>| Case::new(call, vec![bytes]);
+fn one(call: Call, bytes: Vec<u8>) -> Case {
+    Case::new(call, vec![bytes])
+}
+
+/// Buffers, lengths and contents at every edge.
+fn edges() -> Vec<Case> {
     let mut cases: Vec<Case> = bad_inputs(&TERMS).into_iter().map(|bytes| one(Call::StoreTerm, bytes)).collect();
     cases.extend(lent_lengths(Call::StoreTerm, &[vec![2], vec![2, 2]]));
     cases.extend(lent_lengths(Call::LoadTerm, &[blocks(1, &[2]), vec![0; 512], vec![]]));
@@ -34,7 +42,11 @@ pub fn all() -> Verdict {
         seal(&mut file);
         cases.push(one(Call::LoadTerm, file));
     }
-    Ok(listed("Store and Load at the edges", &cases)?
+    cases
+}
+
+pub fn all() -> Verdict {
+    Ok(listed("Store and Load at the edges", &edges())?
         + random("Store of a term of each length", L.bytes as u64, |index| one(Call::StoreTerm, of_length(index as usize + 1)))?
         + random("Load of a term of each length", L.bytes as u64, |index| one(Call::LoadTerm, blocks(1, &of_length(index as usize + 1))))?
         + random("Load of one block with any byte changed to any other", 512 * 255, |index| {

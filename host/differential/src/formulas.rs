@@ -1,14 +1,14 @@
 //! The text of formulas.
 
 use crate::case::{Call, Case};
-use crate::readers::{bad_inputs, lent_lengths, FORMULAS};
-use crate::run::{listed, random, Verdict};
+use crate::readers::lent_lengths;
+use crate::run::{listed, random};
+use patch_generate::bad::{bad_inputs, FORMULAS};
 use patch_generate::damage::damage;
+use patch_generate::inputs::formula;
 use patch_generate::{formulas, Rng};
+use patch_harness::Verdict;
 use patch_model::form::formula_bytes;
-use patch_model::Limits;
-
-const L: Limits = Limits::BASE;
 
 pub fn all() -> Verdict {
     let text = |bytes: Vec<u8>| Case::new(Call::FormulaText, vec![bytes]);
@@ -28,20 +28,4 @@ pub fn all() -> Verdict {
             damage(&mut rng, &mut bytes);
             text(bytes).lent_by(&mut rng)
         })?)
-}
-
-/// A formula of any size, or at a limit, or one over.
-pub fn formula(rng: &mut Rng) -> Vec<u8> {
-    let made = match rng.below(50) {
-        0 => formulas::of_nodes(rng, &["A".into(), "b".into()], L.formulas),
-        1 => formulas::of_nodes(rng, &["A".into(), "b".into()], L.formulas + 1),
-        2 => formulas::of_bytes(rng, L.bytes, L.formulas),
-        3 => formulas::of_bytes(rng, L.bytes + 1, L.formulas),
-        4 => {
-            let bytes = rng.within(100, L.bytes + 8);
-            formulas::of_bytes(rng, bytes, L.formulas)
-        }
-        _ => formulas::random(rng, L.formulas + 2),
-    };
-    formula_bytes(&made)
 }

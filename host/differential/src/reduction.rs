@@ -1,32 +1,19 @@
 //! Step and bounded reduction.
 
 use crate::case::{Call, Case};
-use crate::readers::{bad_inputs, lent_lengths, term, TERMS};
-use crate::run::{listed, random, Verdict};
+use crate::readers::lent_lengths;
+use crate::run::{listed, random};
 use crate::terms::probes;
-use lolli_core::Term;
+use patch_generate::bad::{bad_inputs, TERMS};
 use patch_generate::damage::damage;
+use patch_generate::inputs::{doubled, reducible};
 use patch_generate::{terms, Rng};
+use patch_harness::Verdict;
 use patch_model::form::term_bytes;
 use patch_model::reduce::reduce;
 use patch_model::{read, Limits};
 
 const L: Limits = Limits::BASE;
-
-/// A term to step: random, near a limit, largest half-way, or straight.
-pub fn reducible(rng: &mut Rng, most: usize) -> Vec<u8> {
-    let made = match rng.below(16) {
-        0 | 1 => terms::near_limit(rng, L.nodes, L.bytes),
-        2 => terms::half_way(rng),
-        3 => {
-            let nodes = rng.size(most);
-            terms::straight(rng, nodes)
-        }
-        4 => return term(rng),
-        _ => terms::random(rng, most),
-    };
-    term_bytes(&made)
-}
 
 /// Every term to 5 nodes over two names.
 fn small() -> Vec<Vec<u8>> {
@@ -58,13 +45,6 @@ pub fn steps() -> Verdict {
             damage(&mut rng, &mut bytes);
             step(bytes).lent_by(&mut rng)
         })?)
-}
-
-/// `copy !v as (x, y) in (x y)` for v of n Promotes and a Unit.
-pub fn doubled(promotes: usize) -> Vec<u8> {
-    let value = (0..=promotes).fold(Term::Unit, |e, _| Term::Promote(Box::new(e)));
-    let body = Term::App(Box::new(Term::Var("x".into())), Box::new(Term::Var("y".into())));
-    term_bytes(&Term::Copy(Box::new(value), "x".into(), "y".into(), Box::new(body)))
 }
 
 /// Step limits; the last is tried where the reduction ends.

@@ -2,8 +2,7 @@
 //! here by hand from document 01; port and model are both held to it.
 
 use crate::case::{Call, Case};
-use crate::itself::hold;
-use crate::run::Verdict;
+use patch_harness::{hold, Verdict};
 use patch_model::stored::{blocks, seal};
 use std::collections::BTreeSet;
 

@@ -2,14 +2,11 @@
 //! A case is made from the seed and its index, so any number of processes tries the same cases.
 
 use crate::case::{Call, Case};
-use crate::extraction::proof;
-use crate::formulas::formula;
-use crate::readers::term;
-use crate::reduction::reducible;
-use crate::run::STACK;
 use crate::{died, shrink};
 use patch_generate::damage::damage;
+use patch_generate::inputs::{formula, proof, reducible, term};
 use patch_generate::{files, names, proofs, straight, Rng};
+use patch_harness::STACK;
 use patch_model::Limits;
 use std::process::{Child, Command, ExitCode, Stdio};
 use std::time::{Duration, Instant};

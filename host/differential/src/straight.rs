@@ -1,10 +1,10 @@
 //! Straight terms (demand 3): which terms are straight, and what bounded reduction makes of one that is, seen from outside.
 
 use crate::case::{Call, Case};
-use crate::itself::{hold, many};
-use crate::run::{random, Verdict};
+use crate::run::random;
 use lolli_core::Term;
 use patch_generate::{straight, Rng};
+use patch_harness::{hold, many, Verdict};
 use patch_model::form::{parts, term_nodes};
 use patch_model::{read, Limits};
 use std::collections::BTreeMap;

@@ -1,10 +1,13 @@
 //! Calls on terms that take no step: text, free names, substitution, child; and whether a term is normal or straight.
 
 use crate::case::{Call, Case};
-use crate::readers::{bad_inputs, lent_lengths, mostly_damaged, term, TERMS};
-use crate::run::{listed, random, Verdict};
-use patch_generate::damage::damage;
+use crate::readers::lent_lengths;
+use crate::run::{listed, random};
+use patch_generate::bad::{bad_inputs, TERMS};
+use patch_generate::damage::{damage, mostly_damaged};
+use patch_generate::inputs::term;
 use patch_generate::{names, straight, terms, Rng};
+use patch_harness::Verdict;
 use patch_model::form::term_bytes;
 use patch_model::Limits;
 

@@ -11,6 +11,14 @@ pub fn damage(rng: &mut Rng, bytes: &mut Vec<u8>) {
     }
 }
 
+/// Damaged in three of four.
+pub fn mostly_damaged(rng: &mut Rng, mut bytes: Vec<u8>) -> Vec<u8> {
+    if !rng.one_in(4) {
+        damage(rng, &mut bytes);
+    }
+    bytes
+}
+
 fn once(rng: &mut Rng, bytes: &mut Vec<u8>) {
     if bytes.is_empty() {
         return bytes.push(rng.byte());

@@ -64,18 +64,7 @@ pub fn random(rng: &mut Rng, most_nodes: usize) -> Formula {
 
 /// A formula of exactly so many bytes and at most so many nodes, all its leaves atoms; 100 bytes or more.
 pub fn of_bytes(rng: &mut Rng, bytes: usize, most_nodes: usize) -> Formula {
-    // m atoms under m - 1 nodes of two parts: 3 m - 1 bytes and the m names
-    let fewest = (bytes + 1).div_ceil(3 + ATOM_MOST);
-    let most = ((bytes + 1) / 4).min(most_nodes.div_ceil(2));
-    let atoms = rng.within(fewest, most);
-    let mut lengths = vec![1; atoms];
-    for _ in 0..bytes - (4 * atoms - 1) {
-        let mut i = rng.below(atoms);
-        while lengths[i] == ATOM_MOST {
-            i = (i + 1) % atoms;
-        }
-        lengths[i] += 1;
-    }
+    let lengths = names::lengths(rng, ATOM_MOST, bytes, most_nodes);
     over(rng, &lengths)
 }
 

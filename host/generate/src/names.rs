@@ -15,6 +15,21 @@ pub fn of_length(rng: &mut Rng, length: usize) -> String {
     name
 }
 
+/// The lengths of names that, as leaves under nodes of two parts, come to exactly so many bytes and at most so many nodes.
+pub fn lengths(rng: &mut Rng, most: usize, bytes: usize, most_nodes: usize) -> Vec<usize> {
+    // m leaves under m - 1 nodes: 3 m - 1 bytes and the m names
+    let leaves = rng.within((bytes + 1).div_ceil(3 + most), ((bytes + 1) / 4).min(most_nodes.div_ceil(2)));
+    let mut lengths = vec![1; leaves];
+    for _ in 0..bytes - (4 * leaves - 1) {
+        let mut i = rng.below(leaves);
+        while lengths[i] == most {
+            i = (i + 1) % leaves;
+        }
+        lengths[i] += 1;
+    }
+    lengths
+}
+
 /// One to four names of at most so many bytes.
 pub fn pool(rng: &mut Rng, most: usize) -> Vec<String> {
     let count = rng.within(1, 4);

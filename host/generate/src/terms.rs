@@ -176,18 +176,7 @@ pub fn random(rng: &mut Rng, most_nodes: usize) -> Term {
 
 /// A term of exactly so many bytes and at most so many nodes, all its leaves variables; 200 bytes or more.
 pub fn of_bytes(rng: &mut Rng, bytes: usize, most_nodes: usize) -> Term {
-    // m variables under m - 1 nodes of two parts: 3 m - 1 bytes and the m names
-    let fewest = (bytes + 1).div_ceil(3 + NAME_MOST);
-    let most = ((bytes + 1) / 4).min(most_nodes.div_ceil(2));
-    let variables = rng.within(fewest, most);
-    let mut lengths = vec![1; variables];
-    for _ in 0..bytes - (4 * variables - 1) {
-        let mut i = rng.below(variables);
-        while lengths[i] == NAME_MOST {
-            i = (i + 1) % variables;
-        }
-        lengths[i] += 1;
-    }
+    let lengths = names::lengths(rng, NAME_MOST, bytes, most_nodes);
     over(rng, &lengths)
 }
 
@@ -269,20 +258,24 @@ fn fresh(made: &mut usize) -> String {
     format!("v{made}")
 }
 
+/// Variables in a row, or a leaf if there are none.
+fn row_of(rng: &mut Rng, uses: Vec<String>) -> Term {
+    let mut left = uses.into_iter().map(Term::Var);
+    let Some(first) = left.next() else {
+        return match rng.below(4) {
+            0 => Term::Unit,
+            1 => Term::Trivial,
+            _ => Term::Var(rng.pick(&["f", "g", "h"]).to_string()),
+        };
+    };
+    left.fold(first, |a, b| if rng.one_in(2) { Term::Pair(Box::new(a), Box::new(b)) } else { Term::App(Box::new(b), Box::new(a)) })
+}
+
 /// A straight term that uses each of these names once.
 fn linear(rng: &mut Rng, uses: Vec<String>, nodes: usize, made: &mut usize) -> Term {
     let boxed = |rng: &mut Rng, uses, nodes, made: &mut usize| Box::new(linear(rng, uses, nodes, made));
     if nodes <= 2 || nodes <= uses.len() {
-        let mut left = uses.into_iter().map(Term::Var);
-        let Some(first) = left.next() else {
-            return match rng.below(4) {
-                0 => Term::Unit,
-                1 => Term::Trivial,
-                _ => Term::Var(rng.pick(&["f", "g", "h"]).to_string()),
-            };
-        };
-        return left
-            .fold(first, |a, b| if rng.one_in(2) { Term::Pair(Box::new(a), Box::new(b)) } else { Term::App(Box::new(b), Box::new(a)) });
+        return row_of(rng, uses);
     }
     let (mut ours, mut theirs) = (Vec::new(), Vec::new());
     let (a, b) = rng.split(nodes);

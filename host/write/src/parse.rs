@@ -39,6 +39,16 @@ struct Reader<'a> {
 
 const WORDS: [&str; 13] = ["let", "in", "case", "of", "inl", "inr", "fst", "snd", "absurd", "derelict", "discard", "copy", "as"];
 
+const ONES: [(&str, fn(Box<Term>) -> Term); 7] = [
+    ("inl", Term::Inl),
+    ("inr", Term::Inr),
+    ("fst", Term::Fst),
+    ("snd", Term::Snd),
+    ("absurd", Term::Abort),
+    ("!", Term::Promote),
+    ("derelict", Term::Derelict),
+];
+
 impl<'a> Reader<'a> {
     fn rest(&self) -> &'a str {
         &self.text[self.at..]
@@ -103,15 +113,6 @@ impl<'a> Reader<'a> {
     }
 
     fn term(&mut self) -> Parsed<Term> {
-        const ONES: [(&str, fn(Box<Term>) -> Term); 7] = [
-            ("inl", Term::Inl),
-            ("inr", Term::Inr),
-            ("fst", Term::Fst),
-            ("snd", Term::Snd),
-            ("absurd", Term::Abort),
-            ("!", Term::Promote),
-            ("derelict", Term::Derelict),
-        ];
         for (sign, make) in ONES {
             if self.takes(sign) {
                 return Ok(make(self.boxed()?));
@@ -126,18 +127,10 @@ impl<'a> Reader<'a> {
             return Ok(Term::Abs(x, self.boxed()?));
         }
         if self.takes("let") {
-            let (x, y) = self.names()?;
-            self.expect("=")?;
-            let e = self.boxed()?;
-            self.expect("in")?;
-            return Ok(Term::LetPair(x, y, e, self.boxed()?));
+            return self.let_pair();
         }
         if self.takes("copy") {
-            let e = self.boxed()?;
-            self.expect("as")?;
-            let (x, y) = self.names()?;
-            self.expect("in")?;
-            return Ok(Term::Copy(e, x, y, self.boxed()?));
+            return self.copy();
         }
         if self.takes("discard") {
             let e = self.boxed()?;
@@ -152,6 +145,24 @@ impl<'a> Reader<'a> {
         }
         let start = self.at;
         self.name().map(Term::Var).map_err(|fault| if fault.at == start { Fault { expected: "a term", ..fault } } else { fault })
+    }
+
+    /// After `let`: `(X, Y) = E in B`.
+    fn let_pair(&mut self) -> Parsed<Term> {
+        let (x, y) = self.names()?;
+        self.expect("=")?;
+        let e = self.boxed()?;
+        self.expect("in")?;
+        Ok(Term::LetPair(x, y, e, self.boxed()?))
+    }
+
+    /// After `copy`: `E as (X, Y) in B`.
+    fn copy(&mut self) -> Parsed<Term> {
+        let e = self.boxed()?;
+        self.expect("as")?;
+        let (x, y) = self.names()?;
+        self.expect("in")?;
+        Ok(Term::Copy(e, x, y, self.boxed()?))
     }
 
     /// After `case`: `E of { inl X => L | inr Y => R }`.

@@ -78,31 +78,25 @@ returns-4 c t r h u j =
 
 second-requires : tie.Need-second-requires
 second-requires c κs =
-    let j = c .before .before .before .before .before .before .before .before .before .before .before .pre .4 in
-    let p = as-snd j (c .before .if5 .taken) in
-    ((_, p .0, p .1, rw (p .2) at (j .redex)), j .made-room)
-
-same-length-9 : tie.Need-same-length-9
-same-length-9 c = search needs
+    let j = c .before .before .before .before .before .before .before .before .before .before .pre .4 in
+    let p = as-snd j (c .if5 .taken) in
+    (_, p .0, p .1, rw (p .2) at (j .redex))
 
 returns-5 : tie.Need-returns-5
 returns-5 c t r h u j =
-    let p = as-snd j (c .before .before .before .before .if5 .taken) in
-    answers j (p .2) (snd-is (p .0) (p .1)) (c .before .before .second .ensures _ (p .0) (p .1) (rw (p .2) at (j .redex)))
+    let p = as-snd j (c .before .if5 .taken) in
+    answers j (p .2) (snd-is (p .0) (p .1)) (c .second .ensures _ (p .0) (p .1) (rw (p .2) at (j .redex)) _)
 
 derelict-requires : tie.Need-derelict-requires
 derelict-requires c κs =
-    let j = c .before .before .before .before .before .before .before .before .before .before .before .before .pre .4 in
-    let p = as-derelict j (c .before .if6 .taken) in
-    ((_, p .0, rw (p .1) at (j .redex)), j .made-room)
-
-same-length-10 : tie.Need-same-length-10
-same-length-10 c = search needs
+    let j = c .before .before .before .before .before .before .before .before .before .before .before .pre .4 in
+    let p = as-derelict j (c .if6 .taken) in
+    (_, p .0, rw (p .1) at (j .redex))
 
 returns-6 : tie.Need-returns-6
 returns-6 c t r h u j =
-    let p = as-derelict j (c .before .before .before .before .if6 .taken) in
-    answers j (p .1) (derelict-is (p .0)) (c .before .before .derelict .ensures _ (p .0) (rw (p .1) at (j .redex)))
+    let p = as-derelict j (c .before .if6 .taken) in
+    answers j (p .1) (derelict-is (p .0)) (c .derelict .ensures _ (p .0) (rw (p .1) at (j .redex)) _)
 
 copy-requires : tie.Need-copy-requires
 copy-requires c κs =
@@ -110,14 +104,14 @@ copy-requires c κs =
     let p = as-copy j (c .before .before .before .if7 .taken) in
     ((p .0, p .1, p .2, p .3, rw (p .4) at (j .redex)), (j .places-room, j .half-room, j .made-room))
 
+same-length-9 : tie.Need-same-length-9
+same-length-9 c = search needs
+
+same-length-10 : tie.Need-same-length-10
+same-length-10 c = search needs
+
 same-length-11 : tie.Need-same-length-11
 same-length-11 c = search needs
-
-same-length-12 : tie.Need-same-length-12
-same-length-12 c = search needs
-
-same-length-13 : tie.Need-same-length-13
-same-length-13 c = search needs
 
 returns-7 : tie.Need-returns-7
 returns-7 c t r h u j =
@@ -126,17 +120,14 @@ returns-7 c t r h u j =
 
 discard-requires : tie.Need-discard-requires
 discard-requires c κs =
-    let j = c .before .before .before .before .before .before .before .before .before .before .before .before .before .pre .4 in
-    let p = as-discard j (c .before .before .before .before .before .before .before .if1 .left) (c .before .before .before .before .before .before .if2 .left) (c .before .before .before .before .before .if3 .left) (c .before .before .before .before .if4 .left) (c .before .before .before .if5 .left) (c .before .before .if6 .left) (c .before .if7 .left) in
-    ((_, p .0, p .1, rw (p .2) at (j .redex)), j .made-room)
-
-same-length-14 : tie.Need-same-length-14
-same-length-14 c = search needs
+    let j = c .before .before .before .before .before .before .before .before .before .before .before .before .pre .4 in
+    let p = as-discard j (c .before .before .before .before .before .before .if1 .left) (c .before .before .before .before .before .if2 .left) (c .before .before .before .before .if3 .left) (c .before .before .before .if4 .left) (c .before .before .if5 .left) (c .before .if6 .left) (c .if7 .left) in
+    (_, p .0, p .1, rw (p .2) at (j .redex))
 
 returns-8 : tie.Need-returns-8
 returns-8 c t r h u j =
-    let p = as-discard j (c .before .before .before .before .before .before .before .before .before .before .if1 .left) (c .before .before .before .before .before .before .before .before .before .if2 .left) (c .before .before .before .before .before .before .before .before .if3 .left) (c .before .before .before .before .before .before .before .if4 .left) (c .before .before .before .before .before .before .if5 .left) (c .before .before .before .before .before .if6 .left) (c .before .before .before .before .if7 .left) in
-    answers j (p .2) (discard-is (p .0) (p .1)) (c .before .before .discard .ensures _ (p .0) (p .1) (rw (p .2) at (j .redex)))
+    let p = as-discard j (c .before .before .before .before .before .before .before .if1 .left) (c .before .before .before .before .before .before .if2 .left) (c .before .before .before .before .before .if3 .left) (c .before .before .before .before .if4 .left) (c .before .before .before .if5 .left) (c .before .before .if6 .left) (c .before .if7 .left) in
+    answers j (p .2) (discard-is (p .0) (p .1)) (c .discard .ensures _ (p .0) (p .1) (rw (p .2) at (j .redex)) _)
 
 pub contract-spec : {M : Type 1} → statement M
 contract-spec =
@@ -160,16 +151,13 @@ contract-spec =
     same-length-8
     returns-4
     second-requires
-    same-length-9
     returns-5
     derelict-requires
-    same-length-10
     returns-6
     copy-requires
+    same-length-9
+    same-length-10
     same-length-11
-    same-length-12
-    same-length-13
     returns-7
     discard-requires
-    same-length-14
     returns-8)

@@ -1,10 +1,13 @@
 -- `formula_text::pretty` meets its contract: the reader's answer says what the formula is, and the walk from its start prints it. Assumes nothing.
-use mathlib.Core.Path.{sym, ap, _∙_}
+use mathlib.Core.Path.{refl, sym, ap, _∙_}
 use native.Mathlib.Omega.{arith}
 use denote.Ref.{now}
+use Rattle.rules.specs.Formula.{Formula}
+use Rattle.rules.specs.Refusal.{Outcome}
 use Rattle.rules.specs.declared.Answer.the-variants.{Good}
 use Rattle.words.specs.Ends.{whole-long, whole-room, whole}
-use Rattle.formula_text.proofs.Whole.{short, not-read, was-read, read, few, size, task}
+use Rattle.formula_text.specs.Task.{textOf}
+use Rattle.formula_text.proofs.Whole.{short, not-read, was-read, read, few}
 use borrow.Author.Needs.{needs}
 use Rattle.formula_text.proofs.pretty.Statement.{statement}
 use Rattle.formula_text.proofs.pretty.Tie as tie
@@ -18,21 +21,22 @@ check-formula-requires c κs = search needs
 enum-told : tie.Need-enum-told
 enum-told c = search needs
 
-node-requires : tie.Need-node-requires
-node-requires c κs =
-    let s = now (c .before .before .before .before .before .before .before .args .formula) in
-    let o = now (c .before .before .before .before .before .before .before .args .out) in
-    let h = c .before .before .before .before .if1 .left in
-    let f = read s o h (sym (c .before .before .before .check-formula .ensures) ∙ c .before .enum-told .given .1) in
-    (f .value, task s o h (f .value) (f .is))
+walk-requires : tie.Need-walk-requires
+walk-requires c κs =
+    let s = now (c .before .before .before .before .before .before .before .before .args .formula) in
+    let o = now (c .before .before .before .before .before .before .before .before .args .out) in
+    let h = c .before .before .before .before .before .if1 .left in
+    let f = read s o h (sym (c .before .before .before .before .check-formula .ensures) ∙ c .before .before .enum-told .given .1) in
+    ((f .value, f .is), (h, refl))
 
 clear-requires : tie.Need-clear-requires
 clear-requires c κs =
-    let s = now (c .before .before .before .before .before .before .before .before .before .before .before .args .formula) in
-    let o = now (c .before .before .before .before .before .before .before .before .before .before .before .args .out) in
-    let h = c .before .before .before .before .before .before .before .before .if1 .left in
-    let f = read s o h (sym (c .before .before .before .before .before .before .before .check-formula .ensures) ∙ c .before .before .before .before .before .enum-told .given .1) in
-    whole-room (c .before .before .before .node .ensures (f .value) (task s o h (f .value) (f .is))) (size s o h (f .value) (f .is)) (omega (arith, few s o h (f .value) (f .is)))
+    let s = now (c .before .before .before .before .before .before .before .before .before .before .before .before .args .formula) in
+    let o = now (c .before .before .before .before .before .before .before .before .before .before .before .before .args .out) in
+    let h = c .before .before .before .before .before .before .before .before .before .if1 .left in
+    let f = read s o h (sym (c .before .before .before .before .before .before .before .before .check-formula .ensures) ∙ c .before .before .before .before .before .before .enum-told .given .1) in
+    let d = rw (ap (λ (y : Outcome Formula). textOf y) (f .is)) at (c .before .before .before .walk .ensures) in
+    whole-room d (omega (arith, few s o h (f .value) (f .is)))
 
 enum-known-r : tie.Need-enum-known-r
 enum-known-r c = search needs
@@ -42,14 +46,13 @@ same-length c = search needs
 
 returns-2 : tie.Need-returns-2
 returns-2 c =
-    let s = now (c .before .before .before .before .before .before .before .before .before .before .before .before .before .before .args .formula) in
-    let o = now (c .before .before .before .before .before .before .before .before .before .before .before .before .before .before .args .out) in
-    let h = c .before .before .before .before .before .before .before .before .before .before .before .if1 .left in
-    let f = read s o h (sym (c .before .before .before .before .before .before .before .before .before .before .check-formula .ensures) ∙ c .before .before .before .before .before .before .before .before .enum-told .given .1) in
-    let d = c .before .before .before .before .before .before .node .ensures (f .value) (task s o h (f .value) (f .is)) in
-    let z = size s o h (f .value) (f .is) in
+    let s = now (c .before .before .before .before .before .before .before .before .before .before .before .before .before .before .before .args .formula) in
+    let o = now (c .before .before .before .before .before .before .before .before .before .before .before .before .before .before .before .args .out) in
+    let h = c .before .before .before .before .before .before .before .before .before .before .before .before .if1 .left in
+    let f = read s o h (sym (c .before .before .before .before .before .before .before .before .before .before .before .check-formula .ensures) ∙ c .before .before .before .before .before .before .before .before .before .enum-told .given .1) in
+    let d = rw (ap (λ (y : Outcome Formula). textOf y) (f .is)) at (c .before .before .before .before .before .before .walk .ensures) in
     let g = was-read s o h (f .value) (f .is) in
-    (ap Good (whole-long d z) ∙ g .0, whole d z (omega (arith, few s o h (f .value) (f .is))) (c .before .before .clear .ensures) ∙ g .1)
+    (ap Good (whole-long d) ∙ g .0, whole d (omega (arith, few s o h (f .value) (f .is))) (c .before .before .clear .ensures) ∙ g .1)
 
 returns-3 : tie.Need-returns-3
 returns-3 c = not-read (now (c .before .before .before .before .before .before .before .args .formula)) (now (c .before .before .before .before .before .before .before .args .out)) (c .before .before .before .before .if1 .left) _ (sym (c .before .before .before .check-formula .ensures) ∙ c .before .r .given .1)
@@ -61,7 +64,7 @@ pretty-spec =
     returns
     check-formula-requires
     enum-told
-    node-requires
+    walk-requires
     clear-requires
     enum-known-r
     same-length

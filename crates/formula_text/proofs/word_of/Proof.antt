@@ -1,22 +1,22 @@
--- `formula_text::word_of` meets its contract: each arm is the entry of the list, and the others are past it or at 0. Assumes nothing.
-use Prim.Native.Nat.{ℕ, zero, suc, _+_, _%_, _≤_}
-use mathlib.Core.Path.{_≡_, refl, sym}
+-- `formula_text::word_of` meets its contract: each arm is the entry of the list, and what is left is 0. Assumes nothing.
+use Prim.Native.Nat.{ℕ, zero, suc, _+_, _%_, _<_, _≤_}
+use mathlib.Core.Path.{_≡_, refl}
 use native.Mathlib.Omega.{arith}
-use lib.ListN.{getD, List·getD-eq-default}
+use lib.ListN.{getD}
 use Rattle.formula_text.specs.Words.{words}
 use Rattle.formula_text.proofs.word_of.Statement.{statement}
 use Rattle.formula_text.proofs.word_of.Tie as tie
 
-one : (k n : ℕ) → (k ≡ n → ⊥) → n ≤ k → n + 1 ≤ k
-one k n a h = omega arith
+-- none of three, none of four
+three : (k n : ℕ) → (k ≡ n → ⊥) → (k ≡ n + 1 → ⊥) → (k ≡ n + 2 → ⊥) → n ≤ k → n + 3 ≤ k
+three k n a b c h = omega arith
 
--- none of four
 four : (k n : ℕ) → (k ≡ n → ⊥) → (k ≡ n + 1 → ⊥) → (k ≡ n + 2 → ⊥) → (k ≡ n + 3 → ⊥) → n ≤ k → n + 4 ≤ k
 four k n a b c d h = omega arith
 
-unlisted : (k : ℕ) → (1 ≤ k → 14 ≤ k) → 0 ≡ getD words k 0
-unlisted zero h = refl
-unlisted (suc k) h = sym (List·getD-eq-default words 0 (h (omega arith)))
+unlisted : (k : ℕ) → k < 16 → (1 ≤ k → 16 ≤ k) → 0 ≡ getD words k 0
+unlisted zero l h = refl
+unlisted (suc k) l h = absurd (omega (arith, h (omega arith)))
 
 returns : tie.Need-returns
 returns c = rw (c .match .keys1)
@@ -58,10 +58,16 @@ returns-13 : tie.Need-returns-13
 returns-13 c = rw (c .match .keys13)
 
 returns-14 : tie.Need-returns-14
-returns-14 c =
+returns-14 c = rw (c .match .keys14)
+
+returns-15 : tie.Need-returns-15
+returns-15 c = rw (c .match .keys15)
+
+returns-16 : tie.Need-returns-16
+returns-16 c =
     let r = c .match .rest in
     let k = c .before .args .tag % 16 in
-    unlisted k λ h. one k 13 (r .1) (four k 9 (r .0 .0 .0 .0 .1) (r .0 .0 .0 .1) (r .0 .0 .1) (r .0 .1) (four k 5 (r .0 .0 .0 .0 .0 .0 .0 .0 .1) (r .0 .0 .0 .0 .0 .0 .0 .1) (r .0 .0 .0 .0 .0 .0 .1) (r .0 .0 .0 .0 .0 .1) (four k 1 (r .0 .0 .0 .0 .0 .0 .0 .0 .0 .0 .0 .0 .1) (r .0 .0 .0 .0 .0 .0 .0 .0 .0 .0 .0 .1) (r .0 .0 .0 .0 .0 .0 .0 .0 .0 .0 .1) (r .0 .0 .0 .0 .0 .0 .0 .0 .0 .1) h)))
+    unlisted k (omega arith) λ h. three k 13 (r .0 .0 .1) (r .0 .1) (r .1) (four k 9 (r .0 .0 .0 .0 .0 .0 .1) (r .0 .0 .0 .0 .0 .1) (r .0 .0 .0 .0 .1) (r .0 .0 .0 .1) (four k 5 (r .0 .0 .0 .0 .0 .0 .0 .0 .0 .0 .1) (r .0 .0 .0 .0 .0 .0 .0 .0 .0 .1) (r .0 .0 .0 .0 .0 .0 .0 .0 .1) (r .0 .0 .0 .0 .0 .0 .0 .1) (four k 1 (r .0 .0 .0 .0 .0 .0 .0 .0 .0 .0 .0 .0 .0 .0 .1) (r .0 .0 .0 .0 .0 .0 .0 .0 .0 .0 .0 .0 .0 .1) (r .0 .0 .0 .0 .0 .0 .0 .0 .0 .0 .0 .0 .1) (r .0 .0 .0 .0 .0 .0 .0 .0 .0 .0 .0 .1) h)))
 
 pub word-of-spec : {M : Type 1} → statement M
 word-of-spec =
@@ -80,4 +86,6 @@ word-of-spec =
     returns-11
     returns-12
     returns-13
-    returns-14)
+    returns-14
+    returns-15
+    returns-16)

@@ -3,7 +3,7 @@ use mathlib.Core.Path.{sym, ap, _∙_}
 use native.Mathlib.Omega.{arith}
 use denote.Ref.{now}
 use Rattle.rules.specs.declared.Answer.the-variants.{Good}
-use Rattle.words.specs.Ends.{whole-long, whole-room, whole}
+use Rattle.words.specs.Ends.{from-start, whole-long, whole-room, whole}
 use Rattle.term_text.proofs.Whole.{short, not-read, was-read, read, few, size, task}
 use borrow.Author.Needs.{needs}
 use Rattle.term_text.proofs.pretty.Statement.{statement}
@@ -32,7 +32,7 @@ clear-requires c κs =
     let o = now (c .before .before .before .before .before .before .before .before .before .before .before .args .out) in
     let h = c .before .before .before .before .before .before .before .before .if1 .left in
     let f = read s o h (sym (c .before .before .before .before .before .before .before .check-term .ensures) ∙ c .before .before .before .before .before .enum-told .given .1) in
-    whole-room (c .before .before .before .node .ensures (f .value) (task s o h (f .value) (f .is))) (size s o h (f .value) (f .is)) (omega (arith, few s o h (f .value) (f .is)))
+    whole-room (from-start (c .before .before .before .node .ensures (f .value) (task s o h (f .value) (f .is))) (size s o h (f .value) (f .is))) (omega (arith, few s o h (f .value) (f .is)))
 
 enum-known-r : tie.Need-enum-known-r
 enum-known-r c = search needs
@@ -46,10 +46,9 @@ returns-2 c =
     let o = now (c .before .before .before .before .before .before .before .before .before .before .before .before .before .before .args .out) in
     let h = c .before .before .before .before .before .before .before .before .before .before .before .if1 .left in
     let f = read s o h (sym (c .before .before .before .before .before .before .before .before .before .before .check-term .ensures) ∙ c .before .before .before .before .before .before .before .before .enum-told .given .1) in
-    let d = c .before .before .before .before .before .before .node .ensures (f .value) (task s o h (f .value) (f .is)) in
-    let z = size s o h (f .value) (f .is) in
+    let d = from-start (c .before .before .before .before .before .before .node .ensures (f .value) (task s o h (f .value) (f .is))) (size s o h (f .value) (f .is)) in
     let g = was-read s o h (f .value) (f .is) in
-    (ap Good (whole-long d z) ∙ g .0, whole d z (omega (arith, few s o h (f .value) (f .is))) (c .before .before .clear .ensures) ∙ g .1)
+    (ap Good (whole-long d) ∙ g .0, whole d (omega (arith, few s o h (f .value) (f .is))) (c .before .before .clear .ensures) ∙ g .1)
 
 returns-3 : tie.Need-returns-3
 returns-3 c = not-read (now (c .before .before .before .before .before .before .before .args .term)) (now (c .before .before .before .before .before .before .before .args .out)) (c .before .before .before .before .if1 .left) _ (sym (c .before .before .before .check-term .ensures) ∙ c .before .r .given .1)

@@ -3,7 +3,7 @@ use Prim.Native.Nat.{_+_}
 use native.Mathlib.Omega.{arith}
 use lib.ListN.{getD}
 use denote.Ref.{now}
-use Rattle.words.proofs.Written.{whole, exact}
+use Rattle.words.proofs.Written.{more, copied, exact}
 use borrow.Author.Needs.{needs}
 use Rattle.words.proofs.name.Statement.{statement}
 use Rattle.words.proofs.name.Tie as tie
@@ -50,7 +50,11 @@ same-length c = search needs
 returns : tie.Need-returns
 returns c =
     let a = c .before .before .before .before .before .before .before .before .before .before .before .before .before .before .before .before .args in
-    whole (now (a .s)) (now (a .out)) _ _ _ (a .at + 1) (a .to) (getD (now (a .s)) (a .at) 0) (c .before .before .before .before .before .before .before .before .before .before .before .before .before .before .before .before .pre .0) (omega arith) (c .before .before .before .before .before .before .before .before .before .before .before .before .before .before .before .before .pre .2) (c .before .before .before .before .before .before .before .before .before .before .copy-eight .ensures) (c .before .before .before .before .before .before .copy-eight2 .ensures) (c .before .before .copy-eight3 .ensures)
+    let s = now (a .s) in
+    let o = now (a .out) in
+    let i = a .at + 1 in
+    let q = c .before .before .before .before .before .before .before .before .before .before .before .before .before .before .before .before .pre in
+    copied s o _ i (a .to) 24 (getD s (a .at) 0) (q .0) (omega arith) (q .2) (more s o _ _ i (a .to) 16 (omega arith) (more s o _ _ i (a .to) 8 (omega arith) (c .before .before .before .before .before .before .before .before .before .before .copy-eight .ensures) (c .before .before .before .before .before .before .copy-eight2 .ensures)) (c .before .before .copy-eight3 .ensures))
 
 add-copy : tie.Need-add-copy
 add-copy c = search needs

@@ -1,14 +1,12 @@
--- `contracting::redexes::apply` meets its contract: the argument goes into the body, which stands in front of it. Assumes nothing.
+-- `contracting::redexes::apply` meets its contract: the argument goes into the body, which stands in front of it, or stays where it is.
+-- Assumes nothing.
 use native.Mathlib.Omega.{arith}
-use Rattle.spans.proofs.Rows.{app-name, in-app, past-name, name-is}
-use Rattle.contracting.proofs.Standing.{inside, bounds-two, contracts-two}
-use Rattle.contracting.proofs.Jobs.{app-putting}
+use Rattle.spans.proofs.Rows.{app-name}
+use Rattle.parts.proofs.Standing.{inside}
+use Rattle.contracting.proofs.Jobs.{app-body, app-bounds, app-argument, app-numbers, app-placing, tail-room, tail-few, tail-stays}
 use borrow.Author.Needs.{needs}
 use Rattle.contracting.proofs.redexes.apply.Statement.{statement}
 use Rattle.contracting.proofs.redexes.apply.Tie as tie
-
-add-name : tie.Need-add-name
-add-name c = omega (arith, inside (c .before .before .before .pre .0 .3))
 
 add-after-names : tie.Need-add-after-names
 add-after-names c = omega (arith, inside (c .before .before .before .pre .0 .3))
@@ -16,59 +14,59 @@ add-after-names c = omega (arith, inside (c .before .before .before .pre .0 .3))
 after-names-requires : tie.Need-after-names-requires
 after-names-requires c κs = (_, app-name _ _ _ (c .before .before .before .pre .0 .3 .stands))
 
-span-two-requires : tie.Need-span-two-requires
-span-two-requires c κs = (_, _, in-app (c .before .before .before .before .pre .0 .3 .stands) (c .after-names .ensures) .row)
+add-find-in : tie.Need-add-find-in
+add-find-in c = omega (arith, app-bounds (c .before .before .before .before .pre .0 .3) (c .after-names .ensures))
 
-sub-others : tie.Need-sub-others
-sub-others c = let j = c .before .before .before .before .before .pre .0 .3 in let g = c .before .after-names .ensures in let i = in-app (j .stands) g in omega (arith, bounds-two j i (c .span-two .ensures _ _ (i .row)), past-name (j .stands) g)
+find-in-requires : tie.Need-find-in-requires
+find-in-requires c κs =
+    let j = c .before .before .before .before .before .pre .0 .3 in
+    let g = c .before .after-names .ensures in
+    let b = app-bounds j g in
+    ((_, app-body j g), (b .0, b .1, b .2, c .before .before .before .before .before .pre .1 .0))
 
-sub-others-2 : tie.Need-sub-others-2
-sub-others-2 c = let j = c .before .before .before .before .before .before .pre .0 .3 in let g = c .before .before .after-names .ensures in let i = in-app (j .stands) g in omega (arith, bounds-two j i (c .before .span-two .ensures _ _ (i .row)), past-name (j .stands) g)
+sub-gap : tie.Need-sub-gap
+sub-gap c =
+    let j = c .before .before .before .before .before .before .before .before .pre .0 .3 in
+    let g = c .before .before .before .before .after-names .ensures in
+    omega (arith, app-numbers j g (c .before .before .find-in .ensures _ (app-body j g)))
 
-sub-others-3 : tie.Need-sub-others-3
-sub-others-3 c = let j = c .before .before .before .before .before .before .before .pre .0 .3 in let g = c .before .before .before .after-names .ensures in let i = in-app (j .stands) g in omega (arith, bounds-two j i (c .before .before .span-two .ensures _ _ (i .row)), past-name (j .stands) g)
+sub-gap-2 : tie.Need-sub-gap-2
+sub-gap-2 c =
+    let j = c .before .before .before .before .before .before .before .before .pre .0 .3 in
+    let g = c .before .before .before .before .after-names .ensures in
+    omega (arith, app-numbers j g (c .before .before .find-in .ensures _ (app-body j g)))
 
-sub-rest : tie.Need-sub-rest
-sub-rest c = let j = c .before .before .before .before .before .before .before .pre .0 .3 in let g = c .before .before .before .after-names .ensures in let i = in-app (j .stands) g in omega (arith, bounds-two j i (c .before .before .span-two .ensures _ _ (i .row)), past-name (j .stands) g)
+sub-ends-body : tie.Need-sub-ends-body
+sub-ends-body c =
+    let j = c .before .before .before .before .before .before .before .before .before .pre .0 .3 in
+    let g = c .before .before .before .before .before .after-names .ensures in
+    omega (arith, app-numbers j g (c .before .before .before .find-in .ensures _ (app-body j g)))
 
-sub-rest-2 : tie.Need-sub-rest-2
-sub-rest-2 c = let j = c .before .before .before .before .before .before .before .pre .0 .3 in let g = c .before .before .before .after-names .ensures in let i = in-app (j .stands) g in omega (arith, bounds-two j i (c .before .before .span-two .ensures _ _ (i .row)), past-name (j .stands) g)
+ends-body-requires : tie.Need-ends-body-requires
+ends-body-requires c κs =
+    let j = c .before .before .before .before .before .before .before .before .before .pre .0 .3 in
+    let g = c .before .before .before .before .before .after-names .ensures in
+    let b = app-numbers j g (c .before .before .before .find-in .ensures _ (app-body j g)) in
+    (b .held-in, b .gap-small)
 
-sub-put-in : tie.Need-sub-put-in
-sub-put-in c = let j = c .before .before .before .before .before .before .before .pre .0 .3 in let g = c .before .before .before .after-names .ensures in let i = in-app (j .stands) g in omega (arith, bounds-two j i (c .before .before .span-two .ensures _ _ (i .row)), past-name (j .stands) g)
+sub-copy : tie.Need-sub-copy
+sub-copy c =
+    let j = c .before .before .before .before .before .before .before .before .before .before .before .pre .0 .3 in
+    let g = c .before .before .before .before .before .before .before .after-names .ensures in
+    omega (arith, tail-room j g (c .before .before .before .before .before .find-in .ensures _ (app-body j g)) (λ ps q. c .before .ends-body .ensures ps q (c .if1 .taken)) (c .before .before .before .before .before .before .before .before .before .before .before .pre .1 .1))
 
-part-put-in-start : tie.Need-part-put-in-start
-part-put-in-start c = let j = c .before .before .before .before .before .before .before .pre .0 .3 in let g = c .before .before .before .after-names .ensures in let i = in-app (j .stands) g in omega (arith, bounds-two j i (c .before .before .span-two .ensures _ _ (i .row)), past-name (j .stands) g)
-
-part-put-in-end : tie.Need-part-put-in-end
-part-put-in-end c = let j = c .before .before .before .before .before .before .before .pre .0 .3 in let g = c .before .before .before .after-names .ensures in let i = in-app (j .stands) g in omega (arith, bounds-two j i (c .before .before .span-two .ensures _ _ (i .row)), past-name (j .stands) g)
-
-sub-put-in-2 : tie.Need-sub-put-in-2
-sub-put-in-2 c = let j = c .before .before .before .before .before .before .before .before .pre .0 .3 in let g = c .before .before .before .before .after-names .ensures in let i = in-app (j .stands) g in omega (arith, bounds-two j i (c .before .before .before .span-two .ensures _ _ (i .row)), past-name (j .stands) g)
-
-part-put-in-start-2 : tie.Need-part-put-in-start-2
-part-put-in-start-2 c = let j = c .before .before .before .before .before .before .before .before .pre .0 .3 in let g = c .before .before .before .before .after-names .ensures in let i = in-app (j .stands) g in omega (arith, bounds-two j i (c .before .before .before .span-two .ensures _ _ (i .row)), past-name (j .stands) g)
-
-part-put-in-end-2 : tie.Need-part-put-in-end-2
-part-put-in-end-2 c = let j = c .before .before .before .before .before .before .before .before .pre .0 .3 in let g = c .before .before .before .before .after-names .ensures in let i = in-app (j .stands) g in omega (arith, bounds-two j i (c .before .before .before .span-two .ensures _ _ (i .row)), past-name (j .stands) g)
-
-sub-put-in-3 : tie.Need-sub-put-in-3
-sub-put-in-3 c = let j = c .before .before .before .before .before .before .before .before .before .pre .0 .3 in let g = c .before .before .before .before .before .after-names .ensures in let i = in-app (j .stands) g in omega (arith, bounds-two j i (c .before .before .before .before .span-two .ensures _ _ (i .row)), past-name (j .stands) g)
-
-part-put-in-start-3 : tie.Need-part-put-in-start-3
-part-put-in-start-3 c = let j = c .before .before .before .before .before .before .before .before .before .pre .0 .3 in let g = c .before .before .before .before .before .after-names .ensures in let i = in-app (j .stands) g in omega (arith, bounds-two j i (c .before .before .before .before .span-two .ensures _ _ (i .row)), past-name (j .stands) g)
-
-part-put-in-end-3 : tie.Need-part-put-in-end-3
-part-put-in-end-3 c = let j = c .before .before .before .before .before .before .before .before .before .pre .0 .3 in let g = c .before .before .before .before .before .after-names .ensures in let i = in-app (j .stands) g in omega (arith, bounds-two j i (c .before .before .before .before .span-two .ensures _ _ (i .row)), past-name (j .stands) g)
-
-put-in-requires : tie.Need-put-in-requires
-put-in-requires c κs =
-    let w = c .before .before .before .before .before .before .before .before .before .before .before .before .pre in
+copy-requires : tie.Need-copy-requires
+copy-requires c κs =
+    let j = c .before .before .before .before .before .before .before .before .before .before .before .before .pre .0 .3 in
     let g = c .before .before .before .before .before .before .before .before .after-names .ensures in
-    ((_, _, app-putting (w .0 .3) g (c .before .before .before .before .before .before .before .span-two .ensures _ _ (in-app (w .0 .3 .stands) g .row))), w .1)
+    let r = tail-room j g (c .before .before .before .before .before .before .find-in .ensures _ (app-body j g)) (λ ps q. c .before .before .ends-body .ensures ps q (c .before .if1 .taken)) (c .before .before .before .before .before .before .before .before .before .before .before .before .pre .1 .1) in
+    (r .1, r .2, r .3)
 
-told-requires : tie.Need-told-requires
-told-requires c κs = search needs
+sub-t21 : tie.Need-sub-t21
+sub-t21 c =
+    let j = c .before .before .before .before .before .before .before .before .before .before .before .before .before .before .before .pre .0 .3 in
+    let g = c .before .before .before .before .before .before .before .before .before .before .before .after-names .ensures in
+    omega (arith, tail-few j g (c .before .before .before .before .before .before .before .before .before .find-in .ensures _ (app-body j g)) (λ ps q. c .before .before .before .before .before .ends-body .ensures ps q (c .before .before .before .before .if1 .taken)))
 
 same-length : tie.Need-same-length
 same-length c = search needs
@@ -78,34 +76,69 @@ same-length-2 c = search needs
 
 returns : tie.Need-returns
 returns c x e a j =
+    let g = c .before .before .before .before .before .before .before .before .before .before .before .after-names .ensures in
+    tail-stays j g (c .before .before .before .before .before .before .before .before .before .find-in .ensures _ (app-body j g)) (λ ps q. c .before .before .before .before .before .ends-body .ensures ps q (c .before .before .before .before .if1 .taken)) (c .before .before .before .before .before .before .before .before .before .before .before .before .before .before .before .pre .1 .1) (c .before .before .copy .ensures)
+
+span-requires : tie.Need-span-requires
+span-requires c κs =
+    let j = c .before .before .before .before .before .before .before .before .before .before .before .pre .0 .3 in
+    let g = c .before .before .before .before .before .before .before .after-names .ensures in
+    (_, app-argument j g (c .before .before .before .before .before .find-in .ensures _ (app-body j g)))
+
+sub-rest : tie.Need-sub-rest
+sub-rest c =
+    let j = c .before .before .before .before .before .before .before .before .before .before .before .before .pre .0 .3 in
+    let g = c .before .before .before .before .before .before .before .before .after-names .ensures in
+    omega (arith, app-numbers j g (c .before .before .before .before .before .before .find-in .ensures _ (app-body j g)) .count, j .nodes-in)
+
+sub-rest-2 : tie.Need-sub-rest-2
+sub-rest-2 c =
+    let j = c .before .before .before .before .before .before .before .before .before .before .before .before .before .pre .0 .3 in
+    let g = c .before .before .before .before .before .before .before .before .before .after-names .ensures in
+    let k = c .before .before .before .before .before .before .before .find-in .ensures _ (app-body j g) in
+    omega (arith, app-numbers j g k .count, j .nodes-in, c .before .span .ensures _ (app-argument j g k) .nodes)
+
+put-here-requires : tie.Need-put-here-requires
+put-here-requires c κs =
+    let j = c .before .before .before .before .before .before .before .before .before .before .before .before .before .before .before .pre .0 .3 in
+    let g = c .before .before .before .before .before .before .before .before .before .before .before .after-names .ensures in
+    let k = c .before .before .before .before .before .before .before .before .before .find-in .ensures _ (app-body j g) in
+    ((_, _, _, _, _, app-placing j g k (c .before .before .before .span .ensures _ (app-argument j g k))), c .before .before .before .before .before .before .before .before .before .before .before .before .before .before .before .pre .1 .1)
+
+same-length-3 : tie.Need-same-length-3
+same-length-3 c = search needs
+
+same-length-4 : tie.Need-same-length-4
+same-length-4 c = search needs
+
+returns-2 : tie.Need-returns-2
+returns-2 c x e a j =
     let g = c .before .before .before .before .before .before .before .before .before .before .before .before .before .before .after-names .ensures in
-    let m = c .before .before .before .before .before .before .before .before .before .before .before .before .before .span-two .ensures _ _ (in-app (j .stands) g .row) in
-    rw (name-is (j .stands) g) at (contracts-two j (in-app (j .stands) g) m (c .before .before .before .before .before .put-in .ensures e a (app-putting j g m)) (c .told .ensures))
+    let k = c .before .before .before .before .before .before .before .before .before .before .before .before .find-in .ensures _ (app-body j g) in
+    c .before .before .put-here .ensures _ _ _ _ _ (app-placing j g k (c .before .before .before .before .before .before .span .ensures _ (app-argument j g k)))
 
 pub apply-spec : {M : Type 1} → statement M
 apply-spec =
     tie.close
     (tie.spec
-    add-name
     add-after-names
     after-names-requires
-    span-two-requires
-    sub-others
-    sub-others-2
-    sub-others-3
-    sub-rest
-    sub-rest-2
-    sub-put-in
-    part-put-in-start
-    part-put-in-end
-    sub-put-in-2
-    part-put-in-start-2
-    part-put-in-end-2
-    sub-put-in-3
-    part-put-in-start-3
-    part-put-in-end-3
-    put-in-requires
-    told-requires
+    add-find-in
+    find-in-requires
+    sub-gap
+    sub-gap-2
+    sub-ends-body
+    ends-body-requires
+    sub-copy
+    copy-requires
+    sub-t21
     same-length
     same-length-2
-    returns)
+    returns
+    span-requires
+    sub-rest
+    sub-rest-2
+    put-here-requires
+    same-length-3
+    same-length-4
+    returns-2)

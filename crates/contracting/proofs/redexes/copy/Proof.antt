@@ -1,8 +1,8 @@
--- `contracting::redexes::copy` meets its contract: the source goes into the body behind it, for either name. Assumes nothing.
+-- `contracting::redexes::copy` meets its contract: the Promote goes into the body behind it twice, in turn. Assumes nothing.
 use native.Mathlib.Omega.{arith}
-use Rattle.spans.proofs.Rows.{past-names, x-is, y-is, both-names, in-both}
-use Rattle.contracting.proofs.Standing.{inside, bounds-two, contracts-two}
-use Rattle.contracting.proofs.Jobs.{copy-turns}
+use Rattle.spans.proofs.Rows.{both-names}
+use Rattle.parts.proofs.Standing.{inside}
+use Rattle.contracting.proofs.Jobs.{copy-source, copy-pairing, copy-nodes}
 use borrow.Author.Needs.{needs}
 use Rattle.contracting.proofs.redexes.copy.Statement.{statement}
 use Rattle.contracting.proofs.redexes.copy.Tie as tie
@@ -13,191 +13,26 @@ add-span-names c = omega (arith, inside (c .before .before .before .before .pre 
 span-names-requires : tie.Need-span-names-requires
 span-names-requires c κs = (_, _, both-names _ _ _ _ _ (c .before .before .before .before .pre .0 .4 .stands))
 
-add-x : tie.Need-add-x
-add-x c =
-    let j = c .before .before .before .before .before .pre .0 .4 in
-    let h = both-names _ _ _ _ _ (j .stands) in
-    let m = c .span-names .ensures _ _ h in
-    omega (arith, in-both (j .stands) m .ends, past-names _ _ h m, inside j)
-
-add-y : tie.Need-add-y
-add-y c =
-    let j = c .before .before .before .before .before .pre .0 .4 in
-    let h = both-names _ _ _ _ _ (j .stands) in
-    let m = c .span-names .ensures _ _ h in
-    omega (arith, in-both (j .stands) m .ends, past-names _ _ h m, inside j)
-
-span-two-requires : tie.Need-span-two-requires
-span-two-requires c κs = let j = c .before .before .before .before .before .pre .0 .4 in (_, _, in-both (j .stands) (c .span-names .ensures _ _ (both-names _ _ _ _ _ (j .stands))) .row)
-
-sub-others : tie.Need-sub-others
-sub-others c =
-    let j = c .before .before .before .before .before .before .pre .0 .4 in
-    let h = both-names _ _ _ _ _ (j .stands) in
-    let m = c .before .span-names .ensures _ _ h in
-    let i = in-both (j .stands) m in
-    omega (arith, bounds-two j i (c .span-two .ensures _ _ (i .row)), past-names _ _ h m)
-
-sub-others-2 : tie.Need-sub-others-2
-sub-others-2 c =
-    let j = c .before .before .before .before .before .before .before .pre .0 .4 in
-    let h = both-names _ _ _ _ _ (j .stands) in
-    let m = c .before .before .span-names .ensures _ _ h in
-    let i = in-both (j .stands) m in
-    omega (arith, bounds-two j i (c .before .span-two .ensures _ _ (i .row)), past-names _ _ h m)
-
-sub-others-3 : tie.Need-sub-others-3
-sub-others-3 c =
-    let j = c .before .before .before .before .before .before .before .before .pre .0 .4 in
-    let h = both-names _ _ _ _ _ (j .stands) in
-    let m = c .before .before .before .span-names .ensures _ _ h in
-    let i = in-both (j .stands) m in
-    omega (arith, bounds-two j i (c .before .before .span-two .ensures _ _ (i .row)), past-names _ _ h m)
+span-requires : tie.Need-span-requires
+span-requires c κs = let j = c .before .before .before .before .before .pre .0 .4 in (_, copy-source j (c .span-names .ensures _ _ (both-names _ _ _ _ _ (j .stands))))
 
 sub-rest : tie.Need-sub-rest
 sub-rest c =
-    let j = c .before .before .before .before .before .before .before .before .pre .0 .4 in
-    let h = both-names _ _ _ _ _ (j .stands) in
-    let m = c .before .before .before .span-names .ensures _ _ h in
-    let i = in-both (j .stands) m in
-    omega (arith, bounds-two j i (c .before .before .span-two .ensures _ _ (i .row)), past-names _ _ h m)
+    let j = c .before .before .before .before .before .before .pre .0 .4 in
+    let m = c .before .span-names .ensures _ _ (both-names _ _ _ _ _ (j .stands)) in
+    omega (arith, copy-nodes j m (c .span .ensures _ (copy-source j m)))
 
 sub-rest-2 : tie.Need-sub-rest-2
 sub-rest-2 c =
-    let j = c .before .before .before .before .before .before .before .before .pre .0 .4 in
-    let h = both-names _ _ _ _ _ (j .stands) in
-    let m = c .before .before .before .span-names .ensures _ _ h in
-    let i = in-both (j .stands) m in
-    omega (arith, bounds-two j i (c .before .before .span-two .ensures _ _ (i .row)), past-names _ _ h m)
+    let j = c .before .before .before .before .before .before .before .pre .0 .4 in
+    let m = c .before .before .span-names .ensures _ _ (both-names _ _ _ _ _ (j .stands)) in
+    omega (arith, copy-nodes j m (c .before .span .ensures _ (copy-source j m)))
 
-sub-in-turn : tie.Need-sub-in-turn
-sub-in-turn c =
-    let j = c .before .before .before .before .before .before .before .before .pre .0 .4 in
-    let h = both-names _ _ _ _ _ (j .stands) in
-    let m = c .before .before .before .span-names .ensures _ _ h in
-    let i = in-both (j .stands) m in
-    omega (arith, bounds-two j i (c .before .before .span-two .ensures _ _ (i .row)), past-names _ _ h m)
-
-part-in-turn-start : tie.Need-part-in-turn-start
-part-in-turn-start c =
-    let j = c .before .before .before .before .before .before .before .before .pre .0 .4 in
-    let h = both-names _ _ _ _ _ (j .stands) in
-    let m = c .before .before .before .span-names .ensures _ _ h in
-    let i = in-both (j .stands) m in
-    omega (arith, bounds-two j i (c .before .before .span-two .ensures _ _ (i .row)), past-names _ _ h m)
-
-part-in-turn-end : tie.Need-part-in-turn-end
-part-in-turn-end c =
-    let j = c .before .before .before .before .before .before .before .before .pre .0 .4 in
-    let h = both-names _ _ _ _ _ (j .stands) in
-    let m = c .before .before .before .span-names .ensures _ _ h in
-    let i = in-both (j .stands) m in
-    omega (arith, bounds-two j i (c .before .before .span-two .ensures _ _ (i .row)), past-names _ _ h m)
-
-sub-in-turn-2 : tie.Need-sub-in-turn-2
-sub-in-turn-2 c =
-    let j = c .before .before .before .before .before .before .before .before .before .pre .0 .4 in
-    let h = both-names _ _ _ _ _ (j .stands) in
-    let m = c .before .before .before .before .span-names .ensures _ _ h in
-    let i = in-both (j .stands) m in
-    omega (arith, bounds-two j i (c .before .before .before .span-two .ensures _ _ (i .row)), past-names _ _ h m)
-
-part-in-turn-start-2 : tie.Need-part-in-turn-start-2
-part-in-turn-start-2 c =
-    let j = c .before .before .before .before .before .before .before .before .before .pre .0 .4 in
-    let h = both-names _ _ _ _ _ (j .stands) in
-    let m = c .before .before .before .before .span-names .ensures _ _ h in
-    let i = in-both (j .stands) m in
-    omega (arith, bounds-two j i (c .before .before .before .span-two .ensures _ _ (i .row)), past-names _ _ h m)
-
-part-in-turn-end-2 : tie.Need-part-in-turn-end-2
-part-in-turn-end-2 c =
-    let j = c .before .before .before .before .before .before .before .before .before .pre .0 .4 in
-    let h = both-names _ _ _ _ _ (j .stands) in
-    let m = c .before .before .before .before .span-names .ensures _ _ h in
-    let i = in-both (j .stands) m in
-    omega (arith, bounds-two j i (c .before .before .before .span-two .ensures _ _ (i .row)), past-names _ _ h m)
-
-sub-in-turn-3 : tie.Need-sub-in-turn-3
-sub-in-turn-3 c =
+both-requires : tie.Need-both-requires
+both-requires c κs =
     let j = c .before .before .before .before .before .before .before .before .before .before .pre .0 .4 in
-    let h = both-names _ _ _ _ _ (j .stands) in
-    let m = c .before .before .before .before .before .span-names .ensures _ _ h in
-    let i = in-both (j .stands) m in
-    omega (arith, bounds-two j i (c .before .before .before .before .span-two .ensures _ _ (i .row)), past-names _ _ h m)
-
-part-in-turn-start-3 : tie.Need-part-in-turn-start-3
-part-in-turn-start-3 c =
-    let j = c .before .before .before .before .before .before .before .before .before .before .pre .0 .4 in
-    let h = both-names _ _ _ _ _ (j .stands) in
-    let m = c .before .before .before .before .before .span-names .ensures _ _ h in
-    let i = in-both (j .stands) m in
-    omega (arith, bounds-two j i (c .before .before .before .before .span-two .ensures _ _ (i .row)), past-names _ _ h m)
-
-part-in-turn-end-3 : tie.Need-part-in-turn-end-3
-part-in-turn-end-3 c =
-    let j = c .before .before .before .before .before .before .before .before .before .before .pre .0 .4 in
-    let h = both-names _ _ _ _ _ (j .stands) in
-    let m = c .before .before .before .before .before .span-names .ensures _ _ h in
-    let i = in-both (j .stands) m in
-    omega (arith, bounds-two j i (c .before .before .before .before .span-two .ensures _ _ (i .row)), past-names _ _ h m)
-
-sub-in-turn-4 : tie.Need-sub-in-turn-4
-sub-in-turn-4 c =
-    let j = c .before .before .before .before .before .before .before .before .before .before .before .pre .0 .4 in
-    let h = both-names _ _ _ _ _ (j .stands) in
-    let m = c .before .before .before .before .before .before .span-names .ensures _ _ h in
-    let i = in-both (j .stands) m in
-    omega (arith, bounds-two j i (c .before .before .before .before .before .span-two .ensures _ _ (i .row)), past-names _ _ h m)
-
-part-in-turn-start-4 : tie.Need-part-in-turn-start-4
-part-in-turn-start-4 c =
-    let j = c .before .before .before .before .before .before .before .before .before .before .before .pre .0 .4 in
-    let h = both-names _ _ _ _ _ (j .stands) in
-    let m = c .before .before .before .before .before .before .span-names .ensures _ _ h in
-    let i = in-both (j .stands) m in
-    omega (arith, bounds-two j i (c .before .before .before .before .before .span-two .ensures _ _ (i .row)), past-names _ _ h m)
-
-part-in-turn-end-4 : tie.Need-part-in-turn-end-4
-part-in-turn-end-4 c =
-    let j = c .before .before .before .before .before .before .before .before .before .before .before .pre .0 .4 in
-    let h = both-names _ _ _ _ _ (j .stands) in
-    let m = c .before .before .before .before .before .before .span-names .ensures _ _ h in
-    let i = in-both (j .stands) m in
-    omega (arith, bounds-two j i (c .before .before .before .before .before .span-two .ensures _ _ (i .row)), past-names _ _ h m)
-
-sub-in-turn-5 : tie.Need-sub-in-turn-5
-sub-in-turn-5 c =
-    let j = c .before .before .before .before .before .before .before .before .before .before .before .before .pre .0 .4 in
-    let h = both-names _ _ _ _ _ (j .stands) in
-    let m = c .before .before .before .before .before .before .before .span-names .ensures _ _ h in
-    let i = in-both (j .stands) m in
-    omega (arith, bounds-two j i (c .before .before .before .before .before .before .span-two .ensures _ _ (i .row)), past-names _ _ h m)
-
-part-in-turn-start-5 : tie.Need-part-in-turn-start-5
-part-in-turn-start-5 c =
-    let j = c .before .before .before .before .before .before .before .before .before .before .before .before .pre .0 .4 in
-    let h = both-names _ _ _ _ _ (j .stands) in
-    let m = c .before .before .before .before .before .before .before .span-names .ensures _ _ h in
-    let i = in-both (j .stands) m in
-    omega (arith, bounds-two j i (c .before .before .before .before .before .before .span-two .ensures _ _ (i .row)), past-names _ _ h m)
-
-part-in-turn-end-5 : tie.Need-part-in-turn-end-5
-part-in-turn-end-5 c =
-    let j = c .before .before .before .before .before .before .before .before .before .before .before .before .pre .0 .4 in
-    let h = both-names _ _ _ _ _ (j .stands) in
-    let m = c .before .before .before .before .before .before .before .span-names .ensures _ _ h in
-    let i = in-both (j .stands) m in
-    omega (arith, bounds-two j i (c .before .before .before .before .before .before .span-two .ensures _ _ (i .row)), past-names _ _ h m)
-
-in-turn-requires : tie.Need-in-turn-requires
-in-turn-requires c κs =
-    let w = c .before .before .before .before .before .before .before .before .before .before .before .before .before .before .before .before .pre in
-    let m = c .before .before .before .before .before .before .before .before .before .before .before .span-names .ensures _ _ (both-names _ _ _ _ _ (w .0 .4 .stands)) in
-    ((_, _, _, copy-turns (w .0 .4) m (c .before .before .before .before .before .before .before .before .before .before .span-two .ensures _ _ (in-both (w .0 .4 .stands) m .row))), w .1)
-
-told-requires : tie.Need-told-requires
-told-requires c κs = search needs
+    let m = c .before .before .before .before .before .span-names .ensures _ _ (both-names _ _ _ _ _ (j .stands)) in
+    ((_, _, _, _, _, _, _, copy-pairing j m (c .before .before .before .before .span .ensures _ (copy-source j m))), c .before .before .before .before .before .before .before .before .before .before .pre .1)
 
 same-length : tie.Need-same-length
 same-length c = search needs
@@ -210,11 +45,8 @@ same-length-3 c = search needs
 
 returns : tie.Need-returns
 returns c x y v e j =
-    let h = both-names _ _ _ _ _ (j .stands) in
-    let m = c .before .before .before .before .before .before .before .before .before .before .before .before .before .before .before .before .before .before .before .span-names .ensures _ _ h in
-    let i = in-both (j .stands) m in
-    let q = c .before .before .before .before .before .before .before .before .before .before .before .before .before .before .before .before .before .before .span-two .ensures _ _ (i .row) in
-    rw (x-is _ _ h m, y-is _ _ h m) at (contracts-two j i q (c .before .before .before .before .before .before .before .in-turn .ensures e _ _ (copy-turns j m q)) (c .told .ensures))
+    let m = c .before .before .before .before .before .before .before .before .before .before .before .before .span-names .ensures _ _ (both-names _ _ _ _ _ (j .stands)) in
+    c .before .before .before .before .before .before .both .ensures _ _ _ _ _ _ _ (copy-pairing j m (c .before .before .before .before .before .before .before .before .before .before .before .span .ensures _ (copy-source j m)))
 
 pub copy-spec : {M : Type 1} → statement M
 copy-spec =
@@ -222,31 +54,10 @@ copy-spec =
     (tie.spec
     add-span-names
     span-names-requires
-    add-x
-    add-y
-    span-two-requires
-    sub-others
-    sub-others-2
-    sub-others-3
+    span-requires
     sub-rest
     sub-rest-2
-    sub-in-turn
-    part-in-turn-start
-    part-in-turn-end
-    sub-in-turn-2
-    part-in-turn-start-2
-    part-in-turn-end-2
-    sub-in-turn-3
-    part-in-turn-start-3
-    part-in-turn-end-3
-    sub-in-turn-4
-    part-in-turn-start-4
-    part-in-turn-end-4
-    sub-in-turn-5
-    part-in-turn-start-5
-    part-in-turn-end-5
-    in-turn-requires
-    told-requires
+    both-requires
     same-length
     same-length-2
     same-length-3

@@ -1,33 +1,25 @@
--- `contracting::redexes::second` meets its contract: the parts of the Pair stand in a row, and one of them stays. Assumes nothing.
+-- `contracting::redexes::second` meets its contract: the first part of the Pair goes, the second stays where it is. Assumes nothing.
 use native.Mathlib.Omega.{arith}
-use Rattle.spans.proofs.Rows.{of-pair}
-use Rattle.contracting.proofs.Standing.{inside, bounds-two, b-room, b-kept}
+use Rattle.parts.proofs.Standing.{inside}
+use Rattle.contracting.proofs.Staying.{in-pair, first-part, gone-nodes, second-stays}
 use borrow.Author.Needs.{needs}
 use Rattle.contracting.proofs.redexes.second.Statement.{statement}
 use Rattle.contracting.proofs.redexes.second.Tie as tie
 
-add-span-two : tie.Need-add-span-two
-add-span-two c = omega (arith, inside (c .before .before .pre .0 .3), of-pair _ _ _ (c .before .before .pre .0 .3 .stands) .ends)
+add-span : tie.Need-add-span
+add-span c = omega (arith, inside (c .before .pre .3), in-pair (c .before .pre .3) .ends)
 
-span-two-requires : tie.Need-span-two-requires
-span-two-requires c κs = (_, _, of-pair _ _ _ (c .before .before .pre .0 .3 .stands) .row)
+span-requires : tie.Need-span-requires
+span-requires c κs = (_, first-part (c .before .pre .3) (in-pair (c .before .pre .3)))
 
-copy-requires : tie.Need-copy-requires
-copy-requires c κs = let w = c .before .before .before .before .pre in let i = of-pair _ _ _ (w .0 .3 .stands) in b-room (w .0 .3) i (c .before .span-two .ensures _ _ (i .row)) (w .1)
+sub-t5 : tie.Need-sub-t5
+sub-t5 c = let j = c .before .before .pre .3 in omega (arith, gone-nodes j (in-pair j) (c .span .ensures _ (first-part j (in-pair j))))
 
 sub-t7 : tie.Need-sub-t7
-sub-t7 c = let w = c .before .before .before .before .before .before .before .pre in let i = of-pair _ _ _ (w .0 .3 .stands) in omega (arith, bounds-two (w .0 .3) i (c .before .before .before .before .span-two .ensures _ _ (i .row)) .nodes)
-
-sub-t11 : tie.Need-sub-t11
-sub-t11 c = let w = c .before .before .before .before .before .before .before .before .pre in let i = of-pair _ _ _ (w .0 .3 .stands) in omega (arith, bounds-two (w .0 .3) i (c .before .before .before .before .before .span-two .ensures _ _ (i .row)) .nodes)
-
-same-length : tie.Need-same-length
-same-length c = search needs
+sub-t7 c = let j = c .before .before .before .pre .3 in omega (arith, gone-nodes j (in-pair j) (c .before .span .ensures _ (first-part j (in-pair j))))
 
 returns : tie.Need-returns
-returns c l a b j = let i = of-pair _ _ _ (j .stands) in b-kept j i (c .before .before .before .before .before .span-two .ensures _ _ (i .row)) (c .before .before .before .copy .ensures)
+returns c l a b j made = second-stays j (in-pair j) (c .before .span .ensures _ (first-part j (in-pair j))) _ made
 
 pub second-spec : {M : Type 1} → statement M
-second-spec =
-    tie.close
-    (tie.spec add-span-two span-two-requires copy-requires sub-t7 sub-t11 same-length returns)
+second-spec = tie.close (tie.spec add-span span-requires sub-t5 sub-t7 returns)

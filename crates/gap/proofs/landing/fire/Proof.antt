@@ -1,4 +1,4 @@
--- `gap::landing::fire` meets its contract: the contraction is the step of the whole, and what it makes lands where the redex ended.
+-- `gap::landing::fire` meets its contract: the contraction is the step of the whole, and what was written lands in front of what stays.
 -- Assumes nothing.
 use native.Mathlib.Omega.{arith}
 use borrow.Author.Needs.{needs}

@@ -5,7 +5,7 @@ use native.Mathlib.Omega.{arith}
 use borrow.Author.Needs.{needs}
 use mathlib.Core.Path.{sym, _∙_}
 use lib.ListN.{length}
-use Rattle.proof.specs.Seen.{within}
+use Rattle.proof.specs.Seen.{reachedAt, within}
 use Rattle.proof.proofs.Above.{topped, rule-off, rule-on, Going, going-start, going-done, going-off, going-on}
 use borrow.Fn.Kinds.{In}
 use borrow.Fn.PlainCycle.{Measures, is, falls, and}
@@ -23,7 +23,7 @@ abbrev μ-read-premises : Measures 2 read-premises-kinds.ps ℕ
 μ-read-premises κs a = 2 * (length (a .0 .now) - a .1 .1 .1 .0 .next) + 1
 
 abbrev μ-read-rule : Measures 2 read-rule-kinds.ps ℕ
-μ-read-rule κs a = 2 * (length (a .0 .now) - a .1 .1 .1 .0 .next)
+μ-read-rule κs a = 2 * (length (a .0 .now) - a .1 .1 .1 .0)
 
 abbrev read-premises-at : ℕ → In 2 read-premises-kinds.ps
 read-premises-at t =
@@ -46,7 +46,7 @@ read-rule-below t =
 
 abbrev read-premises-Inv-loop : read-premises-lts.InvT-loop
 read-premises-Inv-loop s t most n next₀ rules₀ formulas₀ left₀ next rules formulas left =
-    Going (within most) s n (record { next = next₀; rules = rules₀; formulas = formulas₀ }) (record { next = next; rules = rules; formulas = formulas }) left
+    Going (within most) s n (reachedAt next₀ rules₀ formulas₀) (reachedAt next rules formulas) left
 
 abbrev read-premises-μ-loop : read-premises-lts.MeasureT-loop
 read-premises-μ-loop s t most n next₀ rules₀ formulas₀ left₀ next rules formulas left = left
@@ -105,7 +105,7 @@ read-rule-enum-known-reached t c = search needs
 read-rule-read-premises-requires : (t : ℕ) → read-rule-lts.Need-read-premises-requires (read-rule-claims t) (read-rule-at t) read-rule.Post
 read-rule-read-premises-requires t c κs =
     let a = c .before .before .before .before .before .args in
-    let w = topped (within (a .most)) (a .s .now) (a .from) (c .before .before .before .before .before .pre .1 .1 .1)
+    let w = topped (within (a .most)) (a .s .now) (reachedAt (a .next) (a .rules) (a .formulas)) (c .before .before .before .before .before .pre .1 .1 .1)
     (sym (c .before .before .before .read-conclusion .ensures) ∙ c .before .reached .given .1) in
     (omega (arith, c .before .before .before .before .before .pre .0, w .ruled .further, w .inside), (c .before .before .before .before .before .pre .1 .0, (c .before .before .before .before .before .pre .1 .1 .0, w .inside)))
 
@@ -115,14 +115,14 @@ read-rule-enum-known-number t c = search needs
 read-rule-returns : (t : ℕ) → read-rule-lts.Need-returns (read-rule-claims t) (read-rule-at t) read-rule.Post
 read-rule-returns t c =
     let a = c .before .before .before .before .before .before .args in
-    let w = topped (within (a .most)) (a .s .now) (a .from) (c .before .before .before .before .before .before .pre .1 .1 .1)
+    let w = topped (within (a .most)) (a .s .now) (reachedAt (a .next) (a .rules) (a .formulas)) (c .before .before .before .before .before .before .pre .1 .1 .1)
     (sym (c .before .before .before .before .read-conclusion .ensures) ∙ c .before .before .reached .given .1) in
-    λ d h. rule-on (within (a .most)) (a .s .now) (a .from) d h w (c .read-premises .result) (c .read-premises .ensures)
+    λ d h. rule-on (within (a .most)) (a .s .now) (reachedAt (a .next) (a .rules) (a .formulas)) d h w (c .read-premises .result) (c .read-premises .ensures)
 
 read-rule-returns-2 : (t : ℕ) → read-rule-lts.Need-returns-2 (read-rule-claims t) (read-rule-at t) read-rule.Post
 read-rule-returns-2 t c =
     let a = c .before .before .before .before .before .args in
-    λ d h. sym (rule-off (within (a .most)) (a .s .now) (a .from) d h (sym (c .before .before .before .read-conclusion .ensures) ∙ c .before .number .given .1))
+    λ d h. sym (rule-off (within (a .most)) (a .s .now) (reachedAt (a .next) (a .rules) (a .formulas)) d h (sym (c .before .before .before .read-conclusion .ensures) ∙ c .before .number .given .1))
 
 pub +read-premises+read-rule-spec : {M : Type 1} → statement M
 +read-premises+read-rule-spec = close μ-read-premises μ-read-rule (λ t. read-premises-lts.spec (read-premises-claims t) (read-premises-at t)

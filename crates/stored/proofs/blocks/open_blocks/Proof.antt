@@ -11,7 +11,7 @@ use Rattle.rules.specs.Refusal.{good}
 use Rattle.rules.specs.Limits.{limits}
 use Rattle.rules.specs.Stored.{openBlocks}
 use Rattle.stored.specs.Gathering.{behind, behind-nil, block-at, length-block-at, copied, wrote-take, stops, goes-on}
-use Rattle.stored.specs.Opening.{amount}
+use Rattle.block.specs.Opening.{amount}
 use Rattle.stored.proofs.blocks.open_blocks.Statement.{statement}
 use Rattle.stored.proofs.blocks.open_blocks.Tie as tie
 

@@ -1,5 +1,5 @@
 -- The proof of the walk {find}: whatever the rest of the row gives, the whole gives. Assumes nothing.
-use Prim.Native.Nat.{ℕ, _<_, _+_, _-_}
+use Prim.Native.Nat.{ℕ, _<_, _-_}
 use native.Mathlib.Omega.{arith}
 use lib.ListN.{length}
 use Rattle.substitution.proofs.Finds.{Going, begin, done, here, inside, hidden-further, hidden-turn, hit-further, hit-turn, bare-further, bare-turn, some-parts, parts-further, last-turn, deep-further, deep-turn}

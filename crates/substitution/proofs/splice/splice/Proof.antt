@@ -3,7 +3,7 @@ use Prim.Native.Nat.{_+_, _-_}
 use mathlib.Core.Path.{refl, _∙_}
 use native.Mathlib.Omega.{arith}
 use lib.ListN.{length}
-use Rattle.substitution.proofs.Writes.{wrote-length}
+use Rattle.runs.specs.Writing.{wrote-length}
 use Rattle.substitution.proofs.Splicing.{Going, begin, bounds, value-room, turn, last-run, done}
 use Rattle.substitution.proofs.splice.splice.Statement.{statement}
 use Rattle.substitution.proofs.splice.splice.Tie as tie

@@ -1,0 +1,41 @@
+-- A name is found in a part of the redex: the part stands at the start of what is left of the bytes. Assumes nothing.
+use Prim.Native.Nat.{ℕ, _+_, _-_, _≤_}
+use mathlib.Core.Path.{_≡_, ap, _∙_}
+use native.Mathlib.Omega.{arith}
+use lib.ListN.{length, take, drop, length-drop}
+use lib.Seq.{take-all}
+use Rattle.rules.specs.Basic.{Bytes}
+use Rattle.rules.specs.Name.{Name}
+use Rattle.rules.specs.Term.{Term, size}
+use Rattle.runs.specs.Wrote.{Wrote}
+use Rattle.walk.specs.Place.{TermAt}
+use Rattle.walk.proofs.Terms.{at-end}
+use Rattle.substitution.specs.Places.{places, kept}
+use Rattle.substitution.specs.declared.places.Found.{Found}
+use Rattle.substitution.proofs.Writes.{wrote-part, wrote-length}
+use Rattle.substitution.proofs.Finds.{kept-small}
+use Rattle.parts.specs.Parts.{Kept}
+
+module _ (s : Bytes) (i : ℕ) (short : length s ≤ i + 4096) where
+  left-is : take (length s - i) (drop i s) ≡ drop i s
+  left-is = take-all (length s - i) (drop i s) (omega (arith, length-drop i s))
+
+  module _ {e : Term} (w : TermAt s i e) where
+    pub at-start : TermAt (take (length s - i) (drop i s)) 0 e
+    at-start = record { rest = w .rest; bytes = left-is ∙ w .bytes }
+
+    pub left-short : {room : ℕ} → 4096 ≤ room → (length (take (length s - i) (drop i s)) ≤ 65536) × (length (take (length s - i) (drop i s)) ≤ room)
+    left-short h =
+        let e : length (take (length s - i) (drop i s)) ≡ length s - i = ap (λ (z : Bytes). length z) left-is ∙ length-drop i s in
+        (omega arith, omega arith)
+
+    pub found-room : (i ≤ length s) × (i + size e ≤ length s)
+    found-room = let a = at-end s i e w in (omega arith, a)
+
+    pub is-kept : {x : Name} {held held′ : Bytes} {f : Found} → 4096 ≤ length held
+        → (f .next ≡ size e) × Wrote held 0 (kept (places x e 0)) held′ (f .to) → Kept i x e held′ (record { next = i + f .next; to = f .to })
+    is-kept {x} {held} {held′} {f} h (n, o) =
+        let a = found-room in
+        let b : f .to ≤ length held = omega (arith, o .ends, kept-small x e 0) in
+        let d : f .to - 0 ≡ f .to = omega arith in
+        record { next = ap (λ (k : ℕ). i + k) n; are = rw d at (wrote-part o b); inside = omega (arith, wrote-length o) }

@@ -1,0 +1,3 @@
+pub mod Beside
+pub mod Contracts
+pub mod Parts

@@ -1,0 +1,53 @@
+-- The parts of a redex where they stand, and what is known of them when they are put together. Assumes nothing: these are definitions.
+use Prim.Native.Nat.{ℕ, _+_, _-_, _≤_}
+use mathlib.Core.Path.{_≡_}
+use mathlib.Core.Bool.{true}
+use lib.ListN.{length, take, drop}
+use Rattle.rules.specs.Basic.{Bytes}
+use Rattle.rules.specs.Limits.{limits}
+use Rattle.rules.specs.Name.{Name}
+use Rattle.rules.specs.Term.{Term, nodes, size, fits}
+use Rattle.walk.specs.Place.{TermAt}
+use Rattle.substitution.specs.Places.{places, kept}
+use Rattle.substitution.specs.declared.places.Found.{Found}
+use Rattle.parts.specs.Contracts.{Redex}
+use Rattle.parts.specs.declared.Part.{Part}
+
+-- the term e at i has ended, and the places where x is free in it are held
+pub record Kept (i : ℕ) (x : Name) (e : Term) (held : Bytes) (f : Found) : Type 0 where
+  pub next : f .next ≡ i + size e
+  pub are : take (f .to) held ≡ kept (places x e 0)
+  pub inside : f .to ≤ length held
+
+-- the part is v
+pub record PartIs (s : Bytes) (p : Part) (v : Term) : Type 0 where
+  pub stands : TermAt s (p .from) v
+  pub ends : p .end ≡ p .from + size v
+  pub count : p .nodes ≡ nodes v
+  pub fits : fits limits v ≡ true
+
+-- v goes into e, a part of the redex t, for x; with e for t the whole has n nodes
+pub record Placing (s : Bytes) (at end body : ℕ) (f : Found) (gap : ℕ) (p : Part) (n l : ℕ) (held : Bytes) (whole : ℕ) (t : Term) (x : Name) (e v : Term) : Type 0 where
+  pub redex : Redex s at whole l t
+  pub ends : end ≡ at + size t
+  pub body-at : TermAt s body e
+  pub body-in : size e ≤ size t
+  pub found : Kept body x e held f
+  pub gap-is : gap ≡ 2 + length x
+  pub value : PartIs s p v
+  pub nodes-in : nodes e ≤ nodes t
+  pub count : n ≡ whole - nodes t + nodes e
+
+-- v for x goes into e, then w for y; e is the last part of the redex t
+pub record Pairing (s : Bytes) (at middle past : ℕ) (p q : Part) (n l whole : ℕ) (t : Term) (x y : Name) (e v w : Term) : Type 0 where
+  pub redex : Redex s at whole l t
+  pub names-in : (at + 2 ≤ middle) × (middle + 1 ≤ past) × (past ≤ length s)
+  pub x-is : take (middle - (at + 2)) (drop (at + 2) s) ≡ x
+  pub y-is : take (past - (middle + 1)) (drop (middle + 1) s) ≡ y
+  pub first : PartIs s p v
+  pub second : PartIs s q w
+  pub body-at : TermAt s (q .end) e
+  pub body-past : at ≤ q .end
+  pub ends : q .end + size e ≡ at + size t
+  pub nodes-in : nodes e ≤ nodes t
+  pub count : n ≡ whole - nodes t + nodes e

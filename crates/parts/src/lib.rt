@@ -1,0 +1,148 @@
+// The parts of a redex, where they stand: a name is found in one of them, and others go in there.
+ghost use mathlib.Core.Path.{_≡_};
+ghost use mathlib.Core.Option.{none, some};
+ghost use Prim.Native.Nat.{ℕ, _+_, _-_, _≤_};
+ghost use lib.ListN.{length, take, drop};
+ghost use Rattle.rules.specs.Limits.{limits};
+ghost use Rattle.rules.specs.Name.{Name};
+ghost use Rattle.rules.specs.Term.{Term};
+ghost use Rattle.rules.specs.Substitution.{subst};
+ghost use Rattle.walk.specs.Place.{TermAt};
+ghost use Rattle.putting.specs.Put.{Room};
+ghost use Rattle.parts.specs.Contracts.{Contracts, told as toldOf};
+ghost use Rattle.parts.specs.Parts.{Kept, Placing, Pairing};
+use putting::Put;
+use putting::in_turn;
+use putting::put_in;
+use rules::Rule;
+use substitution::places::Found;
+use substitution::places::first_places;
+
+// What becomes of a redex: the rule, and the nodes of the new whole. The redex's bytes up to `end` are replaced by so many that were
+// written; those behind stay, and are the tail of what it becomes. Or the new whole would outgrow the limits.
+pub enum Contracted {
+    Made {
+        rule: Rule,
+        size: usize,
+        end: usize,
+        nodes: usize,
+    },
+    Outgrown,
+}
+
+// A part that goes in: where it stands, and its nodes.
+pub struct Part {
+    pub from: usize,
+    pub end: usize,
+    pub nodes: usize,
+}
+
+fn told(rule: Rule, end: usize, put: Put) -> Contracted
+    ensures { λ r. ⌜ r ≡ toldOf rule end put ⌝ }
+{
+    match put {
+        Put::Written { size, nodes } => Contracted::Made {
+            rule,
+            size,
+            end,
+            nodes,
+        },
+        Put::Outgrown => Contracted::Outgrown,
+    }
+}
+
+// Keeps where the name at [name, past) is free in the term at `body`, counted from there, and tells where the term ends.
+pub fn find_in(s: &[u8], body: usize, name: usize, past: usize, places: &mut [u8]) -> Found
+    requires { ⌜ ((e : Term) × TermAt (now s) body e) ⌝ }
+    requires { ⌜ (name ≤ past) × (past ≤ length (now s)) × (length (now s) ≤ body + limits .bytes) × Room (now places) ⌝ }
+    ensures { λ r. ⌜ ((e : Term) → TermAt (now (s .entry)) body e → Kept body (take (past - name) (drop name (now (s .entry)))) e (now (places .exit)) r) ⌝ }
+{
+    let found = first_places(&s[body..], &s[name..past], places);
+    Found {
+        next: body + found.next,
+        to: found.to,
+    }
+}
+
+// The redex at `at`, which ends at `end`, becomes the body with the value at each of the found places.
+// With the body in its place the whole has so many nodes.
+pub fn put_here(
+    s: &[u8],
+    at: usize,
+    rule: Rule,
+    end: usize,
+    body: usize,
+    found: Found,
+    gap: usize,
+    value: Part,
+    nodes: usize,
+    length: usize,
+    places: &[u8],
+    made: &mut [u8],
+) -> Contracted
+    requires { ⌜ ((n : ℕ) × (t : Term) × (x : Name) × (e : Term) × (v : Term) × Placing (now s) at end body found gap value nodes length (now places) n t x e v) ⌝ }
+    requires { ⌜ Room (now made) ⌝ }
+    ensures { λ c. ⌜ ((n : ℕ) → (t : Term) → (x : Name) → (e : Term) → (v : Term) → Placing (now (s .entry)) at end body found gap value nodes length (now (places .entry)) n t x e v → Contracts (now (s .entry)) at n length t rule none (subst x v e) (now (made .exit)) c) ⌝ }
+{
+    let next = found.next;
+    let kept = found.to;
+    let from = value.from;
+    let past = value.end;
+    let whole = length - (end - at) + (next - body);
+    let put = put_in(
+        &s[body..next],
+        &places[0..kept],
+        gap,
+        &s[from..past],
+        value.nodes,
+        nodes,
+        whole,
+        made,
+    );
+    told(rule, end, put)
+}
+
+// The redex at `at` becomes the body, which stands behind b, with a for x, then b for y in all that results. The names stand at
+// [at + 2, middle) and [middle + 1, past).
+pub fn both(
+    s: &[u8],
+    at: usize,
+    rule: Rule,
+    middle: usize,
+    past: usize,
+    a: Part,
+    b: Part,
+    nodes: usize,
+    length: usize,
+    places: &mut [u8],
+    half: &mut [u8],
+    made: &mut [u8],
+) -> Contracted
+    requires { ⌜ ((n : ℕ) × (t : Term) × (x : Name) × (y : Name) × (e : Term) × (v : Term) × (w : Term) × Pairing (now s) at middle past a b nodes length n t x y e v w) ⌝ }
+    requires { ⌜ Room (now places) × Room (now half) × Room (now made) ⌝ }
+    ensures { λ c. ⌜ ((n : ℕ) → (t : Term) → (x : Name) → (y : Name) → (e : Term) → (v : Term) → (w : Term) → Pairing (now (s .entry)) at middle past a b nodes length n t x y e v w → Contracts (now (s .entry)) at n length t rule (some (subst x v e)) (subst y w (subst x v e)) (now (made .exit)) c) ⌝ }
+{
+    let body = b.end;
+    let found = find_in(s, body, at + 2, middle, places);
+    let end = found.next;
+    let first = a.from;
+    let first_end = a.end;
+    let name = middle + 1;
+    let second = b.from;
+    let put = in_turn(
+        &s[body..end],
+        found.to,
+        middle - at,
+        &s[first..first_end],
+        a.nodes,
+        &s[name..past],
+        &s[second..body],
+        b.nodes,
+        nodes,
+        length - (end - at),
+        places,
+        half,
+        made,
+    );
+    told(rule, end, put)
+}

@@ -1,0 +1,61 @@
+// One block, written: its head, its content and zeros, then the check of these.
+use block::BLOCK_CONTENT;
+use block::check_of;
+use block::kind_byte;
+use block::used_in;
+use rules::Kind;
+use runs::clear;
+use runs::copy;
+ghost use mathlib.Core.Path.{_≡_};
+ghost use Prim.Native.Nat.{_≤_, _<_};
+ghost use mathlib.Core.Bool.{true};
+ghost use mathlib.Core.List.{_∷_, _++_};
+ghost use lib.ListN.{length, take, drop};
+ghost use lib.Seq.{sets};
+ghost use Rattle.rules.specs.Basic.{low-high};
+ghost use Rattle.rules.specs.Stored.{kindByte, check, block as blockOf, allZero};
+ghost use Rattle.stored.specs.Writing.{Storable, PutBody};
+
+// Kind, number and content length, at the start of a block.
+fn put_head(kind: Kind, number: usize, size: usize, block: &mut [u8])
+    requires { ⌜ (number < 256) × (size ≤ 65535) × (4 ≤ length (now block)) ⌝ }
+    ensures { λ _. ⌜ now (block .exit) ≡ sets (now (block .entry)) 0 (kindByte kind ∷ number ∷ low-high size) ⌝ }
+{
+    block[0] = kind_byte(kind);
+    block[1] = number as u8;
+    block[2] = (size % 256) as u8;
+    block[3] = (size / 256) as u8;
+}
+
+// The first 510 bytes of a block: its head, its content, zeros. The answer is where the content ends.
+fn put_body(kind: Kind, number: usize, content: &[u8], block: &mut [u8]) -> usize
+    requires { ⌜ Storable number (now content) (now block) ⌝ }
+    ensures { λ r. ⌜ PutBody kind number (now (content .entry)) (now (block .exit)) r ⌝ }
+{
+    let size = content.len();
+    put_head(kind, number, size, block);
+    let from = BLOCK_CONTENT * number;
+    let end = from + used_in(size, number);
+    let past = copy(content, from, end, block, 4);
+    clear(block, past);
+    past
+}
+
+// The check, behind a body that is zero from `end` on.
+fn put_check(block: &mut [u8], end: usize)
+    requires { ⌜ (end ≤ 510) × (length (now block) ≡ 512) × (allZero (drop end (take 510 (now block))) ≡ true) ⌝ }
+    ensures { λ _. ⌜ now (block .exit) ≡ take 510 (now (block .entry)) ++ low-high (check (take 510 (now (block .entry)))) ⌝ }
+{
+    let check = check_of(block, end, true);
+    block[510] = (check % 256) as u8;
+    block[511] = (check / 256) as u8;
+}
+
+// Writes a block.
+pub fn put_block(kind: Kind, number: usize, content: &[u8], block: &mut [u8])
+    requires { ⌜ Storable number (now content) (now block) ⌝ }
+    ensures { λ _. ⌜ now (block .exit) ≡ blockOf kind number (now (content .entry)) ⌝ }
+{
+    let end = put_body(kind, number, content, block);
+    put_check(block, end);
+}
