@@ -1,6 +1,7 @@
 -- `contracting::redexes::branch` meets its contract: the scrutinee's tag says which branch the injected part goes into. Assumes nothing.
 use native.Mathlib.Omega.{arith}
-use Rattle.spans.proofs.Rows.{branch-names, scrutinee-inside, scrutinee-tag, is-left, is-right}
+use Rattle.spans.proofs.Rows.{branch-names, scrutinee-inside, scrutinee-tag}
+use Rattle.search.proofs.Forms.{is-left, is-right}
 use Rattle.parts.proofs.Standing.{inside}
 use Rattle.contracting.proofs.Jobs.{case-value, case-inside, case-left, left-short, left-other, left-nodes, left-placing, case-right, right-short, right-nodes, right-placing}
 use borrow.Author.Needs.{needs}
