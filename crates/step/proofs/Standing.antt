@@ -132,7 +132,7 @@ module _ {src : Bytes} {n place : ℕ} {out : Bytes} {f : Term → Term} {t : Te
       pub runs : slice 0 place src ++ (slice 0 k work ++ slice end (length src) src) ≡ encode (f u)
       runs =
           let a : slice end (length src) src ≡ slice end (place + size t) src ++ slice (place + size t) (length src) src
-                  = slice-split end (place + size t) (length src) src (is .replaced .inside) (omega (arith, long)) in
+          = slice-split end (place + size t) (length src) src (is .replaced .inside) (omega (arith, long)) in
           rw (before-is, a, after-is)
           (ap (λ (z : Bytes). left ++ z) (sym (append-assoc (slice 0 k work) (slice end (place + size t) src) right) ∙ ap (λ (z : Bytes). z ++ right) (is .replaced .bytes))
           ∙ sym (j .frame .bytes u))

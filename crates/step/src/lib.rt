@@ -30,15 +30,7 @@ fn contract_at(src: &[u8], nodes: usize, place: usize, out: &mut [u8], work: &mu
 {
     let mut places = [0u8; 4096];
     let mut half = [0u8; 4096];
-    match contract(
-        src,
-        place,
-        nodes,
-        src.len(),
-        &mut places,
-        &mut half,
-        work,
-    ) {
+    match contract(src, place, nodes, src.len(), &mut places, &mut half, work) {
         Contracted::Outgrown => Taken::Outgrown,
         Contracted::Made {
             rule,
