@@ -50,7 +50,7 @@ module _ {s : rules.Stepped} {out out₁ : Bytes} {k : Taken} (d : Takes s out o
         omega (arith, ap (λ (z : Bytes). length z) written, length-sets out 0 (encode (f .result)), fits-bytes (f .result) (f .fits), f .long)
 
   -- the scratch was worked in, and then cleared
-  module _ (scratch : Bytes) {scratch₀ scratch₁ : Bytes} (same : length scratch₀ ≡ length scratch) (q : scratch₁ ≡ sets scratch₀ 0 (replicate (length scratch₀ - 0) 0)) where
+  module _ (scratch scratch₀ scratch₁ : Bytes) (same : length scratch₀ ≡ length scratch) (q : scratch₁ ≡ sets scratch₀ 0 (replicate (length scratch₀ - 0) 0)) where
     cleared-up : scratch₁ ≡ replicate (length scratch) 0
     cleared-up = q ∙ zeros scratch₀ (length scratch) same
 
