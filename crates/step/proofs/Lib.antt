@@ -1,7 +1,3 @@
 -- What the proofs of several functions use.
-mod Puts
-mod Turning
 mod Standing
-mod Layouts
-mod Takings
 mod Spots

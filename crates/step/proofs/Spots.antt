@@ -13,7 +13,7 @@ use Rattle.spans.specs.Given.{Reads}
 use Rattle.step.specs.Taken.{contracted, Contracting, Takes}
 use Rattle.search.specs.declared.Sought.{Sought}
 use Rattle.search.specs.declared.Sought.the-variants.{Redex, After}
-use Rattle.step.specs.declared.taking.Taken.the-variants.{Normal}
+use Rattle.step.specs.declared.Taken.the-variants.{Normal}
 
 -- the redex u stands at p in the whole f, and the step of t is its contraction
 pub record Spotted (src : Bytes) (n p : ℕ) (out : Bytes) (t : Term) : Type 0 where
@@ -26,14 +26,11 @@ module _ {src : Bytes} {n : ℕ} {out : Bytes} {t : Term} (d : Reads src n out t
   at-spot : (q : Spot) → Around t q → Contracts (some q) → Contracting src n (q .place) out (q .around) (q .redex)
   at-spot q a c =
       record {
-        redex =
-            record {
-              frame = a .frame;
-              whole = d .whole ∙ ap encode (sym (a .whole));
-              count = d .count ∙ ap nodes (sym (a .whole));
-              fits = rw (a .whole) (d .fits);
-              room = d .room;
-            };
+        frame = a .frame;
+        whole = d .whole ∙ ap encode (sym (a .whole));
+        count = d .count ∙ ap nodes (sym (a .whole));
+        fits = rw (a .whole) (d .fits);
+        room = d .room;
         rule = c .0;
         half = c .1;
         result = c .2;

@@ -1,174 +1,170 @@
--- A redex where it stands: the bytes and nodes around it, and its parts, which stand in a row. Assumes nothing.
+-- A redex between what stands around it: its contraction is the step of the whole, the test of its size is the rules' test, and three runs,
+-- one after the other, are the bytes of the new whole. Assumes nothing.
 use Prim.Native.Nat.{ℕ, _+_, _-_, _≤_}
-use mathlib.Core.Path.{_≡_, sym, ap, _∙_}
-use mathlib.Core.Bool.{true}
-use mathlib.Core.List.{[], _++_, append-nil}
+use mathlib.Core.Path.{_≡_, refl, sym, ap, _∙_}
+use mathlib.Core.Bool.{Bool, true, false, _&&_}
+use mathlib.Core.Option.{Option}
+use mathlib.Core.List.{[], _++_, append-nil, append-assoc}
 use native.Mathlib.Omega.{arith}
-use lib.ListN.{length, take, drop, length-append}
-use lib.Seq.{slice, drop-at}
-use Rattle.rules.specs.Basic.{Bytes}
+use lib.ListN.{length, drop, replicate, length-append, length-replicate}
+use lib.Seq.{sets, slice, drop-at, length-slice}
+use borrow.Author.Tests.{leb-true}
+use Rattle.rules.specs.Basic.{Bytes, _≤?_, if_then_else_}
 use Rattle.rules.specs.Limits.{limits}
 use Rattle.rules.specs.Term.{Term, encode, nodes, size, fits}
+use Rattle.rules.specs.declared.Rule.{Rule}
+use Rattle.rules.specs.Step.{found, halfFits, stepFits}
+use Rattle.laws.specs.Same.{both-true}
+use Rattle.runs.specs.Wrote.{Wrote}
+use Rattle.runs.specs.Writing.{slice-split, slice-is, chain, wrote-length}
 use Rattle.walk.specs.Place.{TermAt}
 use Rattle.walk.proofs.Names.{drop-app}
-use Rattle.walk.proofs.Terms.{at-end}
-use Rattle.substitution.proofs.Writes.{slice-is}
-use Rattle.spans.specs.Given.{Given}
-use Rattle.step.specs.Made.{Between, Keeping}
-use Rattle.spans.specs.Measured.{MeasuredTwo, MeasuredThree}
-use Rattle.step.specs.Redex.{Redex}
-use Rattle.spans.specs.declared.Two.{Two}
-use Rattle.spans.specs.declared.Three.{Three}
-use Rattle.step.proofs.Puts.{within, fits-yes, whole-long}
-use Rattle.spans.proofs.Rows.{term-part, InTwo, InThree, a-at, b-at, first-at, second-at, third-at}
+use Rattle.parts.specs.Beside.{fitsAround, step-fits-in-frame}
+use Rattle.parts.specs.Contracts.{Redex, Replaced, Contracts, becomes, outgrows}
+use Rattle.parts.specs.declared.Contracted.{Contracted}
+use Rattle.parts.specs.declared.Contracted.the-variants.{Made, Outgrown}
+use Rattle.contracting.specs.Contracting as contracting
+use Rattle.step.specs.Taken.{contracted, Contracting, Takes}
+use Rattle.step.specs.declared.Taken.the-variants.{Found, Outgrown as Outgrew}
 
-module _ {src : Bytes} {n place : ℕ} {out : Bytes} {f : Term → Term} {t : Term} (j : Redex src n place out f t) where
-  bytes : src ≡ j .frame .left ++ (encode t ++ j .frame .right)
+-- a local array
+pub array-room : 4096 ≤ length (replicate {A = ℕ} 4096 0)
+array-room = omega (arith, length-replicate {A = ℕ} 4096 0)
+
+within : (t : Term) → fits limits t ≡ true → (nodes t ≤ 512) × (size t ≤ 4096)
+unfolding fits
+within t e = let h = both-true (nodes t ≤? 512) (size t ≤? 4096) e in (leb-true (nodes t) 512 (h .0), leb-true (size t) 4096 (h .1))
+
+module _ {src : Bytes} {n place : ℕ} {out : Bytes} {f : Term → Term} {t : Term} (j : Contracting src n place out f t) where
+  abbrev left : Bytes
+  left = j .frame .left
+
+  abbrev right : Bytes
+  right = j .frame .right
+
+  abbrev u : Term
+  u = j .result
+
+  abbrev h : Option Term
+  h = j .half
+
+  bytes : src ≡ left ++ (encode t ++ right)
   bytes = j .whole ∙ j .frame .bytes t
 
-  from-place : drop place src ≡ encode t ++ j .frame .right
-  from-place = ap (λ (z : Bytes). drop place z) bytes ∙ drop-at (j .frame .left) (encode t ++ j .frame .right) place (j .frame .long)
+  from-place : drop place src ≡ encode t ++ right
+  from-place = ap (λ (z : Bytes). drop place z) bytes ∙ drop-at left (encode t ++ right) place (j .frame .long)
 
-  pub redex-at : TermAt src place t
-  redex-at = record { rest = j .frame .right; bytes = from-place }
+  long : length src ≡ place + (size t + length right)
+  long = ap (λ (z : Bytes). length z) bytes ∙ omega (arith, length-append left (encode t ++ right), length-append (encode t) right, j .frame .long)
 
-  -- the sizes of the whole
-  pub record Sizes : Type 0 where
-    pub bytes : length src ≡ place + size t + length (j .frame .right)
-    pub nodes : n ≡ j .frame .more + nodes t
-    pub short : length src ≤ 4096
-    pub few : n ≤ 512
-
-  pub sizes : Sizes
-  sizes =
+  pub job : {places half work : Bytes} → 4096 ≤ length places → 4096 ≤ length half → 4096 ≤ length work
+      → contracting.Contracting src place n (length src) places half work t (j .rule) h u
+  job a b c =
       let w = within (f t) (j .fits) in
       record {
-        bytes =
-            ap (λ (z : Bytes). length z) bytes
-            ∙ omega (arith, length-append (j .frame .left) (encode t ++ j .frame .right), length-append (encode t) (j .frame .right), j .frame .long);
-        nodes = j .count ∙ j .frame .count t;
-        short = omega (arith, w, ap (λ (z : Bytes). length z) (j .whole));
-        few = omega (arith, w, j .count);
+        redex =
+            record {
+              stands = record { rest = right; bytes = from-place };
+              nodes-in = omega (arith, j .count, j .frame .count t);
+              bytes-in = omega (arith, long);
+              behind = omega arith;
+              few = omega (arith, w, j .count);
+              short = omega (arith, w, ap (λ (z : Bytes). length z) (j .whole));
+            };
+        contracts = j .contracts;
+        places-room = a;
+        half-room = b;
+        made-room = c;
       }
 
-  module _ (end others : ℕ) (e : end ≡ place + size t) (o : others + nodes t ≡ n) where
-    before-is : slice 0 place src ≡ j .frame .left
-    before-is =
-        let d : place ≡ 0 + length (j .frame .left) = omega (arith, j .frame .long) in
-        ap (λ (k : ℕ). slice 0 k src) d ∙ slice-is 0 src (j .frame .left) (encode t ++ j .frame .right) bytes
+  -- the step of the whole
+  step-is : contracted place f t ≡ found (j .rule) place h (f u)
+  unfolding contracted
+  step-is = rw (j .contracts)
 
-    after-is : slice end (length src) src ≡ j .frame .right
-    after-is =
-        let d : drop end src ≡ j .frame .right ++ [] = drop-app (encode t) (j .frame .right) src place end from-place e ∙ sym (append-nil (j .frame .right)) in
-        let l : length src ≡ end + length (j .frame .right) = omega (arith, sizes .bytes) in
-        ap (λ (k : ℕ). slice end k src) l ∙ slice-is end src (j .frame .right) [] d
+  -- the test is the rules'
+  tested : (halfFits limits h && fitsAround n (length src) t u) ≡ stepFits limits h (f u)
+  tested =
+      let l : length src ≡ size (f t) = ap (λ (z : Bytes). length z) (j .whole) in
+      ap (λ (k : ℕ). halfFits limits h && fitsAround k (length src) t u) (j .count)
+      ∙ ap (λ (k : ℕ). halfFits limits h && fitsAround (nodes (f t)) k t u) l
+      ∙ step-fits-in-frame (j .frame) t u h
 
-    pub between : Between src place end others f
-    between =
-        let s = sizes in
-        record {
-          bytes = λ u. rw (before-is, after-is) (j .frame .bytes u);
-          count = λ u. j .frame .count u ∙ ap (λ (k : ℕ). k + nodes u) (omega (arith, s .nodes));
-          inside = (omega (arith, s .bytes), omega (arith, s .bytes));
-          short = omega (arith, s .bytes, s .short);
-          few = omega (arith, s .few);
-        }
+  module _ {work : Bytes} {c : Contracted} (v : Contracts src place n (length src) t (j .rule) h u work c) where
+    pub outgrew : c ≡ Outgrown → Takes (contracted place f t) out out Outgrew
+    outgrew q = go v
+      where
+        go : Contracts src place n (length src) t (j .rule) h u work c → Takes (contracted place f t) out out Outgrew
+        go (becomes k end y s r) = absurd (let z : _≡_ {A = ℕ} 0 1 = cc in omega arith)
+        go (outgrows y s) = let z = sym tested ∙ y in record { says = rw (step-is, z); leaves = rw (step-is, z) }
 
-  module _ (p q m : ℕ) (u : Term) (w : TermAt src p u) (eq : q ≡ p + size u) (em : m ≡ nodes u) (le : nodes u ≤ nodes t) where
-    part-fits : fits limits u ≡ true
-    part-fits = fits-yes u (omega (arith, sizes .nodes, sizes .few)) (omega (arith, at-end src p u w, sizes .short))
+    module _ {r : Rule} {k end m : ℕ} (q : c ≡ Made r k end m) where
+      record Is : Type 0 where
+        passes : stepFits limits h (f u) ≡ true
+        rule : r ≡ j .rule
+        replaced : Replaced src place t u work k end
 
-    pub given : Given (take (q - p) (drop p src)) m u
-    given = record { bytes = term-part src p q u w eq; count = em; fits = part-fits }
+      is : Is
+      is = go v
+        where
+          go : Contracts src place n (length src) t (j .rule) h u work c → Is
+          go (becomes k′ end′ y s z) =
+              let a : k ≡ k′ = cc in
+              let b : end ≡ end′ = cc in
+              record { passes = sym tested ∙ y; rule = cc; replaced = rw (a, b) z }
+          go (outgrows y s) = absurd (let z : _≡_ {A = ℕ} 0 1 = cc in omega arith)
 
-    -- a part that stays, of a redex that ends behind it
-    pub keeping : (end others : ℕ) → end ≡ place + size t → others + nodes t ≡ n → size u ≤ size t → Keeping src place end others p q m out f u
-    keeping end others e o lu =
-        let b = between end others e o in
-        let s = sizes in
-        record {
-          between = b;
-          part-is = record { bytes = ap (λ (k : ℕ). slice p k src) eq ∙ slice-is p src (encode u) (w .rest) (w .bytes); count = em; fits = part-fits };
-          ordered = (omega arith, omega (arith, at-end src p u w));
-          whole =
-              fits-yes (f u) (omega (arith, j .frame .count u, s .nodes, s .few))
-              (omega (arith, whole-long b u, s .bytes, s .short));
-          room = j .room;
-        }
+      end-inside : end ≤ length src
+      end-inside = omega (arith, is .replaced .inside, long)
 
--- ---- parts in a row
+      before-is : slice 0 place src ≡ left
+      before-is =
+          let d : place ≡ 0 + length left = omega (arith, j .frame .long) in
+          ap (λ (k : ℕ). slice 0 k src) d ∙ slice-is 0 src left (encode t ++ right) bytes
 
-module _ {src : Bytes} {n place : ℕ} {out : Bytes} {f : Term → Term} {t : Term} (j : Redex src n place out f t) where
-  module _ {at heads : ℕ} {a b : Term} (i : InTwo src place at heads t a b) {r : Two} (m : MeasuredTwo at a b r) where
-    -- what the code does with the numbers is within bounds
-    pub record BoundsTwo : Type 0 where
-      pub second : at ≤ r .second
-      pub end : r .second ≤ r .end
-      pub inside : r .end ≤ length src
-      pub nodes : heads + r .a + r .b ≤ n
+      after-is : slice (place + size t) (length src) src ≡ right
+      after-is =
+          let d : drop (place + size t) src ≡ right ++ [] = drop-app (encode t) right src place (place + size t) from-place refl ∙ sym (append-nil right) in
+          let l : length src ≡ place + size t + length right = omega (arith, long) in
+          ap (λ (k : ℕ). slice (place + size t) k src) l ∙ slice-is (place + size t) src right [] d
 
-    pub bounds-two : BoundsTwo
-    bounds-two =
-        record {
-          second = omega (arith, m .second);
-          end = omega (arith, m .end);
-          inside = omega (arith, m .second, m .end, i .ends, sizes j .bytes);
-          nodes = omega (arith, m .a-nodes, m .b-nodes, i .count, sizes j .nodes);
-        }
+      -- the three runs
+      pub runs : slice 0 place src ++ (slice 0 k work ++ slice end (length src) src) ≡ encode (f u)
+      runs =
+          let a : slice end (length src) src ≡ slice end (place + size t) src ++ slice (place + size t) (length src) src
+          = slice-split end (place + size t) (length src) src (is .replaced .inside) (omega (arith, long)) in
+          rw (before-is, a, after-is)
+          (ap (λ (z : Bytes). left ++ z) (sym (append-assoc (slice 0 k work) (slice end (place + size t) src) right) ∙ ap (λ (z : Bytes). z ++ right) (is .replaced .bytes))
+          ∙ sym (j .frame .bytes u))
 
-    ends-two : r .end ≡ place + size t
-    ends-two = omega (arith, m .second, m .end, i .ends)
+      whole-long : place + (k + (length src - end)) ≤ 4096
+      whole-long =
+          let w = within (f u) (both-true (halfFits limits h) (fits limits (f u)) (is .passes) .1) in
+          omega (
+            arith,
+            w,
+            ap (λ (z : Bytes). length z) runs,
+            length-append (slice 0 place src) (slice 0 k work ++ slice end (length src) src),
+            length-append (slice 0 k work) (slice end (length src) src),
+            length-slice 0 place src (omega (arith, long)),
+            length-slice 0 k work (is .replaced .written),
+            length-slice end (length src) src (omega arith),
+          )
 
-    others-two : n - heads - r .a - r .b + nodes t ≡ n
-    others-two = omega (arith, m .a-nodes, m .b-nodes, i .count, sizes j .nodes)
+      pub room : (place ≤ length src) × (place ≤ length out) × (k ≤ length work) × (end ≤ length src)
+      room = (omega (arith, long), omega (arith, whole-long, j .room), is .replaced .written, end-inside)
 
-    pub around-two : Between src place (r .end) (n - heads - r .a - r .b) f
-    around-two = between j (r .end) (n - heads - r .a - r .b) ends-two others-two
+      module _ {out₁ : Bytes} {o₁ : ℕ} (x : Wrote out 0 (slice 0 place src) out₁ o₁) where
+        pub second-room : o₁ + (k - 0) ≤ length out₁
+        second-room = omega (arith, whole-long, j .room, x .ends, length-slice 0 place src (room .0), wrote-length x)
 
-    pub a-given : Given (take (r .second - at) (drop at src)) (r .a) a
-    a-given = given j at (r .second) (r .a) a (a-at i m) (m .second) (m .a-nodes) (omega (arith, i .count))
+        module _ {out₂ : Bytes} {o₂ : ℕ} (y : Wrote out₁ o₁ (slice 0 k work) out₂ o₂) where
+          pub third-room : o₂ + (length src - end) ≤ length out₂
+          third-room =
+              omega (arith, whole-long, j .room, x .ends, length-slice 0 place src (room .0), wrote-length x, y .ends, length-slice 0 k work (is .replaced .written), wrote-length y)
 
-    pub b-given : Given (take (r .end - r .second) (drop (r .second) src)) (r .b) b
-    b-given = given j (r .second) (r .end) (r .b) b (b-at i m) (m .end) (m .b-nodes) (omega (arith, i .count))
-
-    pub a-kept : Keeping src place (r .end) (n - heads - r .a - r .b) at (r .second) (r .a) out f a
-    a-kept =
-        keeping j at (r .second) (r .a) a (a-at i m) (m .second) (m .a-nodes) (omega (arith, i .count)) (r .end) (n - heads - r .a - r .b) ends-two others-two
-        (omega (arith, i .ends, i .past))
-
-    pub b-kept : Keeping src place (r .end) (n - heads - r .a - r .b) (r .second) (r .end) (r .b) out f b
-    b-kept =
-        keeping j (r .second) (r .end) (r .b) b (b-at i m) (m .end) (m .b-nodes) (omega (arith, i .count)) (r .end) (n - heads - r .a - r .b) ends-two others-two
-        (omega (arith, i .ends, i .past))
-
-  module _ {at heads : ℕ} {a b d : Term} (i : InThree src place at heads t a b d) {r : Three} (m : MeasuredThree at a b d r) where
-    pub record BoundsThree : Type 0 where
-      pub second : at ≤ r .second
-      pub third : r .second ≤ r .third
-      pub end : r .third ≤ r .end
-      pub inside : r .end ≤ length src
-      pub nodes : heads + r .a + r .b + r .c ≤ n
-
-    pub bounds-three : BoundsThree
-    bounds-three =
-        record {
-          second = omega (arith, m .second);
-          third = omega (arith, m .third);
-          end = omega (arith, m .end);
-          inside = omega (arith, m .second, m .third, m .end, i .ends, sizes j .bytes);
-          nodes = omega (arith, m .a-nodes, m .b-nodes, m .c-nodes, i .count, sizes j .nodes);
-        }
-
-    pub around-three : Between src place (r .end) (n - heads - r .a - r .b - r .c) f
-    around-three =
-        between j (r .end) (n - heads - r .a - r .b - r .c) (omega (arith, m .second, m .third, m .end, i .ends))
-        (omega (arith, m .a-nodes, m .b-nodes, m .c-nodes, i .count, sizes j .nodes))
-
-    pub first-given : Given (take (r .second - at) (drop at src)) (r .a) a
-    first-given = given j at (r .second) (r .a) a (first-at i m) (m .second) (m .a-nodes) (omega (arith, i .count))
-
-    pub second-given : Given (take (r .third - r .second) (drop (r .second) src)) (r .b) b
-    second-given = given j (r .second) (r .third) (r .b) b (second-at i m) (m .third) (m .b-nodes) (omega (arith, i .count))
-
-    pub third-given : Given (take (r .end - r .third) (drop (r .third) src)) (r .c) d
-    third-given = given j (r .third) (r .end) (r .c) d (third-at i m) (m .end) (m .c-nodes) (omega (arith, i .count))
+          pub made : {out₃ : Bytes} {o₃ : ℕ} → Wrote out₂ o₂ (slice end (length src) src) out₃ o₃ → Takes (contracted place f t) out out₃ (Found r place o₃)
+          made {out₃} {o₃} z =
+              let w : Wrote out 0 (encode (f u)) out₃ o₃ = rw (← runs) (chain x (chain y z)) in
+              let e : o₃ ≡ size (f u) = w .ends ∙ omega arith in
+              record { says = rw (step-is, is .passes, is .rule, e); leaves = rw (step-is, is .passes) (w .holds) }

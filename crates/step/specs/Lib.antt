@@ -1,3 +1,1 @@
-pub mod Made
-pub mod Redex
 pub mod Taken

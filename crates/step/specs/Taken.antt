@@ -1,7 +1,7 @@
--- What one step leaves, of a term that was read. Assumes nothing: these are definitions.
+-- A redex where it stands, and what one step leaves of a term that was read. Assumes nothing: these are definitions.
 use Prim.Native.Nat.{ℕ, _≤_}
 use mathlib.Core.Path.{_≡_}
-use mathlib.Core.Bool.{Bool, true}
+use mathlib.Core.Bool.{true}
 use mathlib.Core.Option.{Option}
 use lib.ListN.{length}
 use lib.Seq.{sets}
@@ -10,25 +10,23 @@ use Rattle.rules.specs.Limits.{limits, outputRoom}
 use Rattle.rules.specs.Term.{Term, encode, nodes, size, fits}
 use Rattle.rules.specs.declared.Rule.{Rule}
 use Rattle.rules.specs.Step.{by, contract, Stepped, normal, found, stepFits}
+use Rattle.search.specs.Around.{Frame}
 use Rattle.search.specs.Spot.{placed}
-use Rattle.step.specs.Redex.{Redex}
-use Rattle.step.specs.declared.into.Made.{Made}
-use Rattle.step.specs.declared.into.Made.the-variants.{Whole, Outgrown as Outgrew}
-use Rattle.step.specs.declared.taking.Taken.{Taken}
-use Rattle.step.specs.declared.taking.Taken.the-variants.{Normal, Found, Outgrown}
-
--- what was made, by a rule at a place
-abbrev pub told : Rule → ℕ → Made → Taken
-told r p (Whole l n) = Found r p l n
-told r p Outgrew = Outgrown
+use Rattle.step.specs.declared.Taken.{Taken}
+use Rattle.step.specs.declared.Taken.the-variants.{Normal, Found, Outgrown}
 
 -- the redex t, contracted where it stands
 unfoldable pub contracted : (place : ℕ) → (Term → Term) → Term → Stepped
 contracted p f t = placed p f (contract t)
 
--- t stands at `place`, and contracts
+-- src encodes a whole of n nodes that breaks no limit, in which t stands at `place` and contracts; f is the whole as a function of
+-- what stands there
 pub record Contracting (src : Bytes) (n place : ℕ) (out : Bytes) (f : Term → Term) (t : Term) : Type 0 where
-  pub redex : Redex src n place out f t
+  pub frame : Frame place f
+  pub whole : src ≡ encode (f t)
+  pub count : n ≡ nodes (f t)
+  pub fits : fits limits (f t) ≡ true
+  pub room : outputRoom limits ≤ length out
   pub rule : Rule
   pub half : Option Term
   pub result : Term
@@ -37,7 +35,7 @@ pub record Contracting (src : Bytes) (n place : ℕ) (out : Bytes) (f : Term →
 -- a step's answer, and the output: a new term that fits is written, and nothing else
 abbrev pub takenOf : Stepped → Taken
 takenOf normal = Normal
-takenOf (found r p h t) = if stepFits limits h t then Found r p (size t) (nodes t) else Outgrown
+takenOf (found r p h t) = if stepFits limits h t then Found r p (size t) else Outgrown
 
 abbrev pub writtenOf : Stepped → Bytes → Bytes
 writtenOf normal out = out

@@ -26,8 +26,8 @@ use Rattle.runs.specs.Writing.{filled-up}
 use Rattle.substitution.proofs.Writes.{zeros}
 use Rattle.spans.specs.Given.{Reads}
 use Rattle.step.specs.Taken.{Takes}
-use Rattle.step.specs.declared.taking.Taken.{Taken}
-use Rattle.step.specs.declared.taking.Taken.the-variants.{Normal, Found, Outgrown}
+use Rattle.step.specs.declared.Taken.{Taken}
+use Rattle.step.specs.declared.Taken.the-variants.{Normal, Found, Outgrown}
 use Rattle.stepping.specs.Answers.{stepAnswered, normalAnswered, Stepping}
 use Rattle.stepping.specs.declared.Stepped.{Stepped}
 use Rattle.stepping.specs.declared.Stepped.the-variants.{Normal as IsNormal, Found as IsFound, Refused as IsRefused}
@@ -37,8 +37,8 @@ use Rattle.stepping.proofs.Taking.{fits-bytes, Fitted, Over, took, took
 -- ---- a step of a term that was read, by what was taken
 
 module _ {s : rules.Stepped} {out out₁ : Bytes} {k : Taken} (d : Takes s out out₁ k) where
-  module _ {r : Rule} {p l n : ℕ} (e : k ≡ Found r p l n) (h : 4096 ≤ length out) where
-    fitted : Fitted s r p l n
+  module _ {r : Rule} {p l : ℕ} (e : k ≡ Found r p l) (h : 4096 ≤ length out) where
+    fitted : Fitted s r p l
     fitted = took s (sym (d .says) ∙ e)
 
     written : out₁ ≡ sets out 0 (encode (fitted .result))
@@ -49,9 +49,10 @@ module _ {s : rules.Stepped} {out out₁ : Bytes} {k : Taken} (d : Takes s out o
         let f = fitted in
         omega (arith, ap (λ (z : Bytes). length z) written, length-sets out 0 (encode (f .result)), fits-bytes (f .result) (f .fits), f .long)
 
-  module _ (scratch scratch₁ : Bytes) (q : scratch₁ ≡ sets scratch 0 (replicate (length scratch - 0) 0)) where
+  -- the scratch was worked in, and then cleared
+  module _ (scratch scratch₀ scratch₁ : Bytes) (same : length scratch₀ ≡ length scratch) (q : scratch₁ ≡ sets scratch₀ 0 (replicate (length scratch₀ - 0) 0)) where
     cleared-up : scratch₁ ≡ replicate (length scratch) 0
-    cleared-up = q ∙ zeros scratch (length scratch) refl
+    cleared-up = q ∙ zeros scratch₀ (length scratch) same
 
     pub stays : k ≡ Normal → Stepping s out scratch IsNormal out₁ scratch₁
     stays e =
@@ -67,7 +68,7 @@ module _ {s : rules.Stepped} {out out₁ : Bytes} {k : Taken} (d : Takes s out o
           clears = cleared-up;
         }
 
-    module _ {r : Rule} {p l n : ℕ} (e : k ≡ Found r p l n) (h : 4096 ≤ length out) (out₂ : Bytes) where
+    module _ {r : Rule} {p l : ℕ} (e : k ≡ Found r p l) (h : 4096 ≤ length out) (out₂ : Bytes) where
       pub goes : out₂ ≡ sets out₁ l (replicate (length out₁ - l) 0) → Stepping s out scratch (IsFound (record { rule = r; place = p; length = l })) out₂ scratch₁
       goes z =
           let f = fitted e h in

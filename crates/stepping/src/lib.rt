@@ -1,6 +1,8 @@
 // One step of a term, and whether there is one: the public calls.
 ghost use mathlib.Core.Path.{_≡_};
-ghost use Rattle.rules.specs.Limits.{limits};
+ghost use Prim.Native.Nat.{_≤_};
+ghost use lib.ListN.{length};
+ghost use Rattle.rules.specs.Limits.{limits, scratchRoom};
 ghost use Rattle.rules.specs.Refusal.{refuse};
 ghost use Rattle.rules.specs.Term.{Term, encode};
 ghost use Rattle.rules.specs.Step.{step as stepOf, isNormal};
@@ -14,8 +16,8 @@ use rules::Rule;
 use rules::SCRATCH_ROOM;
 use search::Sought;
 use search::find;
-use step::taking::Taken;
-use step::taking::take_step;
+use step::Taken;
+use step::take_step;
 
 // The rule, its place (the offset of the contracted node's tag in the given term), and the length of the next term.
 pub struct Found {
@@ -49,10 +51,10 @@ fn refused(number: u8) -> Stepped
 
 // A step of a term that was read: zeros behind the next term, and in the scratch.
 fn step_read(term: &[u8], nodes: usize, out: &mut [u8], scratch: &mut [u8]) -> Stepped
-    requires { ⌜ ((t : Term) × Reads (now term) nodes (now out) t) ⌝ }
+    requires { ⌜ ((t : Term) × Reads (now term) nodes (now out) t) × (scratchRoom limits ≤ length (now scratch)) ⌝ }
     ensures { λ r. ⌜ ((t : Term) → Reads (now (term .entry)) nodes (now (out .entry)) t → Stepping (stepOf t) (now (out .entry)) (now (scratch .entry)) r (now (out .exit)) (now (scratch .exit))) ⌝ }
 {
-    let taken = take_step(term, nodes, out);
+    let taken = take_step(term, nodes, out, scratch);
     runs::clear(scratch, 0);
     match taken {
         Taken::Normal => Stepped::Normal,
@@ -61,7 +63,6 @@ fn step_read(term: &[u8], nodes: usize, out: &mut [u8], scratch: &mut [u8]) -> S
             rule,
             place,
             length,
-            nodes: _,
         } => {
             runs::clear(out, length);
             Stepped::Found(Found {

@@ -28,7 +28,7 @@ enum-known-nodes : tie.Need-enum-known-nodes
 enum-known-nodes c = search needs
 
 step-read-requires : tie.Need-step-read-requires
-step-read-requires c κs = let a = c .before .before .before .before .before .before .before .before .before .before .before .args in read (now (a .term)) (now (a .out)) (now (a .scratch)) (c .before .before .before .before .before .before .before .if1 .left) (c .before .before .before .before .before .before .if2 .left) _ (sym (c .before .before .before .before .before .term-input .ensures) ∙ c .before .before .before .nodes .given .1)
+step-read-requires c κs = let a = c .before .before .before .before .before .before .before .before .before .before .before .args in (read (now (a .term)) (now (a .out)) (now (a .scratch)) (c .before .before .before .before .before .before .before .if1 .left) (c .before .before .before .before .before .before .if2 .left) _ (sym (c .before .before .before .before .before .term-input .ensures) ∙ c .before .before .before .nodes .given .1), c .before .before .before .before .before .before .if2 .left)
 
 returns-3 : tie.Need-returns-3
 returns-3 c = let a = c .before .before .before .before .before .before .before .before .before .args in not-read (now (a .term)) (now (a .out)) (now (a .scratch)) (c .before .before .before .before .before .if1 .left) (c .before .before .before .before .if2 .left) _ (sym (c .before .before .before .term-input .ensures) ∙ c .before .r .given .1)
