@@ -1,11 +1,13 @@
 // Nodes that have nothing to do with a name, passed by the last byte of their own names.
 ghost use mathlib.Core.Path.{_≡_};
-ghost use Rattle.rules.specs.Name.{Name};
+ghost use mathlib.Core.Bool.{false};
+ghost use Prim.Native.Nat.{_+_};
+ghost use lib.ListN.{length, getD};
+ghost use Rattle.rules.specs.Name.{Name, same, encodeName};
 ghost use Rattle.rules.specs.Term.{Term};
 ghost use Rattle.walk.specs.Node.{partsAfter};
-ghost use Rattle.walk.specs.Place.{TermAt};
+ghost use Rattle.walk.specs.Place.{TermAt, NameAt};
 ghost use Rattle.walk.specs.Seen.{Seen};
-ghost use lib.ListN.{getD};
 ghost use Rattle.substitution.specs.Passing.{ending as endingOf, plain};
 
 // The last byte of a name as it is written, which of an empty one is its length.
@@ -19,6 +21,19 @@ pub fn ending(name: &[u8]) -> u8
     name[n - 1]
 }
 
+// The place after the name at `at`, if it does not end in `last`; else 0.
+fn past(s: &[u8], at: usize, last: u8) -> usize
+    requires { ⌜ ((y : Name) × NameAt (now s) at y) ⌝ }
+    ensures { λ r. ⌜ ((r ≡ 0 → ⊥) → (y : Name) → NameAt (now (s .entry)) at y → (r ≡ at + length (encodeName y)) × ((x : Name) → last ≡ endingOf x → same x y ≡ false)) ⌝ }
+{
+    let len = s[at] as usize;
+    let end = at + len;
+    if s[end] == last {
+        return 0;
+    }
+    end + 1
+}
+
 // Where the parts of the node at `at` start, if none of its names ends in `last`; else 0.
 pub fn pass(s: &[u8], at: usize, last: u8) -> usize
     requires { ⌜ ((t : Term) × TermAt (now s) at t) ⌝ }
@@ -30,19 +45,12 @@ pub fn pass(s: &[u8], at: usize, last: u8) -> usize
     if names == 0 {
         return first;
     }
-    let len = s[first] as usize;
-    let end = first + len;
-    if s[end] == last {
+    let second = past(s, first, last);
+    if second == 0 {
         return 0;
     }
-    let second = first + 1 + len;
     if names == 1 {
         return second;
     }
-    let more = s[second] as usize;
-    let past = second + more;
-    if s[past] == last {
-        return 0;
-    }
-    second + 1 + more
+    past(s, second, last)
 }
