@@ -20,7 +20,7 @@ use Rattle.spans.specs.declared.Two.{Two as Spans}
 use Rattle.spans.proofs.Rows.{size-one, InTwo, a-at, of-pair, of-two, of-one}
 use Rattle.putting.proofs.Puts.{beside-yes}
 use Rattle.parts.specs.Beside.{fitsAround}
-use Rattle.parts.specs.Contracts.{Redex, Replaced, Contracts, becomes}
+use Rattle.parts.specs.Contracts.{Redex, Contracts, becomes}
 use Rattle.parts.specs.declared.Contracted.the-variants.{Made}
 use Rattle.parts.proofs.Standing.{inside, all-written}
 
