@@ -7,7 +7,7 @@ use native.Mathlib.Omega.{arith}
 use lib.ListN.{length, getD, take, drop, length-append}
 use Rattle.rules.specs.Basic.{say}
 use Rattle.rules.specs.Name.{Name, atomMost}
-use Rattle.rules.specs.Formula.{Formula, atom, constant, exponential, connective, Sign, Constant, signTag, constantTag, encodeFormula}
+use Rattle.rules.specs.Formula.{Formula, atom, constant, exponential, connective, Sign, Constant, signTag, encodeFormula}
 use Rattle.rules.specs.Text.{signText, constantText, formulaText}
 use Rattle.laws.specs.Names.{name-long}
 use Rattle.words.specs.Prints.{Prints}

@@ -3,7 +3,7 @@ use Prim.Native.Nat.{ℕ, _+_, _≤_}
 use mathlib.Core.List.{List}
 use lib.ListN.{length, getD, take, drop}
 use Rattle.rules.specs.Legal.{Legal}
-use Rattle.rules.specs.Term.{Term, encode, Two, pair, app, discard}
+use Rattle.rules.specs.Term.{Term, encode}
 use Rattle.rules.specs.Text.{text}
 use Rattle.words.specs.Task.{Task, Done}
 
@@ -13,12 +13,6 @@ pub record TermTask (s : List ℕ) (at : ℕ) (out : List ℕ) (to : ℕ) (t : T
 
 abbrev pub TermDone : (at : ℕ) (out : List ℕ) (to : ℕ) (t : Term) (out′ : List ℕ) (r : ℕ) → Type 0
 TermDone at out to t out′ r = Done at out to (encode t) (text t) out′ r
-
--- what is printed in brackets
-abbrev pub Bracketed : Two → Type 0
-Bracketed pair = Unit {0}
-Bracketed app = Unit {0}
-Bracketed discard = ⊥
 
 -- the name whose length stands at i, and the place after it
 abbrev pub nameAt : List ℕ → ℕ → List ℕ

@@ -1,4 +1,4 @@
--- What the tags of terms stand for, in numbers: the words that a tag chooses, and its shape. Assumes nothing: these are definitions.
+-- What the tags of terms stand for, in numbers: the words that a tag chooses. Assumes nothing: these are definitions.
 use Prim.Native.Nat.{ℕ, _*_, _/_, _%_, _^_}
 use mathlib.Core.List.{List, [], _∷_, _++_}
 use lib.ListN.{getD, take}
@@ -18,7 +18,3 @@ longOf k = 10481079216882328064 / 2 ^ (k * 4) % 16
 
 abbrev pub signOf : (tag : ℕ) → List ℕ
 signOf k = take (longOf k) (eight (wordOf k) ++ 32 ∷ [])
-
--- the shape of a tag, three bits each: 0 a variable, 1 a leaf, 2 one part, 3 a pair or an application, 4 discard, 5 an abstraction, 6 let or copy, 7 case
-abbrev pub shapeOf : (tag : ℕ) → ℕ
-shapeOf k = 14717119808595520 / 2 ^ (k * 3) % 8

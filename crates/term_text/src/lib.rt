@@ -4,17 +4,18 @@ ghost use Prim.Native.Nat.{_+_, _≤_, _<_};
 ghost use lib.ListN.{length, getD, take};
 ghost use Rattle.rules.specs.Basic.{say, _‥_};
 ghost use Rattle.rules.specs.Name.{Name};
-ghost use Rattle.rules.specs.Term.{Term, Leaf, One, Two, Both, var as varOf, leaf as leafOf, one as oneOf, two as twoOf, abs as absOf, both as bothOf, branch as branchOf, discard as discardOf, letPair as letPairOf, copy as copyOf};
+ghost use Rattle.rules.specs.Term.{Term, Leaf, var as varOf, leaf as leafOf, two as twoOf, both as bothOf, branch as branchOf, discard as discardOf, letPair as letPairOf, copy as copyOf};
 ghost use Rattle.rules.specs.Limits.{limits};
 ghost use Rattle.rules.specs.Refusal.{answered};
 ghost use Rattle.rules.specs.Calls.{textCall};
 ghost use Rattle.words.specs.Prints.{Prints};
-ghost use Rattle.term_text.specs.Task.{TermTask, TermDone, Bracketed, nameAt, afterName, NameIn};
-ghost use Rattle.term_text.specs.Words.{wordOf, longOf, signOf, shapeOf};
+ghost use Rattle.term_text.specs.Task.{TermTask, TermDone, nameAt, afterName, NameIn};
+ghost use Rattle.term_text.specs.Words.{wordOf, longOf, signOf};
 use rules::Answer;
 use rules::Refusal;
 use rules::TEXT_ROOM;
 use words::byte;
+use words::closed;
 use words::name;
 use words::named;
 use words::past;
@@ -59,14 +60,6 @@ fn sign(tag: u8, out: &mut [u8], to: usize) -> usize
     ensures { λ r. ⌜ Prints (now (out .entry)) to (signOf tag) (now (out .exit)) r ⌝ }
 {
     spaced(out, to, word_of(tag), long_of(tag as usize))
-}
-
-// 0 for a variable, 1 a leaf, 2 one part, 3 a pair or an application, 4 discard, 5 an abstraction, 6 let or copy, 7 case: three bits a tag.
-fn shape(tag: usize) -> usize
-    requires { ⌜ tag < 18 ⌝ }
-    ensures { λ r. ⌜ r ≡ shapeOf tag ⌝ }
-{
-    (14717119808595520usize >> (tag * 3)) % 8
 }
 
 // `λ`, the name and `. `
@@ -141,27 +134,6 @@ fn leaf(s: &[u8], at: usize, out: &mut [u8], to: usize) -> usize
     places(at + 1, o)
 }
 
-fn one(s: &[u8], at: usize, out: &mut [u8], to: usize) -> usize
-    requires { ⌜ ((k : One) × (e : Term) × TermTask (now s) at (now out) to (oneOf k e)) ⌝ }
-    ensures { λ r. ⌜ ((k : One) → (e : Term) → TermTask (now (s .entry)) at (now (out .entry)) to (oneOf k e) → TermDone at (now (out .entry)) to (oneOf k e) (now (out .exit)) r) ⌝ }
-{
-    let o = sign(s[at], out, to);
-    part(&*s, at + 1, out, o)
-}
-
-// A pair or an application.
-fn two(s: &[u8], at: usize, out: &mut [u8], to: usize) -> usize
-    requires { ⌜ ((k : Two) × Bracketed k × (a : Term) × (b : Term) × TermTask (now s) at (now out) to (twoOf k a b)) ⌝ }
-    ensures { λ r. ⌜ ((k : Two) → Bracketed k → (a : Term) → (b : Term) → TermTask (now (s .entry)) at (now (out .entry)) to (twoOf k a b) → TermDone at (now (out .entry)) to (twoOf k a b) (now (out .exit)) r) ⌝ }
-{
-    let a = byte(out, to, b'(');
-    let left = part(&*s, at + 1, out, a);
-    let b = sign(s[at], out, left / 65536);
-    let right = part(&*s, left % 65536, out, b);
-    let c = byte(out, right / 65536, b')');
-    places(right % 65536, c)
-}
-
 // The first part is not printed.
 fn discard(s: &[u8], at: usize, out: &mut [u8], to: usize) -> usize
     requires { ⌜ ((a : Term) × (b : Term) × TermTask (now s) at (now out) to (twoOf discardOf a b)) ⌝ }
@@ -170,15 +142,6 @@ fn discard(s: &[u8], at: usize, out: &mut [u8], to: usize) -> usize
     let a = word(out, to, b"discard ", 8);
     let b = word(out, a, b"in      ", 3);
     part(&*s, walk::skip(s, at + 1, 1), out, b)
-}
-
-fn abs(s: &[u8], at: usize, out: &mut [u8], to: usize) -> usize
-    requires { ⌜ ((x : Name) × (e : Term) × TermTask (now s) at (now out) to (absOf x e)) ⌝ }
-    ensures { λ r. ⌜ ((x : Name) → (e : Term) → TermTask (now (s .entry)) at (now (out .entry)) to (absOf x e) → TermDone at (now (out .entry)) to (absOf x e) (now (out .exit)) r) ⌝ }
-{
-    let x = at + 1;
-    let a = bound_name(s, x, out, to);
-    part(&*s, past(s, x), out, a)
 }
 
 fn let_pair(s: &[u8], at: usize, out: &mut [u8], to: usize) -> usize
@@ -219,7 +182,7 @@ fn case(s: &[u8], at: usize, out: &mut [u8], to: usize) -> usize
     places(r % 65536, d)
 }
 
-// Most parts are variables, and need no call of `node`.
+// Most parts are variables, and need no call of `walk`.
 fn part(s: &[u8], at: usize, out: &mut [u8], to: usize) -> usize
     requires { ⌜ ((t : Term) × TermTask (now s) at (now out) to t) ⌝ }
     ensures { λ r. ⌜ ((t : Term) → TermTask (now (s .entry)) at (now (out .entry)) to t → TermDone at (now (out .entry)) to t (now (out .exit)) r) ⌝ }
@@ -227,39 +190,65 @@ fn part(s: &[u8], at: usize, out: &mut [u8], to: usize) -> usize
     if s[at] == 1 {
         return var(&*s, at, out, to);
     }
-    node(&*s, at, out, to)
+    walk(&*s, at, out, to)
 }
 
-fn node(s: &[u8], at: usize, out: &mut [u8], to: usize) -> usize
+// Goes on with the last part in its own loop where nothing but brackets comes after it, and keeps count of these.
+fn walk(s: &[u8], at: usize, out: &mut [u8], to: usize) -> usize
     requires { ⌜ ((t : Term) × TermTask (now s) at (now out) to t) ⌝ }
     ensures { λ r. ⌜ ((t : Term) → TermTask (now (s .entry)) at (now (out .entry)) to t → TermDone at (now (out .entry)) to t (now (out .exit)) r) ⌝ }
 {
-    let k = shape(s[at] as usize);
-    if k == 0 {
-        return var(&*s, at, out, to);
-    }
-    if k == 1 {
-        return leaf(&*s, at, out, to);
-    }
-    if k == 2 {
-        return one(&*s, at, out, to);
-    }
-    if k == 3 {
-        return two(&*s, at, out, to);
-    }
-    if k == 4 {
-        return discard(&*s, at, out, to);
-    }
-    if k == 5 {
-        return abs(&*s, at, out, to);
-    }
-    if k == 6 {
-        if s[at] == 4 {
-            return let_pair(&*s, at, out, to);
+    let mut i = at;
+    let mut o = to;
+    let mut brackets = 0;
+    loop {
+        let tag = s[i];
+        match tag {
+            1 => {
+                let r = var(&*s, i, out, o);
+                return closed(out, r, brackets);
+            }
+            2 | 10 => {
+                let r = leaf(&*s, i, out, o);
+                return closed(out, r, brackets);
+            }
+            3 | 6 => {
+                let a = byte(out, o, b'(');
+                let l = part(&*s, i + 1, out, a);
+                o = sign(tag, out, l / 65536);
+                i = l % 65536;
+                brackets += 1;
+                continue;
+            }
+            4 => {
+                let r = let_pair(&*s, i, out, o);
+                return closed(out, r, brackets);
+            }
+            5 => {
+                let x = i + 1;
+                o = bound_name(s, x, out, o);
+                i = past(s, x);
+                continue;
+            }
+            9 => {
+                let r = case(&*s, i, out, o);
+                return closed(out, r, brackets);
+            }
+            16 => {
+                let r = discard(&*s, i, out, o);
+                return closed(out, r, brackets);
+            }
+            17 => {
+                let r = copy(&*s, i, out, o);
+                return closed(out, r, brackets);
+            }
+            _ => {
+                o = sign(tag, out, o);
+                i += 1;
+                continue;
+            }
         }
-        return copy(&*s, at, out, to);
     }
-    case(&*s, at, out, to)
 }
 
 // The term's text, then zeros.
@@ -276,7 +265,7 @@ pub fn pretty(term: &[u8], out: &mut [u8]) -> Answer
     }
     match reader::check_term(term) {
         Answer::Good(_) => {
-            let past = node(term, 0, out, 0) / 65536;
+            let past = walk(term, 0, out, 0) / 65536;
             runs::clear(out, past);
             Answer::Good(past)
         }

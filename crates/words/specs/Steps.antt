@@ -141,10 +141,3 @@ named {s} {at} {out} {to} x e {y} t =
       fits = omega (arith, ends-in u, length-append x e);
       is = ap (take (length x)) (u .bytes ∙ append-assoc x e (u .rest)) ∙ take-append-seam x (e ++ u .rest);
     }
-
-module _ {s : List ℕ} {at : ℕ} {x : Name} (n : Named s at x) where
-  pub name-asked : length x ≤ 24 → (getD s at 0 ≤ 24) × (at + 1 + getD s at 0 ≤ length s)
-  name-asked h = (omega (arith, n .long), omega (arith, n .long, n .fits))
-
-  pub name-printed : {out : List ℕ} {to : ℕ} {o : List ℕ} {p : ℕ} → Prints out to (take (getD s at 0) (drop (at + 1) s)) o p → Prints out to x o p
-  name-printed a = rw (n .long, n .is) at a

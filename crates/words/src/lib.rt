@@ -1,11 +1,11 @@
 // Bytes written to the output: words and names, eight bytes at a time. What is written too much is written over by what follows.
 ghost use mathlib.Core.Path.{_≡_};
 ghost use mathlib.Core.List.{[], _∷_, _++_};
-ghost use Prim.Native.Nat.{_+_, _-_, _≤_, _<_};
+ghost use Prim.Native.Nat.{_+_, _/_, _%_, _≤_, _<_};
 ghost use lib.ListN.{length, getD, take, drop};
 ghost use lib.Seq.{sets};
 ghost use Rattle.words.specs.Prints.{Prints, eight, brackets};
-ghost use Rattle.words.specs.Task.{places as placesOf};
+ghost use Rattle.words.specs.Task.{Done, places as placesOf};
 
 // Eight closing brackets, as the bytes of a number.
 const BRACKETS: u64 = 0x2929292929292929;
@@ -71,7 +71,7 @@ fn copy_eight(src: &[u8], from: usize, out: &mut [u8], to: usize)
 }
 
 // A name of at most 24 bytes, whose length stands at `at`.
-pub fn name(s: &[u8], at: usize, out: &mut [u8], to: usize) -> usize
+fn long_name(s: &[u8], at: usize, out: &mut [u8], to: usize) -> usize
     requires { ⌜ (getD (now s) at 0 ≤ 24) × (at + 1 + getD (now s) at 0 ≤ length (now s)) × (to + 24 ≤ length (now out)) ⌝ }
     ensures { λ r. ⌜ Prints (now (out .entry)) to (take (getD (now (s .entry)) at 0) (drop (at + 1) (now (s .entry)))) (now (out .exit)) r ⌝ }
 {
@@ -84,6 +84,22 @@ pub fn name(s: &[u8], at: usize, out: &mut [u8], to: usize) -> usize
         return to + n;
     }
     runs::copy(s, from, from + n, out, to)
+}
+
+// The same. Most names have at most eight bytes, and this much is put in where it is called.
+pub fn name(s: &[u8], at: usize, out: &mut [u8], to: usize) -> usize
+    requires { ⌜ (getD (now s) at 0 ≤ 24) × (at + 1 + getD (now s) at 0 ≤ length (now s)) × (to + 24 ≤ length (now out)) ⌝ }
+    ensures { λ r. ⌜ Prints (now (out .entry)) to (take (getD (now (s .entry)) at 0) (drop (at + 1) (now (s .entry)))) (now (out .exit)) r ⌝ }
+{
+    let n = s[at] as usize;
+    if 8 < n {
+        return long_name(s, at, out, to);
+    }
+    if s.len() < at + 9 {
+        return long_name(s, at, out, to);
+    }
+    copy_eight(s, at + 1, out, to);
+    to + n
 }
 
 // At most 16 bytes of s, from `from` on.
@@ -156,4 +172,12 @@ pub fn places(at: usize, to: usize) -> usize
     ensures { λ r. ⌜ r ≡ placesOf at to ⌝ }
 {
     to * 65536 + at
+}
+
+// So many closing brackets after what has come to the places r.
+pub fn closed(out: &mut [u8], r: usize, n: usize) -> usize
+    requires { ⌜ (r / 65536 + n + 8 ≤ length (now out)) × (r / 65536 + n < 65536) ⌝ }
+    ensures { λ q. ⌜ Done (r % 65536) (now (out .entry)) (r / 65536) [] (brackets n) (now (out .exit)) q ⌝ }
+{
+    places(r % 65536, closes(out, r / 65536, n))
 }

@@ -18,8 +18,8 @@ check-term-requires c κs = search needs
 enum-told : tie.Need-enum-told
 enum-told c = search needs
 
-node-requires : tie.Need-node-requires
-node-requires c κs =
+walk-requires : tie.Need-walk-requires
+walk-requires c κs =
     let s = now (c .before .before .before .before .before .before .before .args .term) in
     let o = now (c .before .before .before .before .before .before .before .args .out) in
     let h = c .before .before .before .before .if1 .left in
@@ -32,7 +32,7 @@ clear-requires c κs =
     let o = now (c .before .before .before .before .before .before .before .before .before .before .before .args .out) in
     let h = c .before .before .before .before .before .before .before .before .if1 .left in
     let f = read s o h (sym (c .before .before .before .before .before .before .before .check-term .ensures) ∙ c .before .before .before .before .before .enum-told .given .1) in
-    whole-room (from-start (c .before .before .before .node .ensures (f .value) (task s o h (f .value) (f .is))) (size s o h (f .value) (f .is))) (omega (arith, few s o h (f .value) (f .is)))
+    whole-room (from-start (c .before .before .before .walk .ensures (f .value) (task s o h (f .value) (f .is))) (size s o h (f .value) (f .is))) (omega (arith, few s o h (f .value) (f .is)))
 
 enum-known-r : tie.Need-enum-known-r
 enum-known-r c = search needs
@@ -46,7 +46,7 @@ returns-2 c =
     let o = now (c .before .before .before .before .before .before .before .before .before .before .before .before .before .before .args .out) in
     let h = c .before .before .before .before .before .before .before .before .before .before .before .if1 .left in
     let f = read s o h (sym (c .before .before .before .before .before .before .before .before .before .before .check-term .ensures) ∙ c .before .before .before .before .before .before .before .before .enum-told .given .1) in
-    let d = from-start (c .before .before .before .before .before .before .node .ensures (f .value) (task s o h (f .value) (f .is))) (size s o h (f .value) (f .is)) in
+    let d = from-start (c .before .before .before .before .before .before .walk .ensures (f .value) (task s o h (f .value) (f .is))) (size s o h (f .value) (f .is)) in
     let g = was-read s o h (f .value) (f .is) in
     (ap Good (whole-long d) ∙ g .0, whole d (omega (arith, few s o h (f .value) (f .is))) (c .before .before .clear .ensures) ∙ g .1)
 
@@ -60,7 +60,7 @@ pretty-spec =
     returns
     check-term-requires
     enum-told
-    node-requires
+    walk-requires
     clear-requires
     enum-known-r
     same-length

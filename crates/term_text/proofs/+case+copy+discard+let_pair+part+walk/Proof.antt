@@ -1,63 +1,52 @@
 -- The proof of the cycle of calls over a term: each shape prints its words and names and hands its parts on, further on in the bytes. Assumes nothing.
-use mathlib.Core.Path.{refl, sym, ap, _∙_}
+use mathlib.Core.Path.{refl, ap, _∙_}
 use mathlib.Core.List.{[], _∷_}
 use native.Mathlib.Omega.{arith}
-use lib.ListN.{length}
-use Rattle.rules.specs.Term.{one as oneOf, two as twoOf, abs as absOf, both as bothOf, branch as branchOf, discard as discardOf, letPair as letPairOf, copy as copyOf}
+use Rattle.rules.specs.Term.{both as bothOf, two as twoOf, branch as branchOf, discard as discardOf, letPair as letPairOf, copy as copyOf}
 use Rattle.words.specs.Steps.{chain}
-use Rattle.term_text.specs.Words.{shapeOf}
-use Rattle.term_text.proofs.Shapes.{tag-below, made-of, a-let, a-copy, last-shape}
-use Rattle.term_text.proofs.Shaped.{begun, one-asked, one-part, one-done, left-part, further, between-asked, right-part, last-room, two-places, two-done, discard-terms, discard-room, discard-further, discard-part, discard-done, abs-in, abs-room, abs-part, abs-done}
+use Rattle.term_text.proofs.Inverts.{shapeOf, a-var, a-two, an-abs, two-key, made-of, made-one}
+use Rattle.term_text.proofs.Shaped.{begun, discard-terms, discard-room, discard-further, discard-part, discard-done}
 use Rattle.term_text.proofs.Binders.{let-in, let-room, let-part, let-further, let-between-room, let-body, let-done, copy-in, copy-room, copy-part, copy-further, copy-between-room, copy-body, copy-done, case-in, case-room, case-part, left-further, left-room, left-branch, right-further, right-room, right-branch, end-room, case-places, case-done}
+use Rattle.term_text.proofs.Walking.{Going, begin, here, brackets-room, ends, few-brackets, one-asked, one-turn, two-room, left-part, two-further, between-asked, two-turn, abs-in, abs-room, abs-turn}
+use Rattle.term_text.proofs.Calls.{var-here, var-called, leaf-here, leaf-called, let-here, let-called, case-here, case-called, discard-here, discard-called, copy-here, copy-called}
 use Prim.Native.Nat.{ℕ, _+_, _*_, _-_, _<_}
+use lib.ListN.{length}
 use borrow.Fn.Kinds.{In}
 use borrow.Fn.PlainCycle.{Measures, is, falls, and}
-use Rattle.term_text.proofs.abs.Reads as abs
-use Rattle.term_text.proofs.abs.Kinds as abs-kinds
-use Rattle.term_text.proofs.+abs+case+copy+discard+let_pair+node+one+part+two.Lts-abs as abs-lts
 use Rattle.term_text.proofs.case.Reads as case
 use Rattle.term_text.proofs.case.Kinds as case-kinds
-use Rattle.term_text.proofs.+abs+case+copy+discard+let_pair+node+one+part+two.Lts-case as case-lts
+use Rattle.term_text.proofs.+case+copy+discard+let_pair+part+walk.Lts-case as case-lts
 use Rattle.term_text.proofs.copy.Reads as copy
 use Rattle.term_text.proofs.copy.Kinds as copy-kinds
-use Rattle.term_text.proofs.+abs+case+copy+discard+let_pair+node+one+part+two.Lts-copy as copy-lts
+use Rattle.term_text.proofs.+case+copy+discard+let_pair+part+walk.Lts-copy as copy-lts
 use Rattle.term_text.proofs.discard.Reads as discard
 use Rattle.term_text.proofs.discard.Kinds as discard-kinds
-use Rattle.term_text.proofs.+abs+case+copy+discard+let_pair+node+one+part+two.Lts-discard as discard-lts
+use Rattle.term_text.proofs.+case+copy+discard+let_pair+part+walk.Lts-discard as discard-lts
 use Rattle.term_text.proofs.let_pair.Reads as let-pair
 use Rattle.term_text.proofs.let_pair.Kinds as let-pair-kinds
-use Rattle.term_text.proofs.+abs+case+copy+discard+let_pair+node+one+part+two.Lts-let_pair as let-pair-lts
-use Rattle.term_text.proofs.node.Reads as node
-use Rattle.term_text.proofs.node.Kinds as node-kinds
-use Rattle.term_text.proofs.+abs+case+copy+discard+let_pair+node+one+part+two.Lts-node as node-lts
-use Rattle.term_text.proofs.one.Reads as one
-use Rattle.term_text.proofs.one.Kinds as one-kinds
-use Rattle.term_text.proofs.+abs+case+copy+discard+let_pair+node+one+part+two.Lts-one as one-lts
+use Rattle.term_text.proofs.+case+copy+discard+let_pair+part+walk.Lts-let_pair as let-pair-lts
 use Rattle.term_text.proofs.part.Reads as part
 use Rattle.term_text.proofs.part.Kinds as part-kinds
-use Rattle.term_text.proofs.+abs+case+copy+discard+let_pair+node+one+part+two.Lts-part as part-lts
-use Rattle.term_text.proofs.two.Reads as two
-use Rattle.term_text.proofs.two.Kinds as two-kinds
-use Rattle.term_text.proofs.+abs+case+copy+discard+let_pair+node+one+part+two.Lts-two as two-lts
+use Rattle.term_text.proofs.+case+copy+discard+let_pair+part+walk.Lts-part as part-lts
+use Rattle.term_text.proofs.walk.Reads as walk
+use Rattle.term_text.proofs.walk.Kinds as walk-kinds
+use Rattle.term_text.proofs.+case+copy+discard+let_pair+part+walk.Lts-walk as walk-lts
 use Rattle.term_text.proofs.bound_name.Reads as bound-name-reads
+use Rattle.words.proofs.byte.Reads as byte-reads
+use Rattle.words.proofs.closed.Reads as closed-reads
 use Rattle.term_text.proofs.leaf.Reads as leaf-reads
 use Rattle.term_text.proofs.left_name.Reads as left-name-reads
+use Rattle.words.proofs.past.Reads as past-reads
 use Rattle.term_text.proofs.past_names.Reads as past-names-reads
+use Rattle.words.proofs.places.Reads as places-reads
 use Rattle.term_text.proofs.right_name.Reads as right-name-reads
-use Rattle.term_text.proofs.shape.Reads as shape-reads
 use Rattle.term_text.proofs.sign.Reads as sign-reads
+use Rattle.walk.proofs.skip.Reads as skip-reads
 use Rattle.term_text.proofs.two_names.Reads as two-names-reads
 use Rattle.term_text.proofs.var.Reads as var-reads
-use Rattle.walk.proofs.skip.Reads as skip-reads
-use Rattle.words.proofs.byte.Reads as byte-reads
-use Rattle.words.proofs.past.Reads as past-reads
-use Rattle.words.proofs.places.Reads as places-reads
 use Rattle.words.proofs.word.Reads as word-reads
-use Rattle.term_text.proofs.+abs+case+copy+discard+let_pair+node+one+part+two.{statement}
-use Rattle.term_text.proofs.+abs+case+copy+discard+let_pair+node+one+part+two.Tie.{close}
-
-abbrev μ-abs : Measures 2 abs-kinds.ps ℕ
-μ-abs κs a = 3 * (length (a .0 .now) - a .1 .0)
+use Rattle.term_text.proofs.+case+copy+discard+let_pair+part+walk.{statement}
+use Rattle.term_text.proofs.+case+copy+discard+let_pair+part+walk.Tie.{close}
 
 abbrev μ-case : Measures 2 case-kinds.ps ℕ
 μ-case κs a = 3 * (length (a .0 .now) - a .1 .0)
@@ -71,23 +60,11 @@ abbrev μ-discard : Measures 2 discard-kinds.ps ℕ
 abbrev μ-let-pair : Measures 2 let-pair-kinds.ps ℕ
 μ-let-pair κs a = 3 * (length (a .0 .now) - a .1 .0)
 
-abbrev μ-node : Measures 2 node-kinds.ps ℕ
-μ-node κs a = 3 * (length (a .0 .now) - a .1 .0) + 1
-
-abbrev μ-one : Measures 2 one-kinds.ps ℕ
-μ-one κs a = 3 * (length (a .0 .now) - a .1 .0)
-
 abbrev μ-part : Measures 2 part-kinds.ps ℕ
 μ-part κs a = 3 * (length (a .0 .now) - a .1 .0) + 2
 
-abbrev μ-two : Measures 2 two-kinds.ps ℕ
-μ-two κs a = 3 * (length (a .0 .now) - a .1 .0)
-
-abbrev abs-at : ℕ → In 2 abs-kinds.ps
-abs-at t = and 2 abs-kinds.ps (is 2 abs-kinds.ps μ-abs t) abs.Pre
-
-abbrev abs-below : ℕ → In 2 abs-kinds.ps
-abs-below t = and 2 abs-kinds.ps (falls 2 abs-kinds.ps _<_ μ-abs t) abs.Pre
+abbrev μ-walk : Measures 2 walk-kinds.ps ℕ
+μ-walk κs a = 3 * (length (a .0 .now) - a .1 .0) + 1
 
 abbrev case-at : ℕ → In 2 case-kinds.ps
 case-at t = and 2 case-kinds.ps (is 2 case-kinds.ps μ-case t) case.Pre
@@ -111,20 +88,7 @@ abbrev let-pair-at : ℕ → In 2 let-pair-kinds.ps
 let-pair-at t = and 2 let-pair-kinds.ps (is 2 let-pair-kinds.ps μ-let-pair t) let-pair.Pre
 
 abbrev let-pair-below : ℕ → In 2 let-pair-kinds.ps
-let-pair-below t =
-    and 2 let-pair-kinds.ps (falls 2 let-pair-kinds.ps _<_ μ-let-pair t) let-pair.Pre
-
-abbrev node-at : ℕ → In 2 node-kinds.ps
-node-at t = and 2 node-kinds.ps (is 2 node-kinds.ps μ-node t) node.Pre
-
-abbrev node-below : ℕ → In 2 node-kinds.ps
-node-below t = and 2 node-kinds.ps (falls 2 node-kinds.ps _<_ μ-node t) node.Pre
-
-abbrev one-at : ℕ → In 2 one-kinds.ps
-one-at t = and 2 one-kinds.ps (is 2 one-kinds.ps μ-one t) one.Pre
-
-abbrev one-below : ℕ → In 2 one-kinds.ps
-one-below t = and 2 one-kinds.ps (falls 2 one-kinds.ps _<_ μ-one t) one.Pre
+let-pair-below t = and 2 let-pair-kinds.ps (falls 2 let-pair-kinds.ps _<_ μ-let-pair t) let-pair.Pre
 
 abbrev part-at : ℕ → In 2 part-kinds.ps
 part-at t = and 2 part-kinds.ps (is 2 part-kinds.ps μ-part t) part.Pre
@@ -132,14 +96,11 @@ part-at t = and 2 part-kinds.ps (is 2 part-kinds.ps μ-part t) part.Pre
 abbrev part-below : ℕ → In 2 part-kinds.ps
 part-below t = and 2 part-kinds.ps (falls 2 part-kinds.ps _<_ μ-part t) part.Pre
 
-abbrev two-at : ℕ → In 2 two-kinds.ps
-two-at t = and 2 two-kinds.ps (is 2 two-kinds.ps μ-two t) two.Pre
+abbrev walk-at : ℕ → In 2 walk-kinds.ps
+walk-at t = and 2 walk-kinds.ps (is 2 walk-kinds.ps μ-walk t) walk.Pre
 
-abbrev two-below : ℕ → In 2 two-kinds.ps
-two-below t = and 2 two-kinds.ps (falls 2 two-kinds.ps _<_ μ-two t) two.Pre
-
-abbrev abs-claims : ℕ → abs-lts.Claims
-abs-claims t = (bound-name-reads.Asked, bound-name-reads.Learnt, past-reads.Asked, past-reads.Learnt, part-below t, part.Post)
+abbrev walk-below : ℕ → In 2 walk-kinds.ps
+walk-below t = and 2 walk-kinds.ps (falls 2 walk-kinds.ps _<_ μ-walk t) walk.Pre
 
 abbrev case-claims : ℕ → case-lts.Claims
 case-claims t = (past-reads.Asked, past-reads.Learnt, word-reads.Asked, word-reads.Learnt, past-names-reads.Asked, past-names-reads.Learnt, part-below t, part.Post, left-name-reads.Asked, left-name-reads.Learnt, right-name-reads.Asked, right-name-reads.Learnt, places-reads.Asked, places-reads.Learnt)
@@ -153,38 +114,11 @@ discard-claims t = (word-reads.Asked, word-reads.Learnt, skip-reads.Asked, skip-
 abbrev let-pair-claims : ℕ → let-pair-lts.Claims
 let-pair-claims t = (two-names-reads.Asked, two-names-reads.Learnt, past-names-reads.Asked, past-names-reads.Learnt, part-below t, part.Post, word-reads.Asked, word-reads.Learnt)
 
-abbrev node-claims : ℕ → node-lts.Claims
-node-claims t = (shape-reads.Asked, shape-reads.Learnt, var-reads.Asked, var-reads.Learnt, leaf-reads.Asked, leaf-reads.Learnt, one-below t, one.Post, two-below t, two.Post, discard-below t, discard.Post, abs-below t, abs.Post, let-pair-below t, let-pair.Post, copy-below t, copy.Post, case-below t, case.Post)
-
-abbrev one-claims : ℕ → one-lts.Claims
-one-claims t = (sign-reads.Asked, sign-reads.Learnt, part-below t, part.Post)
-
 abbrev part-claims : ℕ → part-lts.Claims
-part-claims t = (var-reads.Asked, var-reads.Learnt, node-below t, node.Post)
+part-claims t = (var-reads.Asked, var-reads.Learnt, walk-below t, walk.Post)
 
-abbrev two-claims : ℕ → two-lts.Claims
-two-claims t = (byte-reads.Asked, byte-reads.Learnt, part-below t, part.Post, sign-reads.Asked, sign-reads.Learnt, places-reads.Asked, places-reads.Learnt)
-
-abs-add-x : (t : ℕ) → abs-lts.Need-add-x (abs-claims t) (abs-at t) abs.Post
-abs-add-x t c = let w = c .before .before .pre .1 in omega (arith, begun (absOf (w .0) (w .1)) (w .2))
-
-abs-bound-name-requires : (t : ℕ) → abs-lts.Need-bound-name-requires (abs-claims t) (abs-at t) abs.Post
-abs-bound-name-requires t c κs = let w = c .before .before .before .pre .1 in (abs-in (w .0) (w .1) (w .2), abs-room (w .0) (w .1) (w .2))
-
-abs-past-requires : (t : ℕ) → abs-lts.Need-past-requires (abs-claims t) (abs-at t) abs.Post
-abs-past-requires t c κs = let w = c .before .before .before .before .before .before .pre .1 in abs-in (w .0) (w .1) (w .2) .fits
-
-abs-part-requires : (t : ℕ) → abs-lts.Need-part-requires (abs-claims t) (abs-at t) abs.Post
-abs-part-requires t c κs =
-    let w = c .before .before .before .before .before .before .before .before .pre .1 in
-    let h = c .before .past .ensures in
-    (omega (arith, c .before .before .before .before .before .before .before .before .pre .0, begun (absOf (w .0) (w .1)) (w .2), h), (w .1, abs-part (w .0) (w .1) (w .2) (c .before .before .before .before .bound-name .ensures) h))
-
-abs-same-length : (t : ℕ) → abs-lts.Need-same-length (abs-claims t) (abs-at t) abs.Post
-abs-same-length t c = omega (arith, c .before .before .before .before .before .before .before .bound-name .ensures .long, c .before .before .part .kept .1 .1 .0)
-
-abs-returns : (t : ℕ) → abs-lts.Need-returns (abs-claims t) (abs-at t) abs.Post
-abs-returns t c x f w = let a = c .before .before .before .before .before .before .before .bound-name .ensures in let h = c .before .before .before .before .past .ensures in abs-done x f w a h (c .before .before .part .ensures f (abs-part x f w a h))
+abbrev walk-claims : ℕ → walk-lts.Claims
+walk-claims t = (var-reads.Asked, var-reads.Learnt, closed-reads.Asked, closed-reads.Learnt, leaf-reads.Asked, leaf-reads.Learnt, byte-reads.Asked, byte-reads.Learnt, part-below t, part.Post, sign-reads.Asked, sign-reads.Learnt, let-pair-below t, let-pair.Post, bound-name-reads.Asked, bound-name-reads.Learnt, past-reads.Asked, past-reads.Learnt, case-below t, case.Post, discard-below t, discard.Post, copy-below t, copy.Post)
 
 case-add-x : (t : ℕ) → case-lts.Need-add-x (case-claims t) (case-at t) case.Post
 case-add-x t c = let w = c .before .before .pre .1 in omega (arith, begun (branchOf (w .0) (w .1) (w .2) (w .3) (w .4)) (w .5))
@@ -394,235 +328,338 @@ let-pair-returns t c x y f g w =
     let b = c .before .before .before .before .before .before .word .ensures in
     let-done x y f g w a h d b (c .before .before .part2 .ensures g (let-body x y f g w a h d b))
 
-node-shared-slice-read-shape : (t : ℕ) → node-lts.Need-shared-slice-read-shape (node-claims t) (node-at t) node.Post
-node-shared-slice-read-shape t c = let w = c .before .before .before .pre .1 in begun (w .0) (w .1)
-
-node-cast-shape : (t : ℕ) → node-lts.Need-cast-shape (node-claims t) (node-at t) node.Post
-node-cast-shape t c = omega (arith, c .shared-slice-known2 .given (c .before .before .before .args .at))
-
-node-shape-requires : (t : ℕ) → node-lts.Need-shape-requires (node-claims t) (node-at t) node.Post
-node-shape-requires t c κs = tag-below (c .before .before .before .pre .1)
-
-node-var-requires : (t : ℕ) → node-lts.Need-var-requires (node-claims t) (node-at t) node.Post
-node-var-requires t c κs =
-    let w = c .before .before .before .before .before .before .pre .1 in
-    let v = made-of 0 (w .0) (w .1) (sym (c .before .before .shape .ensures) ∙ c .before .if1 .taken) in
-    (v .0, rw (v .1) at (w .1))
-
-node-same-length : (t : ℕ) → node-lts.Need-same-length (node-claims t) (node-at t) node.Post
-node-same-length t c = c .before .before .var .kept .1 .1 .0
-
-node-returns : (t : ℕ) → node-lts.Need-returns (node-claims t) (node-at t) node.Post
-node-returns t c f w = let v = made-of 0 f w (sym (c .before .before .before .before .before .shape .ensures) ∙ c .before .before .before .before .if1 .taken) in rw (v .1) (c .before .before .var .ensures (v .0) (rw (v .1) at w))
-
-node-leaf-requires : (t : ℕ) → node-lts.Need-leaf-requires (node-claims t) (node-at t) node.Post
-node-leaf-requires t c κs =
-    let w = c .before .before .before .before .before .before .before .pre .1 in
-    let v = made-of 1 (w .0) (w .1) (sym (c .before .before .before .shape .ensures) ∙ c .before .if2 .taken) in
-    (v .0, rw (v .1) at (w .1))
-
-node-same-length-2 : (t : ℕ) → node-lts.Need-same-length-2 (node-claims t) (node-at t) node.Post
-node-same-length-2 t c = c .before .before .leaf .kept .1 .1 .0
-
-node-returns-2 : (t : ℕ) → node-lts.Need-returns-2 (node-claims t) (node-at t) node.Post
-node-returns-2 t c f w = let v = made-of 1 f w (sym (c .before .before .before .before .before .before .shape .ensures) ∙ c .before .before .before .before .if2 .taken) in rw (v .1) (c .before .before .leaf .ensures (v .0) (rw (v .1) at w))
-
-node-one-requires : (t : ℕ) → node-lts.Need-one-requires (node-claims t) (node-at t) node.Post
-node-one-requires t c κs =
-    let w = c .before .before .before .before .before .before .before .before .pre .1 in
-    let v = made-of 2 (w .0) (w .1) (sym (c .before .before .before .before .shape .ensures) ∙ c .before .if3 .taken) in
-    (omega (arith, c .before .before .before .before .before .before .before .before .pre .0), (v .0, v .1, rw (v .2) at (w .1)))
-
-node-same-length-3 : (t : ℕ) → node-lts.Need-same-length-3 (node-claims t) (node-at t) node.Post
-node-same-length-3 t c = c .before .before .one .kept .1 .1 .0
-
-node-returns-3 : (t : ℕ) → node-lts.Need-returns-3 (node-claims t) (node-at t) node.Post
-node-returns-3 t c f w = let v = made-of 2 f w (sym (c .before .before .before .before .before .before .before .shape .ensures) ∙ c .before .before .before .before .if3 .taken) in rw (v .2) (c .before .before .one .ensures (v .0) (v .1) (rw (v .2) at w))
-
-node-two-requires : (t : ℕ) → node-lts.Need-two-requires (node-claims t) (node-at t) node.Post
-node-two-requires t c κs =
-    let w = c .before .before .before .before .before .before .before .before .before .pre .1 in
-    let v = made-of 3 (w .0) (w .1) (sym (c .before .before .before .before .before .shape .ensures) ∙ c .before .if4 .taken) in
-    (omega (arith, c .before .before .before .before .before .before .before .before .before .pre .0), (v .0, v .1, v .2, v .3, rw (v .4) at (w .1)))
-
-node-same-length-4 : (t : ℕ) → node-lts.Need-same-length-4 (node-claims t) (node-at t) node.Post
-node-same-length-4 t c = c .before .before .two .kept .1 .1 .0
-
-node-returns-4 : (t : ℕ) → node-lts.Need-returns-4 (node-claims t) (node-at t) node.Post
-node-returns-4 t c f w = let v = made-of 3 f w (sym (c .before .before .before .before .before .before .before .before .shape .ensures) ∙ c .before .before .before .before .if4 .taken) in rw (v .4) (c .before .before .two .ensures (v .0) (v .1) (v .2) (v .3) (rw (v .4) at w))
-
-node-discard-requires : (t : ℕ) → node-lts.Need-discard-requires (node-claims t) (node-at t) node.Post
-node-discard-requires t c κs =
-    let w = c .before .before .before .before .before .before .before .before .before .before .pre .1 in
-    let v = made-of 4 (w .0) (w .1) (sym (c .before .before .before .before .before .before .shape .ensures) ∙ c .before .if5 .taken) in
-    (omega (arith, c .before .before .before .before .before .before .before .before .before .before .pre .0), (v .0, v .1, rw (v .2) at (w .1)))
-
-node-same-length-5 : (t : ℕ) → node-lts.Need-same-length-5 (node-claims t) (node-at t) node.Post
-node-same-length-5 t c = c .before .before .discard .kept .1 .1 .0
-
-node-returns-5 : (t : ℕ) → node-lts.Need-returns-5 (node-claims t) (node-at t) node.Post
-node-returns-5 t c f w = let v = made-of 4 f w (sym (c .before .before .before .before .before .before .before .before .before .shape .ensures) ∙ c .before .before .before .before .if5 .taken) in rw (v .2) (c .before .before .discard .ensures (v .0) (v .1) (rw (v .2) at w))
-
-node-abs-requires : (t : ℕ) → node-lts.Need-abs-requires (node-claims t) (node-at t) node.Post
-node-abs-requires t c κs =
-    let w = c .before .before .before .before .before .before .before .before .before .before .before .pre .1 in
-    let v = made-of 5 (w .0) (w .1) (sym (c .before .before .before .before .before .before .before .shape .ensures) ∙ c .before .if6 .taken) in
-    (omega (arith, c .before .before .before .before .before .before .before .before .before .before .before .pre .0), (v .0, v .1, rw (v .2) at (w .1)))
-
-node-same-length-6 : (t : ℕ) → node-lts.Need-same-length-6 (node-claims t) (node-at t) node.Post
-node-same-length-6 t c = c .before .before .abs .kept .1 .1 .0
-
-node-returns-6 : (t : ℕ) → node-lts.Need-returns-6 (node-claims t) (node-at t) node.Post
-node-returns-6 t c f w = let v = made-of 5 f w (sym (c .before .before .before .before .before .before .before .before .before .before .shape .ensures) ∙ c .before .before .before .before .if6 .taken) in rw (v .2) (c .before .before .abs .ensures (v .0) (v .1) (rw (v .2) at w))
-
-node-shared-slice-read-if8 : (t : ℕ) → node-lts.Need-shared-slice-read-if8 (node-claims t) (node-at t) node.Post
-node-shared-slice-read-if8 t c = let w = c .before .before .before .before .before .before .before .before .before .before .before .before .pre .1 in begun (w .0) (w .1)
-
-node-let-pair-requires : (t : ℕ) → node-lts.Need-let-pair-requires (node-claims t) (node-at t) node.Post
-node-let-pair-requires t c κs =
-    let w = c .before .before .before .before .before .before .before .before .before .before .before .before .before .before .pre .1 in
-    let v = a-let (w .0) (w .1) (sym (c .before .before .before .before .before .before .before .before .before .before .shape .ensures) ∙ c .before .before .before .if7 .taken) (c .before .if8 .taken) in
-    (omega (arith, c .before .before .before .before .before .before .before .before .before .before .before .before .before .before .pre .0), (v .0, v .1, v .2, v .3, rw (v .4) at (w .1)))
-
-node-same-length-7 : (t : ℕ) → node-lts.Need-same-length-7 (node-claims t) (node-at t) node.Post
-node-same-length-7 t c = c .before .before .let-pair .kept .1 .1 .0
-
-node-returns-7 : (t : ℕ) → node-lts.Need-returns-7 (node-claims t) (node-at t) node.Post
-node-returns-7 t c f w = let v = a-let f w (sym (c .before .before .before .before .before .before .before .before .before .before .before .before .before .shape .ensures) ∙ c .before .before .before .before .before .before .if7 .taken) (c .before .before .before .before .if8 .taken) in rw (v .4) (c .before .before .let-pair .ensures (v .0) (v .1) (v .2) (v .3) (rw (v .4) at w))
-
-node-copy-requires : (t : ℕ) → node-lts.Need-copy-requires (node-claims t) (node-at t) node.Post
-node-copy-requires t c κs =
-    let w = c .before .before .before .before .before .before .before .before .before .before .before .before .before .before .pre .1 in
-    let v = a-copy (w .0) (w .1) (sym (c .before .before .before .before .before .before .before .before .before .before .shape .ensures) ∙ c .before .before .before .if7 .taken) (c .before .if8 .left) in
-    (omega (arith, c .before .before .before .before .before .before .before .before .before .before .before .before .before .before .pre .0), (v .0, v .1, v .2, v .3, rw (v .4) at (w .1)))
-
-node-same-length-8 : (t : ℕ) → node-lts.Need-same-length-8 (node-claims t) (node-at t) node.Post
-node-same-length-8 t c = c .before .before .copy .kept .1 .1 .0
-
-node-returns-8 : (t : ℕ) → node-lts.Need-returns-8 (node-claims t) (node-at t) node.Post
-node-returns-8 t c f w = let v = a-copy f w (sym (c .before .before .before .before .before .before .before .before .before .before .before .before .before .shape .ensures) ∙ c .before .before .before .before .before .before .if7 .taken) (c .before .before .before .before .if8 .left) in rw (v .4) (c .before .before .copy .ensures (v .0) (v .1) (v .2) (v .3) (rw (v .4) at w))
-
-node-case-requires : (t : ℕ) → node-lts.Need-case-requires (node-claims t) (node-at t) node.Post
-node-case-requires t c κs =
-    let w = c .before .before .before .before .before .before .before .before .before .before .before .before .pre .1 in
-    let v = made-of 7 (w .0) (w .1) (last-shape _ _ (c .before .before .before .before .before .before .before .before .shape .ensures) (c .before .before .before .before .before .before .before .if1 .left) (c .before .before .before .before .before .before .if2 .left) (c .before .before .before .before .before .if3 .left) (c .before .before .before .before .if4 .left) (c .before .before .before .if5 .left) (c .before .before .if6 .left) (c .before .if7 .left)) in
-    (omega (arith, c .before .before .before .before .before .before .before .before .before .before .before .before .pre .0), (v .0, v .1, v .2, v .3, v .4, rw (v .5) at (w .1)))
-
-node-same-length-9 : (t : ℕ) → node-lts.Need-same-length-9 (node-claims t) (node-at t) node.Post
-node-same-length-9 t c = c .before .before .case .kept .1 .1 .0
-
-node-returns-9 : (t : ℕ) → node-lts.Need-returns-9 (node-claims t) (node-at t) node.Post
-node-returns-9 t c f w =
-    let v = made-of 7 f w (last-shape _ _ (c .before .before .before .before .before .before .before .before .before .before .before .shape .ensures) (c .before .before .before .before .before .before .before .before .before .before .if1 .left) (c .before .before .before .before .before .before .before .before .before .if2 .left) (c .before .before .before .before .before .before .before .before .if3 .left) (c .before .before .before .before .before .before .before .if4 .left) (c .before .before .before .before .before .before .if5 .left) (c .before .before .before .before .before .if6 .left) (c .before .before .before .before .if7 .left)) in
-    rw (v .5) (c .before .before .case .ensures (v .0) (v .1) (v .2) (v .3) (v .4) (rw (v .5) at w))
-
-one-shared-slice-read-sign : (t : ℕ) → one-lts.Need-shared-slice-read-sign (one-claims t) (one-at t) one.Post
-one-shared-slice-read-sign t c = let w = c .before .before .before .pre .1 in begun (oneOf (w .0) (w .1)) (w .2)
-
-one-sign-requires : (t : ℕ) → one-lts.Need-sign-requires (one-claims t) (one-at t) one.Post
-one-sign-requires t c κs = let w = c .before .before .before .before .pre .1 in one-asked (w .0) (w .1) (w .2)
-
-one-add-part : (t : ℕ) → one-lts.Need-add-part (one-claims t) (one-at t) one.Post
-one-add-part t c = let w = c .before .before .before .before .before .before .before .pre .1 in omega (arith, begun (oneOf (w .0) (w .1)) (w .2))
-
-one-part-requires : (t : ℕ) → one-lts.Need-part-requires (one-claims t) (one-at t) one.Post
-one-part-requires t c κs =
-    let w = c .before .before .before .before .before .before .before .before .pre .1 in
-    (omega (arith, c .before .before .before .before .before .before .before .before .pre .0, begun (oneOf (w .0) (w .1)) (w .2)), (w .1, one-part (w .0) (w .1) (w .2) (c .before .before .before .sign .ensures)))
-
-one-same-length : (t : ℕ) → one-lts.Need-same-length (one-claims t) (one-at t) one.Post
-one-same-length t c = omega (arith, c .before .before .before .before .before .before .sign .ensures .long, c .before .before .part .kept .1 .1 .0)
-
-one-returns : (t : ℕ) → one-lts.Need-returns (one-claims t) (one-at t) one.Post
-one-returns t c k f w = let a = c .before .before .before .before .before .before .sign .ensures in one-done k f w a (c .before .before .part .ensures f (one-part k f w a))
-
 part-shared-slice-read-if1 : (t : ℕ) → part-lts.Need-shared-slice-read-if1 (part-claims t) (part-at t) part.Post
 part-shared-slice-read-if1 t c = let w = c .before .before .before .pre .1 in begun (w .0) (w .1)
 
 part-var-requires : (t : ℕ) → part-lts.Need-var-requires (part-claims t) (part-at t) part.Post
 part-var-requires t c κs =
     let w = c .before .before .before .before .before .pre .1 in
-    let v = made-of 0 (w .0) (w .1) (ap (λ (k : ℕ). shapeOf k) (c .before .if1 .taken)) in
+    let v = made-of a-var (w .0) (w .1) (ap (λ (k : ℕ). shapeOf k) (c .before .if1 .taken)) in
     (v .0, rw (v .1) at (w .1))
 
 part-same-length : (t : ℕ) → part-lts.Need-same-length (part-claims t) (part-at t) part.Post
 part-same-length t c = c .before .before .var .kept .1 .1 .0
 
 part-returns : (t : ℕ) → part-lts.Need-returns (part-claims t) (part-at t) part.Post
-part-returns t c f w = let v = made-of 0 f w (ap (λ (k : ℕ). shapeOf k) (c .before .before .before .before .if1 .taken)) in rw (v .1) (c .before .before .var .ensures (v .0) (rw (v .1) at w))
+part-returns t c f w = let v = made-of a-var f w (ap (λ (k : ℕ). shapeOf k) (c .before .before .before .before .if1 .taken)) in rw (v .1) (c .before .before .var .ensures (v .0) (rw (v .1) at w))
 
-part-node-requires : (t : ℕ) → part-lts.Need-node-requires (part-claims t) (part-at t) part.Post
-part-node-requires t c κs = (omega (arith, c .before .before .before .before .before .pre .0), c .before .before .before .before .before .pre .1)
+part-walk-requires : (t : ℕ) → part-lts.Need-walk-requires (part-claims t) (part-at t) part.Post
+part-walk-requires t c κs = (omega (arith, c .before .before .before .before .before .pre .0), c .before .before .before .before .before .pre .1)
 
 part-same-length-2 : (t : ℕ) → part-lts.Need-same-length-2 (part-claims t) (part-at t) part.Post
-part-same-length-2 t c = c .before .before .node .kept .1 .1 .0
+part-same-length-2 t c = c .before .before .walk .kept .1 .1 .0
 
 part-returns-2 : (t : ℕ) → part-lts.Need-returns-2 (part-claims t) (part-at t) part.Post
-part-returns-2 t c = c .before .before .node .ensures
+part-returns-2 t c = c .before .before .walk .ensures
 
-two-byte-requires : (t : ℕ) → two-lts.Need-byte-requires (two-claims t) (two-at t) two.Post
-two-byte-requires t c κs = let w = c .before .before .before .pre .1 in omega (arith, w .4 .task .room)
+abbrev walk-Inv-loop : walk-lts.InvT-loop
+walk-Inv-loop s at out₀ to i₀ o₀ brackets₀ out i o brackets = Going s at out₀ to out i o brackets
 
-two-add-part : (t : ℕ) → two-lts.Need-add-part (two-claims t) (two-at t) two.Post
-two-add-part t c = let w = c .before .before .before .before .before .before .pre .1 in omega (arith, begun (twoOf (w .0) (w .2) (w .3)) (w .4))
+abbrev walk-μ-loop : walk-lts.MeasureT-loop
+walk-μ-loop s at out₀ to i₀ o₀ brackets₀ out i o brackets = length s - i
 
-two-part-requires : (t : ℕ) → two-lts.Need-part-requires (two-claims t) (two-at t) two.Post
-two-part-requires t c κs =
-    let w = c .before .before .before .before .before .before .before .pre .1 in
-    (omega (arith, c .before .before .before .before .before .before .before .pre .0, begun (twoOf (w .0) (w .2) (w .3)) (w .4)), (w .2, left-part (w .0) (w .1) (w .2) (w .3) (w .4) (c .before .before .before .byte .ensures)))
+walk-loop-holds : (t : ℕ) → walk-lts.Need-loop-holds (walk-claims t) (walk-at t) walk.Post walk-Inv-loop walk-μ-loop
+walk-loop-holds t c = begin _ _ _ _
 
-two-shared-slice-read-sign : (t : ℕ) → two-lts.Need-shared-slice-read-sign (two-claims t) (two-at t) two.Post
-two-shared-slice-read-sign t c = let w = c .before .before .before .before .before .before .before .before .before .before .before .pre .1 in begun (twoOf (w .0) (w .2) (w .3)) (w .4)
+walk-shared-slice-read-tag : (t : ℕ) → walk-lts.Need-shared-slice-read-tag (walk-claims t) (walk-at t) walk.Post walk-Inv-loop walk-μ-loop
+walk-shared-slice-read-tag t c =
+    let g = c .before .loop .inv in
+    let w = c .before .before .before .before .pre .1 in
+    let n = g .on (w .0) (w .1) in
+    begun (n .t) (here n)
 
-two-sign-requires : (t : ℕ) → two-lts.Need-sign-requires (two-claims t) (two-at t) two.Post
-two-sign-requires t c κs =
-    let w = c .before .before .before .before .before .before .before .before .before .before .before .before .pre .1 in
-    let a = c .before .before .before .before .before .before .before .before .byte .ensures in
-    between-asked (w .0) (w .1) (w .2) (w .3) (w .4) a (c .before .before .before .before .part .ensures (w .2) (left-part (w .0) (w .1) (w .2) (w .3) (w .4) a))
+walk-var-requires : (t : ℕ) → walk-lts.Need-var-requires (walk-claims t) (walk-at t) walk.Post walk-Inv-loop walk-μ-loop
+walk-var-requires t c κs =
+    let g = c .before .before .before .loop .inv in
+    let w = c .before .before .before .before .before .before .pre .1 in
+    let n = g .on (w .0) (w .1) in
+    var-here n (c .before .match .keys1)
 
-two-part-requires-2 : (t : ℕ) → two-lts.Need-part-requires-2 (two-claims t) (two-at t) two.Post
-two-part-requires-2 t c κs =
-    let w = c .before .before .before .before .before .before .before .before .before .before .before .before .before .before .before .before .pre .1 in
-    let a = c .before .before .before .before .before .before .before .before .before .before .before .before .byte .ensures in
-    let d = c .before .before .before .before .before .before .before .before .part .ensures (w .2) (left-part (w .0) (w .1) (w .2) (w .3) (w .4) a) in
-    (omega (arith, c .before .before .before .before .before .before .before .before .before .before .before .before .before .before .before .before .pre .0, begun (twoOf (w .0) (w .2) (w .3)) (w .4), further (w .0) (w .1) (w .2) (w .3) (w .4) a d), (w .3, right-part (w .0) (w .1) (w .2) (w .3) (w .4) a d (c .before .before .before .sign .ensures)))
+walk-closed-requires : (t : ℕ) → walk-lts.Need-closed-requires (walk-claims t) (walk-at t) walk.Post walk-Inv-loop walk-μ-loop
+walk-closed-requires t c κs =
+    let g = c .before .before .before .before .before .before .before .loop .inv in
+    let w = c .before .before .before .before .before .before .before .before .before .before .pre .1 in
+    let n = g .on (w .0) (w .1) in
+    brackets-room n (var-called n (c .before .before .before .before .before .match .keys1) (c .before .before .before .var .ensures))
 
-two-byte-requires-2 : (t : ℕ) → two-lts.Need-byte-requires-2 (two-claims t) (two-at t) two.Post
-two-byte-requires-2 t c κs =
-    let w = c .before .before .before .before .before .before .before .before .before .before .before .before .before .before .before .before .before .before .before .before .pre .1 in
-    let a = c .before .before .before .before .before .before .before .before .before .before .before .before .before .before .before .before .byte .ensures in
-    let d = c .before .before .before .before .before .before .before .before .before .before .before .before .part .ensures (w .2) (left-part (w .0) (w .1) (w .2) (w .3) (w .4) a) in
-    let b = c .before .before .before .before .before .before .before .sign .ensures in
-    last-room (w .0) (w .1) (w .2) (w .3) (w .4) a d b (c .before .before .before .part2 .ensures (w .3) (right-part (w .0) (w .1) (w .2) (w .3) (w .4) a d b))
+walk-same-length : (t : ℕ) → walk-lts.Need-same-length (walk-claims t) (walk-at t) walk.Post walk-Inv-loop walk-μ-loop
+walk-same-length t c = c .before .before .closed .ensures .prints .long ∙ c .before .before .before .before .before .before .var .kept .1 .1 .0 ∙ c .before .before .before .before .before .before .before .before .before .before .loop .inv .same
 
-two-places-requires : (t : ℕ) → two-lts.Need-places-requires (two-claims t) (two-at t) two.Post
-two-places-requires t c κs =
-    let w = c .before .before .before .before .before .before .before .before .before .before .before .before .before .before .before .before .before .before .before .before .before .before .before .pre .1 in
-    let a = c .before .before .before .before .before .before .before .before .before .before .before .before .before .before .before .before .before .before .before .byte .ensures in
-    let d = c .before .before .before .before .before .before .before .before .before .before .before .before .before .before .before .part .ensures (w .2) (left-part (w .0) (w .1) (w .2) (w .3) (w .4) a) in
-    let b = c .before .before .before .before .before .before .before .before .before .before .sign .ensures in
-    two-places (w .0) (w .1) (w .2) (w .3) (w .4) a d b (c .before .before .before .before .before .before .part2 .ensures (w .3) (right-part (w .0) (w .1) (w .2) (w .3) (w .4) a d b)) (c .before .before .byte2 .ensures)
+walk-returns : (t : ℕ) → walk-lts.Need-returns (walk-claims t) (walk-at t) walk.Post walk-Inv-loop walk-μ-loop
+walk-returns t c T w =
+    let g = c .before .before .before .before .before .before .before .before .before .before .loop .inv in
+    let n = g .on T w in
+    ends n (var-called n (c .before .before .before .before .before .before .before .before .match .keys1) (c .before .before .before .before .before .before .var .ensures)) (c .before .before .closed .ensures)
 
-two-same-length : (t : ℕ) → two-lts.Need-same-length (two-claims t) (two-at t) two.Post
-two-same-length t c = omega (arith, c .before .before .before .before .before .before .before .before .before .before .before .before .before .before .before .before .before .before .before .before .byte .ensures .long, c .before .before .before .before .before .before .before .before .before .before .before .before .before .before .before .before .part .kept .1 .1 .0, c .before .before .before .before .before .before .before .before .before .before .before .sign .ensures .long, c .before .before .before .before .before .before .before .part2 .kept .1 .1 .0, c .before .before .before .byte2 .ensures .long)
+walk-leaf-requires : (t : ℕ) → walk-lts.Need-leaf-requires (walk-claims t) (walk-at t) walk.Post walk-Inv-loop walk-μ-loop
+walk-leaf-requires t c κs =
+    let g = c .before .before .before .loop .inv in
+    let w = c .before .before .before .before .before .before .pre .1 in
+    let n = g .on (w .0) (w .1) in
+    leaf-here n (c .before .match .keys2)
 
-two-returns : (t : ℕ) → two-lts.Need-returns (two-claims t) (two-at t) two.Post
-two-returns t c k z f g w =
-    let a = c .before .before .before .before .before .before .before .before .before .before .before .before .before .before .before .before .before .before .before .before .byte .ensures in
-    let d = c .before .before .before .before .before .before .before .before .before .before .before .before .before .before .before .before .part .ensures f (left-part k z f g w a) in
-    let b = c .before .before .before .before .before .before .before .before .before .before .before .sign .ensures in
-    two-done k z f g w a d b (c .before .before .before .before .before .before .before .part2 .ensures g (right-part k z f g w a d b)) (c .before .before .before .byte2 .ensures) (c .places .ensures)
+walk-closed-requires-2 : (t : ℕ) → walk-lts.Need-closed-requires-2 (walk-claims t) (walk-at t) walk.Post walk-Inv-loop walk-μ-loop
+walk-closed-requires-2 t c κs =
+    let g = c .before .before .before .before .before .before .before .loop .inv in
+    let w = c .before .before .before .before .before .before .before .before .before .before .pre .1 in
+    let n = g .on (w .0) (w .1) in
+    brackets-room n (leaf-called n (c .before .before .before .before .before .match .keys2) (c .before .before .before .leaf .ensures))
 
-pub +abs+case+copy+discard+let-pair+node+one+part+two-spec : {M : Type 1} → statement M
-+abs+case+copy+discard+let-pair+node+one+part+two-spec =
-    close μ-abs μ-case μ-copy μ-discard μ-let-pair μ-node μ-one μ-part μ-two (λ t. abs-lts.spec (abs-claims t) (abs-at t)
-    abs.Post
-    (abs-add-x t)
-    (abs-bound-name-requires t)
-    (abs-past-requires t)
-    (abs-part-requires t)
-    (abs-same-length t)
-    (abs-returns t))
+walk-same-length-2 : (t : ℕ) → walk-lts.Need-same-length-2 (walk-claims t) (walk-at t) walk.Post walk-Inv-loop walk-μ-loop
+walk-same-length-2 t c = c .before .before .closed2 .ensures .prints .long ∙ c .before .before .before .before .before .before .leaf .kept .1 .1 .0 ∙ c .before .before .before .before .before .before .before .before .before .before .loop .inv .same
+
+walk-returns-2 : (t : ℕ) → walk-lts.Need-returns-2 (walk-claims t) (walk-at t) walk.Post walk-Inv-loop walk-μ-loop
+walk-returns-2 t c T w =
+    let g = c .before .before .before .before .before .before .before .before .before .before .loop .inv in
+    let n = g .on T w in
+    ends n (leaf-called n (c .before .before .before .before .before .before .before .before .match .keys2) (c .before .before .before .before .before .before .leaf .ensures)) (c .before .before .closed2 .ensures)
+
+walk-byte-requires : (t : ℕ) → walk-lts.Need-byte-requires (walk-claims t) (walk-at t) walk.Post walk-Inv-loop walk-μ-loop
+walk-byte-requires t c κs =
+    let g = c .before .before .before .loop .inv in
+    let w = c .before .before .before .before .before .before .pre .1 in
+    let n = g .on (w .0) (w .1) in
+    let v = made-of a-two (n .t) (here n) (two-key (c .before .match .keys3)) in
+    let a = rw (v .4) at (n .stands) in
+    two-room (v .0) (v .1) (v .2) (v .3) a
+
+walk-add-part : (t : ℕ) → walk-lts.Need-add-part (walk-claims t) (walk-at t) walk.Post walk-Inv-loop walk-μ-loop
+walk-add-part t c =
+    let g = c .before .before .before .before .before .before .loop .inv in
+    let w = c .before .before .before .before .before .before .before .before .before .pre .1 in
+    let n = g .on (w .0) (w .1) in
+    omega (arith, begun (n .t) (here n))
+
+walk-part-requires : (t : ℕ) → walk-lts.Need-part-requires (walk-claims t) (walk-at t) walk.Post walk-Inv-loop walk-μ-loop
+walk-part-requires t c κs =
+    let g = c .before .before .before .before .before .before .before .loop .inv in
+    let w = c .before .before .before .before .before .before .before .before .before .before .pre .1 in
+    let n = g .on (w .0) (w .1) in
+    let v = made-of a-two (n .t) (here n) (two-key (c .before .before .before .before .before .match .keys3)) in
+    let a = rw (v .4) at (n .stands) in
+    (omega (arith, c .before .before .before .before .before .before .before .before .before .before .pre .0, g .past, begun (n .t) (here n)), (v .2, left-part (v .0) (v .1) (v .2) (v .3) a (c .before .before .before .byte .ensures)))
+
+walk-sign-requires : (t : ℕ) → walk-lts.Need-sign-requires (walk-claims t) (walk-at t) walk.Post walk-Inv-loop walk-μ-loop
+walk-sign-requires t c κs =
+    let g = c .before .before .before .before .before .before .before .before .before .before .before .loop .inv in
+    let w = c .before .before .before .before .before .before .before .before .before .before .before .before .before .before .pre .1 in
+    let n = g .on (w .0) (w .1) in
+    let v = made-of a-two (n .t) (here n) (two-key (c .before .before .before .before .before .before .before .before .before .match .keys3)) in
+    let a = rw (v .4) at (n .stands) in
+    let b = c .before .before .before .before .before .before .before .byte .ensures in
+    let d = c .before .before .before .part .ensures (v .2) (left-part (v .0) (v .1) (v .2) (v .3) a b) in
+    between-asked (v .0) (v .1) (v .2) (v .3) a b d
+
+walk-add-brackets : (t : ℕ) → walk-lts.Need-add-brackets (walk-claims t) (walk-at t) walk.Post walk-Inv-loop walk-μ-loop
+walk-add-brackets t c =
+    let g = c .before .before .before .before .before .before .before .before .before .before .before .before .before .before .loop .inv in
+    let w = c .before .before .before .before .before .before .before .before .before .before .before .before .before .before .before .before .before .pre .1 in
+    let n = g .on (w .0) (w .1) in
+    omega (arith, few-brackets n)
+
+walk-loop-less : (t : ℕ) → walk-lts.Need-loop-less (walk-claims t) (walk-at t) walk.Post walk-Inv-loop walk-μ-loop
+walk-loop-less t c =
+    let g = c .before .before .before .before .before .before .before .before .before .before .before .before .before .before .loop .inv in
+    let w = c .before .before .before .before .before .before .before .before .before .before .before .before .before .before .before .before .before .pre .1 in
+    let n = g .on (w .0) (w .1) in
+    let v = made-of a-two (n .t) (here n) (two-key (c .before .before .before .before .before .before .before .before .before .before .before .before .match .keys3)) in
+    let a = rw (v .4) at (n .stands) in
+    let b = c .before .before .before .before .before .before .before .before .before .before .byte .ensures in
+    let d = c .before .before .before .before .before .before .part .ensures (v .2) (left-part (v .0) (v .1) (v .2) (v .3) a b) in
+    omega (arith, begun (n .t) (here n), two-further (v .0) (v .1) (v .2) (v .3) a b d)
+
+walk-loop-again : (t : ℕ) → walk-lts.Need-loop-again (walk-claims t) (walk-at t) walk.Post walk-Inv-loop walk-μ-loop
+walk-loop-again t c =
+    let g = c .before .before .before .before .before .before .before .before .before .before .before .before .before .before .loop .inv in
+    let w = c .before .before .before .before .before .before .before .before .before .before .before .before .before .before .before .before .before .pre .1 in
+    let n = g .on (w .0) (w .1) in
+    let v = made-of a-two (n .t) (here n) (two-key (c .before .before .before .before .before .before .before .before .before .before .before .before .match .keys3)) in
+    let a = rw (v .4) at (n .stands) in
+    let b = c .before .before .before .before .before .before .before .before .before .before .byte .ensures in
+    let d = c .before .before .before .before .before .before .part .ensures (v .2) (left-part (v .0) (v .1) (v .2) (v .3) a b) in
+    record {
+      same = c .before .before .sign .ensures .long ∙ c .before .before .before .before .before .before .part .kept .1 .1 .0 ∙ b .long ∙ g .same;
+      past = omega (arith, g .past, two-further (v .0) (v .1) (v .2) (v .3) a b d);
+      on = λ T y. (let m = g .on T y in let u = made-of a-two (m .t) (here m) (two-key (c .before .before .before .before .before .before .before .before .before .before .before .before .match .keys3)) in let z = rw (u .4) at (m .stands) in
+          record { t = u .3; stands = two-turn (u .0) (u .1) (u .2) (u .3) z b (c .before .before .before .before .before .before .part .ensures (u .2) (left-part (u .0) (u .1) (u .2) (u .3) z b)) (c .before .before .sign .ensures) });
+    }
+
+walk-let-pair-requires : (t : ℕ) → walk-lts.Need-let-pair-requires (walk-claims t) (walk-at t) walk.Post walk-Inv-loop walk-μ-loop
+walk-let-pair-requires t c κs =
+    let g = c .before .before .before .loop .inv in
+    let w = c .before .before .before .before .before .before .pre .1 in
+    let n = g .on (w .0) (w .1) in
+    (omega (arith, c .before .before .before .before .before .before .pre .0, g .past), let-here n (c .before .match .keys4))
+
+walk-closed-requires-3 : (t : ℕ) → walk-lts.Need-closed-requires-3 (walk-claims t) (walk-at t) walk.Post walk-Inv-loop walk-μ-loop
+walk-closed-requires-3 t c κs =
+    let g = c .before .before .before .before .before .before .before .loop .inv in
+    let w = c .before .before .before .before .before .before .before .before .before .before .pre .1 in
+    let n = g .on (w .0) (w .1) in
+    brackets-room n (let-called n (c .before .before .before .before .before .match .keys4) (c .before .before .before .let-pair .ensures))
+
+walk-same-length-3 : (t : ℕ) → walk-lts.Need-same-length-3 (walk-claims t) (walk-at t) walk.Post walk-Inv-loop walk-μ-loop
+walk-same-length-3 t c = c .before .before .closed3 .ensures .prints .long ∙ c .before .before .before .before .before .before .let-pair .kept .1 .1 .0 ∙ c .before .before .before .before .before .before .before .before .before .before .loop .inv .same
+
+walk-returns-3 : (t : ℕ) → walk-lts.Need-returns-3 (walk-claims t) (walk-at t) walk.Post walk-Inv-loop walk-μ-loop
+walk-returns-3 t c T w =
+    let g = c .before .before .before .before .before .before .before .before .before .before .loop .inv in
+    let n = g .on T w in
+    ends n (let-called n (c .before .before .before .before .before .before .before .before .match .keys4) (c .before .before .before .before .before .before .let-pair .ensures)) (c .before .before .closed3 .ensures)
+
+walk-add-x : (t : ℕ) → walk-lts.Need-add-x (walk-claims t) (walk-at t) walk.Post walk-Inv-loop walk-μ-loop
+walk-add-x t c =
+    let g = c .before .before .loop .inv in
+    let w = c .before .before .before .before .before .pre .1 in
+    let n = g .on (w .0) (w .1) in
+    omega (arith, begun (n .t) (here n))
+
+walk-bound-name-requires : (t : ℕ) → walk-lts.Need-bound-name-requires (walk-claims t) (walk-at t) walk.Post walk-Inv-loop walk-μ-loop
+walk-bound-name-requires t c κs =
+    let g = c .before .before .before .loop .inv in
+    let w = c .before .before .before .before .before .before .pre .1 in
+    let n = g .on (w .0) (w .1) in
+    let v = made-of an-abs (n .t) (here n) (ap (λ (k : ℕ). shapeOf k) (c .before .match .keys5)) in
+    let a = rw (v .2) at (n .stands) in
+    (abs-in (v .0) (v .1) a, abs-room (v .0) (v .1) a)
+
+walk-past-requires : (t : ℕ) → walk-lts.Need-past-requires (walk-claims t) (walk-at t) walk.Post walk-Inv-loop walk-μ-loop
+walk-past-requires t c κs =
+    let g = c .before .before .before .before .before .before .loop .inv in
+    let w = c .before .before .before .before .before .before .before .before .before .pre .1 in
+    let n = g .on (w .0) (w .1) in
+    let v = made-of an-abs (n .t) (here n) (ap (λ (k : ℕ). shapeOf k) (c .before .before .before .before .match .keys5)) in
+    let a = rw (v .2) at (n .stands) in
+    abs-in (v .0) (v .1) a .fits
+
+walk-loop-less-2 : (t : ℕ) → walk-lts.Need-loop-less-2 (walk-claims t) (walk-at t) walk.Post walk-Inv-loop walk-μ-loop
+walk-loop-less-2 t c =
+    let g = c .before .before .before .before .before .before .before .loop .inv in
+    let w = c .before .before .before .before .before .before .before .before .before .before .pre .1 in
+    let n = g .on (w .0) (w .1) in
+    let v = made-of an-abs (n .t) (here n) (ap (λ (k : ℕ). shapeOf k) (c .before .before .before .before .before .match .keys5)) in
+    let a = rw (v .2) at (n .stands) in
+    omega (arith, begun (n .t) (here n), c .past .ensures)
+
+walk-loop-again-2 : (t : ℕ) → walk-lts.Need-loop-again-2 (walk-claims t) (walk-at t) walk.Post walk-Inv-loop walk-μ-loop
+walk-loop-again-2 t c =
+    let g = c .before .before .before .before .before .before .before .loop .inv in
+    let w = c .before .before .before .before .before .before .before .before .before .before .pre .1 in
+    let n = g .on (w .0) (w .1) in
+    record {
+      same = c .before .before .before .bound-name .ensures .long ∙ g .same;
+      past = omega (arith, g .past, c .past .ensures);
+      on = λ T y. (let m = g .on T y in let u = made-of an-abs (m .t) (here m) (ap (λ (k : ℕ). shapeOf k) (c .before .before .before .before .before .match .keys5)) in
+          record { t = u .1; stands = abs-turn (u .0) (u .1) (rw (u .2) at (m .stands)) (c .before .before .before .bound-name .ensures) (c .past .ensures) });
+    }
+
+walk-case-requires : (t : ℕ) → walk-lts.Need-case-requires (walk-claims t) (walk-at t) walk.Post walk-Inv-loop walk-μ-loop
+walk-case-requires t c κs =
+    let g = c .before .before .before .loop .inv in
+    let w = c .before .before .before .before .before .before .pre .1 in
+    let n = g .on (w .0) (w .1) in
+    (omega (arith, c .before .before .before .before .before .before .pre .0, g .past), case-here n (c .before .match .keys6))
+
+walk-closed-requires-4 : (t : ℕ) → walk-lts.Need-closed-requires-4 (walk-claims t) (walk-at t) walk.Post walk-Inv-loop walk-μ-loop
+walk-closed-requires-4 t c κs =
+    let g = c .before .before .before .before .before .before .before .loop .inv in
+    let w = c .before .before .before .before .before .before .before .before .before .before .pre .1 in
+    let n = g .on (w .0) (w .1) in
+    brackets-room n (case-called n (c .before .before .before .before .before .match .keys6) (c .before .before .before .case .ensures))
+
+walk-same-length-4 : (t : ℕ) → walk-lts.Need-same-length-4 (walk-claims t) (walk-at t) walk.Post walk-Inv-loop walk-μ-loop
+walk-same-length-4 t c = c .before .before .closed4 .ensures .prints .long ∙ c .before .before .before .before .before .before .case .kept .1 .1 .0 ∙ c .before .before .before .before .before .before .before .before .before .before .loop .inv .same
+
+walk-returns-4 : (t : ℕ) → walk-lts.Need-returns-4 (walk-claims t) (walk-at t) walk.Post walk-Inv-loop walk-μ-loop
+walk-returns-4 t c T w =
+    let g = c .before .before .before .before .before .before .before .before .before .before .loop .inv in
+    let n = g .on T w in
+    ends n (case-called n (c .before .before .before .before .before .before .before .before .match .keys6) (c .before .before .before .before .before .before .case .ensures)) (c .before .before .closed4 .ensures)
+
+walk-discard-requires : (t : ℕ) → walk-lts.Need-discard-requires (walk-claims t) (walk-at t) walk.Post walk-Inv-loop walk-μ-loop
+walk-discard-requires t c κs =
+    let g = c .before .before .before .loop .inv in
+    let w = c .before .before .before .before .before .before .pre .1 in
+    let n = g .on (w .0) (w .1) in
+    (omega (arith, c .before .before .before .before .before .before .pre .0, g .past), discard-here n (c .before .match .keys7))
+
+walk-closed-requires-5 : (t : ℕ) → walk-lts.Need-closed-requires-5 (walk-claims t) (walk-at t) walk.Post walk-Inv-loop walk-μ-loop
+walk-closed-requires-5 t c κs =
+    let g = c .before .before .before .before .before .before .before .loop .inv in
+    let w = c .before .before .before .before .before .before .before .before .before .before .pre .1 in
+    let n = g .on (w .0) (w .1) in
+    brackets-room n (discard-called n (c .before .before .before .before .before .match .keys7) (c .before .before .before .discard .ensures))
+
+walk-same-length-5 : (t : ℕ) → walk-lts.Need-same-length-5 (walk-claims t) (walk-at t) walk.Post walk-Inv-loop walk-μ-loop
+walk-same-length-5 t c = c .before .before .closed5 .ensures .prints .long ∙ c .before .before .before .before .before .before .discard .kept .1 .1 .0 ∙ c .before .before .before .before .before .before .before .before .before .before .loop .inv .same
+
+walk-returns-5 : (t : ℕ) → walk-lts.Need-returns-5 (walk-claims t) (walk-at t) walk.Post walk-Inv-loop walk-μ-loop
+walk-returns-5 t c T w =
+    let g = c .before .before .before .before .before .before .before .before .before .before .loop .inv in
+    let n = g .on T w in
+    ends n (discard-called n (c .before .before .before .before .before .before .before .before .match .keys7) (c .before .before .before .before .before .before .discard .ensures)) (c .before .before .closed5 .ensures)
+
+walk-copy-requires : (t : ℕ) → walk-lts.Need-copy-requires (walk-claims t) (walk-at t) walk.Post walk-Inv-loop walk-μ-loop
+walk-copy-requires t c κs =
+    let g = c .before .before .before .loop .inv in
+    let w = c .before .before .before .before .before .before .pre .1 in
+    let n = g .on (w .0) (w .1) in
+    (omega (arith, c .before .before .before .before .before .before .pre .0, g .past), copy-here n (c .before .match .keys8))
+
+walk-closed-requires-6 : (t : ℕ) → walk-lts.Need-closed-requires-6 (walk-claims t) (walk-at t) walk.Post walk-Inv-loop walk-μ-loop
+walk-closed-requires-6 t c κs =
+    let g = c .before .before .before .before .before .before .before .loop .inv in
+    let w = c .before .before .before .before .before .before .before .before .before .before .pre .1 in
+    let n = g .on (w .0) (w .1) in
+    brackets-room n (copy-called n (c .before .before .before .before .before .match .keys8) (c .before .before .before .copy .ensures))
+
+walk-same-length-6 : (t : ℕ) → walk-lts.Need-same-length-6 (walk-claims t) (walk-at t) walk.Post walk-Inv-loop walk-μ-loop
+walk-same-length-6 t c = c .before .before .closed6 .ensures .prints .long ∙ c .before .before .before .before .before .before .copy .kept .1 .1 .0 ∙ c .before .before .before .before .before .before .before .before .before .before .loop .inv .same
+
+walk-returns-6 : (t : ℕ) → walk-lts.Need-returns-6 (walk-claims t) (walk-at t) walk.Post walk-Inv-loop walk-μ-loop
+walk-returns-6 t c T w =
+    let g = c .before .before .before .before .before .before .before .before .before .before .loop .inv in
+    let n = g .on T w in
+    ends n (copy-called n (c .before .before .before .before .before .before .before .before .match .keys8) (c .before .before .before .before .before .before .copy .ensures)) (c .before .before .closed6 .ensures)
+
+walk-sign-requires-2 : (t : ℕ) → walk-lts.Need-sign-requires-2 (walk-claims t) (walk-at t) walk.Post walk-Inv-loop walk-μ-loop
+walk-sign-requires-2 t c κs =
+    let g = c .before .before .before .loop .inv in
+    let w = c .before .before .before .before .before .before .pre .1 in
+    let n = g .on (w .0) (w .1) in
+    let v = made-one (n .t) (here n) (c .before .match .rest) in
+    let a = rw (v .2) at (n .stands) in
+    one-asked (v .0) (v .1) a
+
+walk-add-i : (t : ℕ) → walk-lts.Need-add-i (walk-claims t) (walk-at t) walk.Post walk-Inv-loop walk-μ-loop
+walk-add-i t c =
+    let g = c .before .before .before .before .before .before .loop .inv in
+    let w = c .before .before .before .before .before .before .before .before .before .pre .1 in
+    let n = g .on (w .0) (w .1) in
+    omega (arith, begun (n .t) (here n))
+
+walk-loop-less-3 : (t : ℕ) → walk-lts.Need-loop-less-3 (walk-claims t) (walk-at t) walk.Post walk-Inv-loop walk-μ-loop
+walk-loop-less-3 t c =
+    let g = c .before .before .before .before .before .before .loop .inv in
+    let w = c .before .before .before .before .before .before .before .before .before .pre .1 in
+    let n = g .on (w .0) (w .1) in
+    omega (arith, begun (n .t) (here n))
+
+walk-loop-again-3 : (t : ℕ) → walk-lts.Need-loop-again-3 (walk-claims t) (walk-at t) walk.Post walk-Inv-loop walk-μ-loop
+walk-loop-again-3 t c =
+    let g = c .before .before .before .before .before .before .loop .inv in
+    let w = c .before .before .before .before .before .before .before .before .before .pre .1 in
+    let n = g .on (w .0) (w .1) in
+    record {
+      same = c .before .before .sign2 .ensures .long ∙ g .same;
+      past = omega (arith, g .past);
+      on = λ T y. (let m = g .on T y in let u = made-one (m .t) (here m) (c .before .before .before .before .match .rest) in
+          record { t = u .1; stands = one-turn (u .0) (u .1) (rw (u .2) at (m .stands)) (c .before .before .sign2 .ensures) });
+    }
+
+pub +case+copy+discard+let-pair+part+walk-spec : {M : Type 1} → statement M
++case+copy+discard+let-pair+part+walk-spec =
+    close μ-case μ-copy μ-discard μ-let-pair μ-part μ-walk
     (λ t. case-lts.spec (case-claims t) (case-at t)
     case.Post
     (case-add-x t)
@@ -667,69 +704,58 @@ pub +abs+case+copy+discard+let-pair+node+one+part+two-spec : {M : Type 1} → st
     (let-pair-part-requires-2 t)
     (let-pair-same-length t)
     (let-pair-returns t))
-    (λ t. node-lts.spec (node-claims t) (node-at t)
-    node.Post
-    (node-shared-slice-read-shape t)
-    (node-cast-shape t)
-    (node-shape-requires t)
-    (node-var-requires t)
-    (node-same-length t)
-    (node-returns t)
-    (node-leaf-requires t)
-    (node-same-length-2 t)
-    (node-returns-2 t)
-    (node-one-requires t)
-    (node-same-length-3 t)
-    (node-returns-3 t)
-    (node-two-requires t)
-    (node-same-length-4 t)
-    (node-returns-4 t)
-    (node-discard-requires t)
-    (node-same-length-5 t)
-    (node-returns-5 t)
-    (node-abs-requires t)
-    (node-same-length-6 t)
-    (node-returns-6 t)
-    (node-shared-slice-read-if8 t)
-    (node-let-pair-requires t)
-    (node-same-length-7 t)
-    (node-returns-7 t)
-    (node-copy-requires t)
-    (node-same-length-8 t)
-    (node-returns-8 t)
-    (node-case-requires t)
-    (node-same-length-9 t)
-    (node-returns-9 t))
-    (λ t. one-lts.spec
-    (sign-reads.Asked, sign-reads.Learnt, part-below t, part.Post)
-    (one-at t)
-    one.Post
-    (one-shared-slice-read-sign t)
-    (one-sign-requires t)
-    (one-add-part t)
-    (one-part-requires t)
-    (one-same-length t)
-    (one-returns t))
-    (λ t. part-lts.spec
-    (var-reads.Asked, var-reads.Learnt, node-below t, node.Post)
-    (part-at t)
+    (λ t. part-lts.spec (part-claims t) (part-at t)
     part.Post
     (part-shared-slice-read-if1 t)
     (part-var-requires t)
     (part-same-length t)
     (part-returns t)
-    (part-node-requires t)
+    (part-walk-requires t)
     (part-same-length-2 t)
     (part-returns-2 t))
-    λ t. two-lts.spec (two-claims t) (two-at t)
-    two.Post
-    (two-byte-requires t)
-    (two-add-part t)
-    (two-part-requires t)
-    (two-shared-slice-read-sign t)
-    (two-sign-requires t)
-    (two-part-requires-2 t)
-    (two-byte-requires-2 t)
-    (two-places-requires t)
-    (two-same-length t)
-    (two-returns t)
+    λ t. walk-lts.spec (walk-claims t) (walk-at t)
+    walk.Post
+    walk-Inv-loop
+    walk-μ-loop
+    (walk-loop-holds t)
+    (walk-shared-slice-read-tag t)
+    (walk-var-requires t)
+    (walk-closed-requires t)
+    (walk-same-length t)
+    (walk-returns t)
+    (walk-leaf-requires t)
+    (walk-closed-requires-2 t)
+    (walk-same-length-2 t)
+    (walk-returns-2 t)
+    (walk-byte-requires t)
+    (walk-add-part t)
+    (walk-part-requires t)
+    (walk-sign-requires t)
+    (walk-add-brackets t)
+    (walk-loop-less t)
+    (walk-loop-again t)
+    (walk-let-pair-requires t)
+    (walk-closed-requires-3 t)
+    (walk-same-length-3 t)
+    (walk-returns-3 t)
+    (walk-add-x t)
+    (walk-bound-name-requires t)
+    (walk-past-requires t)
+    (walk-loop-less-2 t)
+    (walk-loop-again-2 t)
+    (walk-case-requires t)
+    (walk-closed-requires-4 t)
+    (walk-same-length-4 t)
+    (walk-returns-4 t)
+    (walk-discard-requires t)
+    (walk-closed-requires-5 t)
+    (walk-same-length-5 t)
+    (walk-returns-5 t)
+    (walk-copy-requires t)
+    (walk-closed-requires-6 t)
+    (walk-same-length-6 t)
+    (walk-returns-6 t)
+    (walk-sign-requires-2 t)
+    (walk-add-i t)
+    (walk-loop-less-3 t)
+    (walk-loop-again-3 t)
