@@ -10,7 +10,7 @@ use Rattle.rules.specs.Name.{Name}
 use Rattle.rules.specs.Term.{Term, one, two, abs, both, branch, One, Two, pair, app, Both, oneTag, nodes}
 use Rattle.walk.specs.Place.{TermAt, NamesAt}
 use Rattle.walk.proofs.Names.{AfterIs}
-use Rattle.step.specs.Made.{Keeping, Putting, Turns}
+use Rattle.between.specs.Made.{Keeping, Putting, Turns}
 use Rattle.spans.specs.Measured.{Measured, MeasuredTwo, MeasuredThree, Named}
 use Rattle.step.specs.Redex.{Redex}
 use Rattle.spans.specs.declared.Extent.{Extent}

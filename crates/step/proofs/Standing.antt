@@ -14,12 +14,12 @@ use Rattle.walk.proofs.Names.{drop-app}
 use Rattle.walk.proofs.Terms.{at-end}
 use Rattle.substitution.proofs.Writes.{slice-is}
 use Rattle.spans.specs.Given.{Given}
-use Rattle.step.specs.Made.{Between, Keeping}
+use Rattle.between.specs.Made.{Between, Keeping}
 use Rattle.spans.specs.Measured.{MeasuredTwo, MeasuredThree}
 use Rattle.step.specs.Redex.{Redex}
 use Rattle.spans.specs.declared.Two.{Two}
 use Rattle.spans.specs.declared.Three.{Three}
-use Rattle.step.proofs.Puts.{within, fits-yes, whole-long}
+use Rattle.between.proofs.Puts.{within, fits-yes, whole-long}
 use Rattle.spans.proofs.Rows.{term-part, InTwo, InThree, a-at, b-at, first-at, second-at, third-at}
 
 module _ {src : Bytes} {n place : ℕ} {out : Bytes} {f : Term → Term} {t : Term} (j : Redex src n place out f t) where

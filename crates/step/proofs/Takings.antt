@@ -19,10 +19,10 @@ use Rattle.walk.specs.Node.{tag}
 use Rattle.walk.proofs.Terms.{at-tag, at-inside}
 use Rattle.search.specs.Side.{side}
 use Rattle.step.specs.Redex.{Redex}
-use Rattle.step.specs.Made.{Makes}
+use Rattle.between.specs.Made.{Makes}
 use Rattle.step.specs.Taken.{told, contracted, Contracting, Takes}
-use Rattle.step.specs.declared.into.Made.{Made}
-use Rattle.step.specs.declared.into.Made.the-variants.{Whole, Outgrown as Outgrew}
+use Rattle.between.specs.declared.Made.{Made}
+use Rattle.between.specs.declared.Made.the-variants.{Whole, Outgrown as Outgrew}
 use Rattle.step.specs.declared.taking.Taken.{Taken}
 use Rattle.step.specs.declared.taking.Taken.the-variants.{Found, Outgrown}
 use Rattle.step.proofs.Standing.{redex-at}

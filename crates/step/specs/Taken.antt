@@ -12,8 +12,8 @@ use Rattle.rules.specs.declared.Rule.{Rule}
 use Rattle.rules.specs.Step.{by, contract, Stepped, normal, found, stepFits}
 use Rattle.search.specs.Spot.{placed}
 use Rattle.step.specs.Redex.{Redex}
-use Rattle.step.specs.declared.into.Made.{Made}
-use Rattle.step.specs.declared.into.Made.the-variants.{Whole, Outgrown as Outgrew}
+use Rattle.between.specs.declared.Made.{Made}
+use Rattle.between.specs.declared.Made.the-variants.{Whole, Outgrown as Outgrew}
 use Rattle.step.specs.declared.taking.Taken.{Taken}
 use Rattle.step.specs.declared.taking.Taken.the-variants.{Normal, Found, Outgrown}
 

@@ -1,4 +1,3 @@
 // One step of a term: the first redex from the left is found, and contracted where it stands.
-pub mod into;
 pub mod redexes;
 pub mod taking;

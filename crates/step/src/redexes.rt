@@ -9,11 +9,11 @@ ghost use Rattle.rules.specs.Term.{Term, one, two, abs, both, branch as aBranch
 ghost use Rattle.rules.specs.Substitution.{subst};
 ghost use Rattle.search.specs.Side.{side};
 ghost use Rattle.step.specs.Redex.{Redex};
-ghost use Rattle.step.specs.Made.{Makes};
-use crate::into::Made;
-use crate::into::in_turn;
-use crate::into::keep;
-use crate::into::put_in;
+ghost use Rattle.between.specs.Made.{Makes};
+use between::Made;
+use between::in_turn;
+use between::keep;
+use between::put_in;
 use spans::span;
 use spans::span_names;
 use spans::span_three;

@@ -5,7 +5,7 @@ ghost use mathlib.Core.Option.{none, some};
 ghost use Prim.Native.Nat.{_+_};
 ghost use Rattle.rules.specs.Term.{Term};
 ghost use Rattle.rules.specs.Substitution.{subst};
-ghost use Rattle.step.specs.Made.{Keeping, Putting, Turns, Makes};
+ghost use Rattle.between.specs.Made.{Keeping, Putting, Turns, Makes};
 use rules::MOST_BYTES;
 use rules::MOST_NODES;
 use substitution::places::free_places;

@@ -1,10 +1,10 @@
--- `step::into::put_in` meets its contract: the sizes are those of the whole, and the runs are its bytes. Assumes nothing.
+-- `between::put_in` meets its contract: the sizes are those of the whole, and the runs are its bytes. Assumes nothing.
 use native.Mathlib.Omega.{arith}
 use Rattle.substitution.proofs.Growths.{nodes-go, bytes-go, count-small}
-use Rattle.step.proofs.Puts.{array-room, body-short, growth, few, total-small, too-many, long-small, too-long, splice-left, last-room, put-whole}
+use Rattle.between.proofs.Puts.{array-room, body-short, growth, few, total-small, too-many, long-small, too-long, splice-left, last-room, put-whole}
 use borrow.Author.Needs.{needs}
-use Rattle.step.proofs.into.put_in.Statement.{statement}
-use Rattle.step.proofs.into.put_in.Tie as tie
+use Rattle.between.proofs.put_in.Statement.{statement}
+use Rattle.between.proofs.put_in.Tie as tie
 
 slice-aggregate-free-places : tie.Need-slice-aggregate-free-places
 slice-aggregate-free-places c = search needs

@@ -12,8 +12,8 @@ use Rattle.rules.specs.Limits.{limits, outputRoom}
 use Rattle.rules.specs.Term.{Term, encode, nodes, size, fits}
 use Rattle.rules.specs.Step.{stepFits}
 use Rattle.spans.specs.Given.{Given}
-use Rattle.step.specs.declared.into.Made.{Made}
-use Rattle.step.specs.declared.into.Made.the-variants.{Whole, Outgrown}
+use Rattle.between.specs.declared.Made.{Made}
+use Rattle.between.specs.declared.Made.the-variants.{Whole, Outgrown}
 
 -- f puts what it is given between src up to `place` and src from `end` on, beside so many nodes
 pub record Between (src : Bytes) (place end others : ℕ) (f : Term → Term) : Type 0 where

@@ -15,10 +15,10 @@ use Rattle.rules.specs.Term.{Term, encode, nodes, size, fits}
 use Rattle.rules.specs.Substitution.{subst}
 use Rattle.substitution.proofs.Writes.{wrote-part}
 use Rattle.spans.specs.Given.{Given}
-use Rattle.step.specs.Made.{Between, Putting, Turns, Makes}
-use Rattle.step.specs.declared.into.Made.{Made}
-use Rattle.step.specs.declared.into.Made.the-variants.{Whole, Outgrown}
-use Rattle.step.proofs.Puts.{within}
+use Rattle.between.specs.Made.{Between, Putting, Turns, Makes}
+use Rattle.between.specs.declared.Made.{Made}
+use Rattle.between.specs.declared.Made.the-variants.{Whole, Outgrown}
+use Rattle.between.proofs.Puts.{within}
 
 -- with nothing around it
 alone : (s : Bytes) → Between s 0 (length s) 0 (λ t. t)

@@ -26,8 +26,8 @@ use Rattle.substitution.proofs.Splices.{spliced-term, spaced-term}
 use Rattle.substitution.proofs.Finds.{kept-length, kept-small}
 use Rattle.substitution.proofs.Growths.{product, nodes-go, bytes-go, count-small, nodes-after, bytes-after}
 use Rattle.spans.specs.Given.{Given}
-use Rattle.step.specs.Made.{Between, Keeping, Putting, Makes}
-use Rattle.step.specs.declared.into.Made.the-variants.{Whole, Outgrown}
+use Rattle.between.specs.Made.{Between, Keeping, Putting, Makes}
+use Rattle.between.specs.declared.Made.the-variants.{Whole, Outgrown}
 
 -- a local array
 pub array-room : 4096 ≤ length (replicate {A = ℕ} 4096 0)

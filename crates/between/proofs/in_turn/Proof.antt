@@ -1,10 +1,10 @@
--- `step::into::in_turn` meets its contract: what the first substitution makes is the body of the second. Assumes nothing.
+-- `between::in_turn` meets its contract: what the first substitution makes is the body of the second. Assumes nothing.
 use native.Mathlib.Omega.{arith}
-use Rattle.step.proofs.Puts.{array-room}
-use Rattle.step.proofs.Turning.{first-job, half-outgrown, half-short, second-job, finished}
+use Rattle.between.proofs.Puts.{array-room}
+use Rattle.between.proofs.Turning.{first-job, half-outgrown, half-short, second-job, finished}
 use borrow.Author.Needs.{needs}
-use Rattle.step.proofs.into.in_turn.Statement.{statement}
-use Rattle.step.proofs.into.in_turn.Tie as tie
+use Rattle.between.proofs.in_turn.Statement.{statement}
+use Rattle.between.proofs.in_turn.Tie as tie
 
 slice-aggregate-put-in : tie.Need-slice-aggregate-put-in
 slice-aggregate-put-in c = search needs

@@ -1,9 +1,9 @@
--- `step::into::keep` meets its contract: the three runs are the bytes of the whole. Assumes nothing.
+-- `between::keep` meets its contract: the three runs are the bytes of the whole. Assumes nothing.
 use native.Mathlib.Omega.{arith}
-use Rattle.step.proofs.Puts.{keep-nodes, second-room, third-room, kept-whole}
+use Rattle.between.proofs.Puts.{keep-nodes, second-room, third-room, kept-whole}
 use borrow.Author.Needs.{needs}
-use Rattle.step.proofs.into.keep.Statement.{statement}
-use Rattle.step.proofs.into.keep.Tie as tie
+use Rattle.between.proofs.keep.Statement.{statement}
+use Rattle.between.proofs.keep.Tie as tie
 
 copy-requires : tie.Need-copy-requires
 copy-requires c κs = search needs

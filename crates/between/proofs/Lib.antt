@@ -1,0 +1,3 @@
+-- What the proofs of several functions use, and the crate above.
+pub mod Puts
+mod Turning
