@@ -6,26 +6,9 @@ ghost use lib.ListN.{length};
 ghost use Rattle.rules.specs.Limits.{limits, entryRoom};
 ghost use Rattle.rules.specs.Calls.{Entry, extractCall};
 ghost use Rattle.extract.specs.Whole.{extraction};
-ghost use Rattle.entry.specs.Extraction.{toldExtraction};
-use crate::tell_refusal;
-use extract::Extraction;
+ghost use Rattle.told.specs.Extraction.{toldExtraction};
 use extract::extract;
-
-// A length and a counter, or a refusal, told as numbers.
-fn tell_extraction(made: Extraction, told: &mut [u64; 16])
-    ensures { λ _. ⌜ now (told .exit) ≡ toldExtraction made ⌝ }
-{
-    match made {
-        Extraction::Made { bytes, counter } => {
-            let length = bytes as u64;
-            let next = counter as u64;
-            *told = [0, 0, 0, length, next, 0, 0, 0, 0, 0, 0, 0, 0, 0, 0, 0];
-        }
-        Extraction::Refused(r) => {
-            tell_refusal(r, told);
-        }
-    }
-}
+use told::tell_extraction;
 
 // The cut entries are the call's own, so no row of them is lent, and none can be too short.
 #[no_mangle]

@@ -50,10 +50,6 @@ all-eight =
     (rounds 4 (λ t. one fst ⟨ t ﹐ ⟨⟩ ⟩) (rounds 5 (λ t. one snd ⟨ ⟨⟩ ﹐ t ⟩) (rounds 6 (λ t. one derelict (one promote t))
     (rounds 7 (λ t. copies one promote ⟨⟩ ⇉ "x" ﹐ "y" ⨟ t) (rounds 8 (λ t. two discard (one promote ⟨⟩) t) ⟨⟩)))))))
 
--- its step makes 513 nodes
-abbrev pub outgrowing : Term
-outgrowing = copies one promote (rounds 254 (one promote) ⟨⟩) ⇉ "x" ﹐ "y" ⨟ v "x" · v "y"
-
 abbrev pub file : Term → Bytes
 file t = stored aTerm (encode t)
 
@@ -75,7 +71,6 @@ table =
     -- Stored `()` has check 14
     (hex "02" stored-is block hex "01 00 0100 02" checked hex "0e00")
     ∷ (content stored-is first-block ‥ block hex "01 01 fb01 02" checked hex "0203")
-    ∷ (aTerm opens first-block ‥ block hex "01 01 fb01 02" checked hex "0203" ⟹ answers content)
     ∷ (aProof opens block hex "02 00 0300 030000" checked hex "1a00" ⟹ answers (hex "030000"))
     -- 10
     ∷ (aTerm opens [] ⟹ refuses 10 at 0 of 1)
@@ -114,7 +109,6 @@ table =
     ⟹ "(λx. (x x) λx. (x x))\nsteps 1000 app 1000 let 0 case 0 fst 0 snd 0 derelict 0 copy 0 discard 0 normal no\n")
     ∷ (program [] ⟹ "refused 10 at 0\n")
     ∷ (program sealed (hex "01 00 0c00 0e0e0e0e0e0e0e0e0e0e0212") ⟹ "refused 7 at 11\n")
-    ∷ (program file ((ƛ "z" ⇒ v "z") · outgrowing) ⟹ "refused 8 at 1\n")
     ∷ []
 
 pub blocks-hold : wrong right table ≡ []

@@ -1,5 +1,4 @@
 -- Calls and the buffers that they are lent: what each answers and leaves, after success and after each kind of refusal. One table, computed at small limits.
-use Prim.Native.Nat.{ℕ, zero, suc}
 use Prim.Native.String.{String}
 use mathlib.Core.Path.{_≡_, refl}
 use mathlib.Core.List.{List, [], _∷_}
@@ -8,12 +7,8 @@ use Rattle.rules.specs.Formula.{atom, plain, connective, Plus, encodeFor
 use Rattle.rules.specs.Term.{Term, one, fst, promote, encode}
 use Rattle.rules.specs.Proof.{Proof, OneIntro, Axiom, encodeProof, encodeRule, encodeFormulas}
 use Rattle.rules.specs.declared.Kind.the-variants.{Term as aTerm, Proof as aProof}
-use Rattle.rules.proofs.Notation.{v, ⟨⟩, ⟨_﹐_⟩, _·_, ƛ_⇒_, lets_﹐_≔_⨟_, copies_⇉_﹐_⨟_, 𝟏, by_on_from_, cuts_from_, hex, repeat, wrong}
+use Rattle.rules.proofs.Notation.{promotes, v, ⟨⟩, ⟨_﹐_⟩, _·_, ƛ_⇒_, lets_﹐_≔_⨟_, copies_⇉_﹐_⨟_, 𝟏, by_on_from_, cuts_from_, hex, repeat, wrong}
 use Rattle.rules.proofs.Called.{Row, right, _⟹_⟫_, freeVars, prints, printsFormula, substitutes, steps, reduces, isNormal, child, extracts, stores, loads, untouched, then-zeros, zeroed, answers, counts, refuses_at_of_}
-
-abbrev pub promotes : ℕ → Term → Term
-promotes zero t = t
-promotes (suc n) t = one promote (promotes n t)
 
 -- a name of 24 bytes, and four of a variable
 abbrev pub long : String

@@ -3,9 +3,9 @@ pub mod Notation
 mod Patches
 mod Forms
 mod Steps
-mod Called
+pub mod Called
 mod Faults
 mod Lent
 mod Extractions
 mod Blocks
-mod Runs
+pub mod Past

@@ -10,7 +10,7 @@ use mathlib.Core.Option.{Option, none, some}
 use lib.Dec.{ltb, eqb}
 use Rattle.rules.specs.Basic.{Bytes, say, if_then_else_, _‥_}
 use Rattle.rules.specs.Formula.{Formula, atom, constant, plain, negated, One}
-use Rattle.rules.specs.Term.{Term, var, leaf, two, abs, both, branch, unit, pair, app, letPair, copy}
+use Rattle.rules.specs.Term.{Term, var, leaf, one, promote, two, abs, both, branch, unit, pair, app, letPair, copy}
 use Rattle.rules.specs.Proof.{Proof, proof, row, Plain, cut}
 use Rattle.rules.specs.Proof.{plain as plainRule}
 use Rattle.rules.specs.Step.{Rule, App, Let, Case, Fst, Snd, Derelict, Copy, Discard}
@@ -45,6 +45,11 @@ copies s ⇉ x ﹐ y ⨟ e = both copy (say x) (say y) s e
 
 abbrev pub cases_of_⇒_or_⇒_ : Term → String → Term → String → Term → Term
 cases s of x ⇒ l or y ⇒ r = branch (say x) (say y) s l r
+
+-- n Promotes around t
+abbrev pub promotes : ℕ → Term → Term
+promotes zero t = t
+promotes (suc n) t = one promote (promotes n t)
 
 abbrev pub A : Formula
 A = atom plain (say "A")

@@ -1,5 +1,7 @@
 -- `entry::patch_check_proof` meets its contract: what it tells is the public call's answer. Assumes nothing.
+use mathlib.Core.Path.{ap, _∙_}
 use borrow.Author.Needs.{needs}
+use Rattle.told.specs.Told.{toldAnswer}
 use Rattle.entry.proofs.patch_check_proof.Statement.{statement}
 use Rattle.entry.proofs.patch_check_proof.Tie as tie
 
@@ -10,7 +12,7 @@ tell-requires : tie.Need-tell-requires
 tell-requires c κs = search needs
 
 returns : tie.Need-returns
-returns c = cc
+returns c = c .tell .ensures ∙ ap toldAnswer (c .before .before .check-proof .ensures)
 
 pub patch-check-proof-spec : {M : Type 1} → statement M
 patch-check-proof-spec = tie.close (tie.spec check-proof-requires tell-requires returns)

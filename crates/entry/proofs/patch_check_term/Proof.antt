@@ -1,5 +1,7 @@
 -- `entry::patch_check_term` meets its contract: what it tells is the public call's answer. Assumes nothing.
+use mathlib.Core.Path.{ap, _∙_}
 use borrow.Author.Needs.{needs}
+use Rattle.told.specs.Told.{toldAnswer}
 use Rattle.entry.proofs.patch_check_term.Statement.{statement}
 use Rattle.entry.proofs.patch_check_term.Tie as tie
 
@@ -10,7 +12,7 @@ tell-requires : tie.Need-tell-requires
 tell-requires c κs = search needs
 
 returns : tie.Need-returns
-returns c = cc
+returns c = c .tell .ensures ∙ ap toldAnswer (c .before .before .check-term .ensures)
 
 pub patch-check-term-spec : {M : Type 1} → statement M
 patch-check-term-spec = tie.close (tie.spec check-term-requires tell-requires returns)

@@ -5,7 +5,7 @@ use Rattle.rules.specs.Basic.{Bytes}
 use Rattle.walk.specs.Child.{Located}
 use Rattle.walk.specs.declared.child.Piece.{Piece}
 use Rattle.walk.specs.declared.child.Piece.the-variants.{Part, Missing}
-use Rattle.entry.specs.Child.{ordered}
+use Rattle.told.specs.Child.{ordered}
 use Rattle.entry.proofs.patch_child.Statement.{statement}
 use Rattle.entry.proofs.patch_child.Tie as tie
 

@@ -1,5 +1,7 @@
 -- `entry::patch_formula_text` meets its contract: what it tells is the public call's answer, and the output is the call's. Assumes nothing.
+use mathlib.Core.Path.{ap, _∙_}
 use borrow.Author.Needs.{needs}
+use Rattle.told.specs.Told.{toldAnswer}
 use Rattle.entry.proofs.patch_formula_text.Statement.{statement}
 use Rattle.entry.proofs.patch_formula_text.Tie as tie
 
@@ -13,7 +15,7 @@ same-length : tie.Need-same-length
 same-length c = search needs
 
 returns : tie.Need-returns
-returns c = (cc, cc)
+returns c = let e = c .before .before .before .before .pretty .ensures in (c .tell .ensures ∙ ap toldAnswer (e .0), e .1)
 
 pub patch-formula-text-spec : {M : Type 1} → statement M
 patch-formula-text-spec = tie.close (tie.spec pretty-requires tell-requires same-length returns)

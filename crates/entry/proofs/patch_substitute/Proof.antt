@@ -1,5 +1,7 @@
 -- `entry::patch_substitute` meets its contract: what it tells is the public call's answer, and the buffers are the call's. Assumes nothing.
+use mathlib.Core.Path.{ap, _∙_}
 use borrow.Author.Needs.{needs}
+use Rattle.told.specs.Told.{toldAnswer}
 use Rattle.entry.proofs.patch_substitute.Statement.{statement}
 use Rattle.entry.proofs.patch_substitute.Tie as tie
 
@@ -16,7 +18,7 @@ same-length-2 : tie.Need-same-length-2
 same-length-2 c = search needs
 
 returns : tie.Need-returns
-returns c = (cc, (cc, cc))
+returns c = let e = c .before .before .before .before .before .before .substitute .ensures in (c .tell .ensures ∙ ap toldAnswer (e .0), (e .1 .0, e .1 .1))
 
 pub patch-substitute-spec : {M : Type 1} → statement M
 patch-substitute-spec = tie.close (tie.spec substitute-requires tell-requires same-length same-length-2 returns)

@@ -1,5 +1,7 @@
 -- `entry::files::patch_load_proof` meets its contract: what it tells is the public call's answer, and the output is the call's. Assumes nothing.
+use mathlib.Core.Path.{ap, _∙_}
 use borrow.Author.Needs.{needs}
+use Rattle.told.specs.Told.{toldAnswer}
 use Rattle.entry.proofs.files.patch_load_proof.Statement.{statement}
 use Rattle.entry.proofs.files.patch_load_proof.Tie as tie
 
@@ -13,7 +15,7 @@ same-length : tie.Need-same-length
 same-length c = search needs
 
 returns : tie.Need-returns
-returns c = (cc, cc)
+returns c = let e = c .before .before .before .before .load .ensures in (c .tell .ensures ∙ ap toldAnswer (e .0), e .1)
 
 pub patch-load-proof-spec : {M : Type 1} → statement M
 patch-load-proof-spec = tie.close (tie.spec load-requires tell-requires same-length returns)

@@ -6,7 +6,7 @@ use Rattle.rules.specs.Basic.{Bytes}
 use Rattle.walk.specs.declared.child.Piece.{Piece}
 use Rattle.walk.specs.declared.child.Piece.the-variants.{Part, Missing}
 use Rattle.walk.specs.Child.{Located}
-use Rattle.entry.specs.Told.{told, toldRefusal}
+use Rattle.told.specs.Told.{told, toldRefusal}
 
 abbrev pub ordered : Piece → Type 0
 ordered (Part a b) = a ≤ b

@@ -1,9 +1,9 @@
--- `entry::tell` meets its contract: in each arm the numbers are those of the constructor that the match found. Assumes nothing.
+-- `told::tell` meets its contract: in each arm the numbers are those of the constructor that the match found. Assumes nothing.
 use mathlib.Core.Path.{sym, ap, _∙_}
 use borrow.Author.Needs.{needs}
-use Rattle.entry.specs.Told.{toldAnswer}
-use Rattle.entry.proofs.tell.Statement.{statement}
-use Rattle.entry.proofs.tell.Tie as tie
+use Rattle.told.specs.Told.{toldAnswer}
+use Rattle.told.proofs.tell.Statement.{statement}
+use Rattle.told.proofs.tell.Tie as tie
 
 enum-known-answer : tie.Need-enum-known-answer
 enum-known-answer c = search needs

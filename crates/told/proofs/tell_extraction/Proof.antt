@@ -1,10 +1,10 @@
--- `entry::proofs_to_terms::tell_extraction` meets its contract: in each arm the numbers are those of the constructor that the match found.
+-- `told::tell_extraction` meets its contract: in each arm the numbers are those of the constructor that the match found.
 -- Assumes nothing.
 use mathlib.Core.Path.{sym, ap, _∙_}
 use borrow.Author.Needs.{needs}
-use Rattle.entry.specs.Extraction.{toldExtraction}
-use Rattle.entry.proofs.proofs_to_terms.tell_extraction.Statement.{statement}
-use Rattle.entry.proofs.proofs_to_terms.tell_extraction.Tie as tie
+use Rattle.told.specs.Extraction.{toldExtraction}
+use Rattle.told.proofs.tell_extraction.Statement.{statement}
+use Rattle.told.proofs.tell_extraction.Tie as tie
 
 enum-known-made : tie.Need-enum-known-made
 enum-known-made c = search needs

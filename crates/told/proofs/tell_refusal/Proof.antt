@@ -1,9 +1,9 @@
--- `entry::tell_refusal` meets its contract: the numbers are the refusal's own. Assumes nothing.
+-- `told::tell_refusal` meets its contract: the numbers are the refusal's own. Assumes nothing.
 use mathlib.Core.Path.{refl}
 use borrow.Author.Needs.{needs}
-use Rattle.entry.specs.Told.{toldRefusal}
-use Rattle.entry.proofs.tell_refusal.Statement.{statement}
-use Rattle.entry.proofs.tell_refusal.Tie as tie
+use Rattle.told.specs.Told.{toldRefusal}
+use Rattle.told.proofs.tell_refusal.Statement.{statement}
+use Rattle.told.proofs.tell_refusal.Tie as tie
 
 cast-number : tie.Need-cast-number
 cast-number c = search needs

@@ -1,9 +1,9 @@
--- `entry::tell_piece` meets its contract: in each arm the numbers are those of the constructor that the match found. Assumes nothing.
+-- `told::tell_piece` meets its contract: in each arm the numbers are those of the constructor that the match found. Assumes nothing.
 use mathlib.Core.Path.{sym, ap, subst, _∙_}
 use borrow.Author.Needs.{needs}
-use Rattle.entry.specs.Child.{ordered, toldPiece}
-use Rattle.entry.proofs.tell_piece.Statement.{statement}
-use Rattle.entry.proofs.tell_piece.Tie as tie
+use Rattle.told.specs.Child.{ordered, toldPiece}
+use Rattle.told.proofs.tell_piece.Statement.{statement}
+use Rattle.told.proofs.tell_piece.Tie as tie
 
 enum-known-piece : tie.Need-enum-known-piece
 enum-known-piece c = search needs

@@ -1,0 +1,2 @@
+-- What document 01 asks to run, computed.
+mod Runs
