@@ -141,7 +141,7 @@ fn discard(s: &[u8], at: usize, out: &mut [u8], to: usize) -> usize
 {
     let a = word(out, to, b"discard ", 8);
     let b = word(out, a, b"in      ", 3);
-    part(&*s, walk::skip(s, at + 1, 1), out, b)
+    walk(&*s, walk::skip(s, at + 1, 1), out, b)
 }
 
 fn let_pair(s: &[u8], at: usize, out: &mut [u8], to: usize) -> usize
@@ -150,9 +150,9 @@ fn let_pair(s: &[u8], at: usize, out: &mut [u8], to: usize) -> usize
 {
     let x = at + 1;
     let a = two_names(s, x, out, to, b"let (   ", b") =     ", 4);
-    let e = part(&*s, past_names(s, x), out, a);
+    let e = walk(&*s, past_names(s, x), out, a);
     let b = word(out, e / 65536, b" in     ", 4);
-    part(&*s, e % 65536, out, b)
+    walk(&*s, e % 65536, out, b)
 }
 
 fn copy(s: &[u8], at: usize, out: &mut [u8], to: usize) -> usize
@@ -161,9 +161,9 @@ fn copy(s: &[u8], at: usize, out: &mut [u8], to: usize) -> usize
 {
     let x = at + 1;
     let a = word(out, to, b"copy    ", 5);
-    let e = part(&*s, past_names(s, x), out, a);
+    let e = walk(&*s, past_names(s, x), out, a);
     let b = two_names(s, x, out, e / 65536, b" as (   ", b") in    ", 5);
-    part(&*s, e % 65536, out, b)
+    walk(&*s, e % 65536, out, b)
 }
 
 fn case(s: &[u8], at: usize, out: &mut [u8], to: usize) -> usize
@@ -173,16 +173,16 @@ fn case(s: &[u8], at: usize, out: &mut [u8], to: usize) -> usize
     let x = at + 1;
     let y = past(s, x);
     let a = word(out, to, b"case    ", 5);
-    let e = part(&*s, past_names(s, x), out, a);
+    let e = walk(&*s, past_names(s, x), out, a);
     let b = left_name(s, x, out, e / 65536);
-    let l = part(&*s, e % 65536, out, b);
+    let l = walk(&*s, e % 65536, out, b);
     let c = right_name(s, y, out, l / 65536);
-    let r = part(&*s, l % 65536, out, c);
+    let r = walk(&*s, l % 65536, out, c);
     let d = word(out, r / 65536, b" }      ", 2);
     places(r % 65536, d)
 }
 
-// Most parts are variables, and need no call of `walk`.
+// The first part of a pair or an application is mostly a variable, and needs no call of `walk`.
 fn part(s: &[u8], at: usize, out: &mut [u8], to: usize) -> usize
     requires { ⌜ ((t : Term) × TermTask (now s) at (now out) to t) ⌝ }
     ensures { λ r. ⌜ ((t : Term) → TermTask (now (s .entry)) at (now (out .entry)) to t → TermDone at (now (out .entry)) to t (now (out .exit)) r) ⌝ }

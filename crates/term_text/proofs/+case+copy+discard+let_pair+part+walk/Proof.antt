@@ -103,16 +103,16 @@ abbrev walk-below : ℕ → In 2 walk-kinds.ps
 walk-below t = and 2 walk-kinds.ps (falls 2 walk-kinds.ps _<_ μ-walk t) walk.Pre
 
 abbrev case-claims : ℕ → case-lts.Claims
-case-claims t = (past-reads.Asked, past-reads.Learnt, word-reads.Asked, word-reads.Learnt, past-names-reads.Asked, past-names-reads.Learnt, part-below t, part.Post, left-name-reads.Asked, left-name-reads.Learnt, right-name-reads.Asked, right-name-reads.Learnt, places-reads.Asked, places-reads.Learnt)
+case-claims t = (past-reads.Asked, past-reads.Learnt, word-reads.Asked, word-reads.Learnt, past-names-reads.Asked, past-names-reads.Learnt, walk-below t, walk.Post, left-name-reads.Asked, left-name-reads.Learnt, right-name-reads.Asked, right-name-reads.Learnt, places-reads.Asked, places-reads.Learnt)
 
 abbrev copy-claims : ℕ → copy-lts.Claims
-copy-claims t = (word-reads.Asked, word-reads.Learnt, past-names-reads.Asked, past-names-reads.Learnt, part-below t, part.Post, two-names-reads.Asked, two-names-reads.Learnt)
+copy-claims t = (word-reads.Asked, word-reads.Learnt, past-names-reads.Asked, past-names-reads.Learnt, walk-below t, walk.Post, two-names-reads.Asked, two-names-reads.Learnt)
 
 abbrev discard-claims : ℕ → discard-lts.Claims
-discard-claims t = (word-reads.Asked, word-reads.Learnt, skip-reads.Asked, skip-reads.Learnt, part-below t, part.Post)
+discard-claims t = (word-reads.Asked, word-reads.Learnt, skip-reads.Asked, skip-reads.Learnt, walk-below t, walk.Post)
 
 abbrev let-pair-claims : ℕ → let-pair-lts.Claims
-let-pair-claims t = (two-names-reads.Asked, two-names-reads.Learnt, past-names-reads.Asked, past-names-reads.Learnt, part-below t, part.Post, word-reads.Asked, word-reads.Learnt)
+let-pair-claims t = (two-names-reads.Asked, two-names-reads.Learnt, past-names-reads.Asked, past-names-reads.Learnt, walk-below t, walk.Post, word-reads.Asked, word-reads.Learnt)
 
 abbrev part-claims : ℕ → part-lts.Claims
 part-claims t = (var-reads.Asked, var-reads.Learnt, walk-below t, walk.Post)
@@ -132,8 +132,8 @@ case-word-requires t c κs = let w = c .before .before .before .before .before .
 case-past-names-requires : (t : ℕ) → case-lts.Need-past-names-requires (case-claims t) (case-at t) case.Post
 case-past-names-requires t c κs = let w = c .before .before .before .before .before .before .before .before .pre .1 in case-in (w .0) (w .1) (w .2) (w .3) (w .4) (w .5)
 
-case-part-requires : (t : ℕ) → case-lts.Need-part-requires (case-claims t) (case-at t) case.Post
-case-part-requires t c κs =
+case-walk-requires : (t : ℕ) → case-lts.Need-walk-requires (case-claims t) (case-at t) case.Post
+case-walk-requires t c κs =
     let w = c .before .before .before .before .before .before .before .before .before .before .pre .1 in
     let h = c .before .past-names .ensures in
     (omega (arith, c .before .before .before .before .before .before .before .before .before .before .pre .0, begun (branchOf (w .0) (w .1) (w .2) (w .3) (w .4)) (w .5), h), (w .2, case-part (w .0) (w .1) (w .2) (w .3) (w .4) (w .5) (c .before .before .before .before .word .ensures) h))
@@ -143,15 +143,15 @@ case-left-name-requires t c κs =
     let w = c .before .before .before .before .before .before .before .before .before .before .before .before .before .before .pre .1 in
     let a = c .before .before .before .before .before .before .before .before .word .ensures in
     let h = c .before .before .before .before .before .past-names .ensures in
-    let d = c .before .before .before .part .ensures (w .2) (case-part (w .0) (w .1) (w .2) (w .3) (w .4) (w .5) a h) in
+    let d = c .before .before .before .walk .ensures (w .2) (case-part (w .0) (w .1) (w .2) (w .3) (w .4) (w .5) a h) in
     (case-in (w .0) (w .1) (w .2) (w .3) (w .4) (w .5) .0, left-room (w .0) (w .1) (w .2) (w .3) (w .4) (w .5) a h d)
 
-case-part-requires-2 : (t : ℕ) → case-lts.Need-part-requires-2 (case-claims t) (case-at t) case.Post
-case-part-requires-2 t c κs =
+case-walk-requires-2 : (t : ℕ) → case-lts.Need-walk-requires-2 (case-claims t) (case-at t) case.Post
+case-walk-requires-2 t c κs =
     let w = c .before .before .before .before .before .before .before .before .before .before .before .before .before .before .before .before .before .before .pre .1 in
     let a = c .before .before .before .before .before .before .before .before .before .before .before .before .word .ensures in
     let h = c .before .before .before .before .before .before .before .before .before .past-names .ensures in
-    let d = c .before .before .before .before .before .before .before .part .ensures (w .2) (case-part (w .0) (w .1) (w .2) (w .3) (w .4) (w .5) a h) in
+    let d = c .before .before .before .before .before .before .before .walk .ensures (w .2) (case-part (w .0) (w .1) (w .2) (w .3) (w .4) (w .5) a h) in
     (omega (arith, c .before .before .before .before .before .before .before .before .before .before .before .before .before .before .before .before .before .before .pre .0, begun (branchOf (w .0) (w .1) (w .2) (w .3) (w .4)) (w .5), left-further (w .0) (w .1) (w .2) (w .3) (w .4) (w .5) a h d), (w .3, left-branch (w .0) (w .1) (w .2) (w .3) (w .4) (w .5) a h d (c .before .before .before .left-name .ensures)))
 
 case-right-name-requires : (t : ℕ) → case-lts.Need-right-name-requires (case-claims t) (case-at t) case.Post
@@ -159,19 +159,19 @@ case-right-name-requires t c κs =
     let w = c .before .before .before .before .before .before .before .before .before .before .before .before .before .before .before .before .before .before .before .before .before .before .pre .1 in
     let a = c .before .before .before .before .before .before .before .before .before .before .before .before .before .before .before .before .word .ensures in
     let h = c .before .before .before .before .before .before .before .before .before .before .before .before .before .past-names .ensures in
-    let d = c .before .before .before .before .before .before .before .before .before .before .before .part .ensures (w .2) (case-part (w .0) (w .1) (w .2) (w .3) (w .4) (w .5) a h) in
+    let d = c .before .before .before .before .before .before .before .before .before .before .before .walk .ensures (w .2) (case-part (w .0) (w .1) (w .2) (w .3) (w .4) (w .5) a h) in
     let b = c .before .before .before .before .before .before .before .left-name .ensures in
-    let e = c .before .before .before .part2 .ensures (w .3) (left-branch (w .0) (w .1) (w .2) (w .3) (w .4) (w .5) a h d b) in
+    let e = c .before .before .before .walk2 .ensures (w .3) (left-branch (w .0) (w .1) (w .2) (w .3) (w .4) (w .5) a h d b) in
     rw (c .before .before .before .before .before .before .before .before .before .before .before .before .before .before .before .before .before .before .before .past .ensures) (case-in (w .0) (w .1) (w .2) (w .3) (w .4) (w .5) .1, right-room (w .0) (w .1) (w .2) (w .3) (w .4) (w .5) a h d b e)
 
-case-part-requires-3 : (t : ℕ) → case-lts.Need-part-requires-3 (case-claims t) (case-at t) case.Post
-case-part-requires-3 t c κs =
+case-walk-requires-3 : (t : ℕ) → case-lts.Need-walk-requires-3 (case-claims t) (case-at t) case.Post
+case-walk-requires-3 t c κs =
     let w = c .before .before .before .before .before .before .before .before .before .before .before .before .before .before .before .before .before .before .before .before .before .before .before .before .before .before .pre .1 in
     let a = c .before .before .before .before .before .before .before .before .before .before .before .before .before .before .before .before .before .before .before .before .word .ensures in
     let h = c .before .before .before .before .before .before .before .before .before .before .before .before .before .before .before .before .before .past-names .ensures in
-    let d = c .before .before .before .before .before .before .before .before .before .before .before .before .before .before .before .part .ensures (w .2) (case-part (w .0) (w .1) (w .2) (w .3) (w .4) (w .5) a h) in
+    let d = c .before .before .before .before .before .before .before .before .before .before .before .before .before .before .before .walk .ensures (w .2) (case-part (w .0) (w .1) (w .2) (w .3) (w .4) (w .5) a h) in
     let b = c .before .before .before .before .before .before .before .before .before .before .before .left-name .ensures in
-    let e = c .before .before .before .before .before .before .before .part2 .ensures (w .3) (left-branch (w .0) (w .1) (w .2) (w .3) (w .4) (w .5) a h d b) in
+    let e = c .before .before .before .before .before .before .before .walk2 .ensures (w .3) (left-branch (w .0) (w .1) (w .2) (w .3) (w .4) (w .5) a h d b) in
     (omega (arith, c .before .before .before .before .before .before .before .before .before .before .before .before .before .before .before .before .before .before .before .before .before .before .before .before .before .before .pre .0, begun (branchOf (w .0) (w .1) (w .2) (w .3) (w .4)) (w .5), right-further (w .0) (w .1) (w .2) (w .3) (w .4) (w .5) a h d b e), (w .4, right-branch (w .0) (w .1) (w .2) (w .3) (w .4) (w .5) a h d b e (rw (c .before .before .before .before .before .before .before .before .before .before .before .before .before .before .before .before .before .before .before .before .before .before .before .past .ensures) at (c .before .before .before .right-name .ensures))))
 
 case-word-requires-2 : (t : ℕ) → case-lts.Need-word-requires-2 (case-claims t) (case-at t) case.Post
@@ -179,11 +179,11 @@ case-word-requires-2 t c κs =
     let w = c .before .before .before .before .before .before .before .before .before .before .before .before .before .before .before .before .before .before .before .before .before .before .before .before .before .before .before .before .before .before .before .pre .1 in
     let a = c .before .before .before .before .before .before .before .before .before .before .before .before .before .before .before .before .before .before .before .before .before .before .before .before .before .word .ensures in
     let h = c .before .before .before .before .before .before .before .before .before .before .before .before .before .before .before .before .before .before .before .before .before .before .past-names .ensures in
-    let d = c .before .before .before .before .before .before .before .before .before .before .before .before .before .before .before .before .before .before .before .before .part .ensures (w .2) (case-part (w .0) (w .1) (w .2) (w .3) (w .4) (w .5) a h) in
+    let d = c .before .before .before .before .before .before .before .before .before .before .before .before .before .before .before .before .before .before .before .before .walk .ensures (w .2) (case-part (w .0) (w .1) (w .2) (w .3) (w .4) (w .5) a h) in
     let b = c .before .before .before .before .before .before .before .before .before .before .before .before .before .before .before .before .left-name .ensures in
-    let e = c .before .before .before .before .before .before .before .before .before .before .before .before .part2 .ensures (w .3) (left-branch (w .0) (w .1) (w .2) (w .3) (w .4) (w .5) a h d b) in
+    let e = c .before .before .before .before .before .before .before .before .before .before .before .before .walk2 .ensures (w .3) (left-branch (w .0) (w .1) (w .2) (w .3) (w .4) (w .5) a h d b) in
     let i = rw (c .before .before .before .before .before .before .before .before .before .before .before .before .before .before .before .before .before .before .before .before .before .before .before .before .before .before .before .before .past .ensures) at (c .before .before .before .before .before .before .before .before .right-name .ensures) in
-    let u = c .before .before .before .before .part3 .ensures (w .4) (right-branch (w .0) (w .1) (w .2) (w .3) (w .4) (w .5) a h d b e i) in
+    let u = c .before .before .before .before .walk3 .ensures (w .4) (right-branch (w .0) (w .1) (w .2) (w .3) (w .4) (w .5) a h d b e i) in
     (omega arith, end-room (w .0) (w .1) (w .2) (w .3) (w .4) (w .5) a h d b e i u, refl)
 
 case-places-requires : (t : ℕ) → case-lts.Need-places-requires (case-claims t) (case-at t) case.Post
@@ -191,25 +191,25 @@ case-places-requires t c κs =
     let w = c .before .before .before .before .before .before .before .before .before .before .before .before .before .before .before .before .before .before .before .before .before .before .before .before .before .before .before .before .before .before .before .before .before .before .pre .1 in
     let a = c .before .before .before .before .before .before .before .before .before .before .before .before .before .before .before .before .before .before .before .before .before .before .before .before .before .before .before .before .word .ensures in
     let h = c .before .before .before .before .before .before .before .before .before .before .before .before .before .before .before .before .before .before .before .before .before .before .before .before .before .past-names .ensures in
-    let d = c .before .before .before .before .before .before .before .before .before .before .before .before .before .before .before .before .before .before .before .before .before .before .before .part .ensures (w .2) (case-part (w .0) (w .1) (w .2) (w .3) (w .4) (w .5) a h) in
+    let d = c .before .before .before .before .before .before .before .before .before .before .before .before .before .before .before .before .before .before .before .before .before .before .before .walk .ensures (w .2) (case-part (w .0) (w .1) (w .2) (w .3) (w .4) (w .5) a h) in
     let b = c .before .before .before .before .before .before .before .before .before .before .before .before .before .before .before .before .before .before .before .left-name .ensures in
-    let e = c .before .before .before .before .before .before .before .before .before .before .before .before .before .before .before .part2 .ensures (w .3) (left-branch (w .0) (w .1) (w .2) (w .3) (w .4) (w .5) a h d b) in
+    let e = c .before .before .before .before .before .before .before .before .before .before .before .before .before .before .before .walk2 .ensures (w .3) (left-branch (w .0) (w .1) (w .2) (w .3) (w .4) (w .5) a h d b) in
     let i = rw (c .before .before .before .before .before .before .before .before .before .before .before .before .before .before .before .before .before .before .before .before .before .before .before .before .before .before .before .before .before .before .before .past .ensures) at (c .before .before .before .before .before .before .before .before .before .before .before .right-name .ensures) in
-    let u = c .before .before .before .before .before .before .before .part3 .ensures (w .4) (right-branch (w .0) (w .1) (w .2) (w .3) (w .4) (w .5) a h d b e i) in
+    let u = c .before .before .before .before .before .before .before .walk3 .ensures (w .4) (right-branch (w .0) (w .1) (w .2) (w .3) (w .4) (w .5) a h d b e i) in
     case-places (w .0) (w .1) (w .2) (w .3) (w .4) (w .5) a h d b e i u (c .before .before .word2 .ensures)
 
 case-same-length : (t : ℕ) → case-lts.Need-same-length (case-claims t) (case-at t) case.Post
-case-same-length t c = omega (arith, c .before .before .before .before .before .before .before .before .before .before .before .before .before .before .before .before .before .before .before .before .before .before .before .before .before .before .before .before .before .word .ensures .long, c .before .before .before .before .before .before .before .before .before .before .before .before .before .before .before .before .before .before .before .before .before .before .before .before .part .kept .1 .1 .0, c .before .before .before .before .before .before .before .before .before .before .before .before .before .before .before .before .before .before .before .before .left-name .ensures .long, c .before .before .before .before .before .before .before .before .before .before .before .before .before .before .before .before .part2 .kept .1 .1 .0, c .before .before .before .before .before .before .before .before .before .before .before .before .right-name .ensures .long, c .before .before .before .before .before .before .before .before .part3 .kept .1 .1 .0, c .before .before .before .word2 .ensures .long)
+case-same-length t c = omega (arith, c .before .before .before .before .before .before .before .before .before .before .before .before .before .before .before .before .before .before .before .before .before .before .before .before .before .before .before .before .before .word .ensures .long, c .before .before .before .before .before .before .before .before .before .before .before .before .before .before .before .before .before .before .before .before .before .before .before .before .walk .kept .1 .1 .0, c .before .before .before .before .before .before .before .before .before .before .before .before .before .before .before .before .before .before .before .before .left-name .ensures .long, c .before .before .before .before .before .before .before .before .before .before .before .before .before .before .before .before .walk2 .kept .1 .1 .0, c .before .before .before .before .before .before .before .before .before .before .before .before .right-name .ensures .long, c .before .before .before .before .before .before .before .before .walk3 .kept .1 .1 .0, c .before .before .before .word2 .ensures .long)
 
 case-returns : (t : ℕ) → case-lts.Need-returns (case-claims t) (case-at t) case.Post
 case-returns t c x y f g m w =
     let a = c .before .before .before .before .before .before .before .before .before .before .before .before .before .before .before .before .before .before .before .before .before .before .before .before .before .before .before .before .before .word .ensures in
     let h = c .before .before .before .before .before .before .before .before .before .before .before .before .before .before .before .before .before .before .before .before .before .before .before .before .before .before .past-names .ensures in
-    let d = c .before .before .before .before .before .before .before .before .before .before .before .before .before .before .before .before .before .before .before .before .before .before .before .before .part .ensures f (case-part x y f g m w a h) in
+    let d = c .before .before .before .before .before .before .before .before .before .before .before .before .before .before .before .before .before .before .before .before .before .before .before .before .walk .ensures f (case-part x y f g m w a h) in
     let b = c .before .before .before .before .before .before .before .before .before .before .before .before .before .before .before .before .before .before .before .before .left-name .ensures in
-    let e = c .before .before .before .before .before .before .before .before .before .before .before .before .before .before .before .before .part2 .ensures g (left-branch x y f g m w a h d b) in
+    let e = c .before .before .before .before .before .before .before .before .before .before .before .before .before .before .before .before .walk2 .ensures g (left-branch x y f g m w a h d b) in
     let i = rw (c .before .before .before .before .before .before .before .before .before .before .before .before .before .before .before .before .before .before .before .before .before .before .before .before .before .before .before .before .before .before .before .before .past .ensures) at (c .before .before .before .before .before .before .before .before .before .before .before .before .right-name .ensures) in
-    let u = c .before .before .before .before .before .before .before .before .part3 .ensures m (right-branch x y f g m w a h d b e i) in
+    let u = c .before .before .before .before .before .before .before .before .walk3 .ensures m (right-branch x y f g m w a h d b e i) in
     case-done x y f g m w a h d b e i u (c .before .before .before .word2 .ensures) (c .places .ensures)
 
 copy-add-x : (t : ℕ) → copy-lts.Need-add-x (copy-claims t) (copy-at t) copy.Post
@@ -221,8 +221,8 @@ copy-word-requires t c κs = let w = c .before .before .before .before .pre .1 i
 copy-past-names-requires : (t : ℕ) → copy-lts.Need-past-names-requires (copy-claims t) (copy-at t) copy.Post
 copy-past-names-requires t c κs = let w = c .before .before .before .before .before .before .before .pre .1 in copy-in (w .0) (w .1) (w .2) (w .3) (w .4)
 
-copy-part-requires : (t : ℕ) → copy-lts.Need-part-requires (copy-claims t) (copy-at t) copy.Post
-copy-part-requires t c κs =
+copy-walk-requires : (t : ℕ) → copy-lts.Need-walk-requires (copy-claims t) (copy-at t) copy.Post
+copy-walk-requires t c κs =
     let w = c .before .before .before .before .before .before .before .before .before .pre .1 in
     let h = c .before .past-names .ensures in
     (omega (arith, c .before .before .before .before .before .before .before .before .before .pre .0, begun (bothOf copyOf (w .0) (w .1) (w .2) (w .3)) (w .4), h), (w .2, copy-part (w .0) (w .1) (w .2) (w .3) (w .4) (c .before .before .before .before .word .ensures) h))
@@ -233,27 +233,27 @@ copy-two-names-requires t c κs =
     let a = c .before .before .before .before .before .before .before .before .before .before .word .ensures in
     let h = c .before .before .before .before .before .before .before .past-names .ensures in
     let n = copy-in (w .0) (w .1) (w .2) (w .3) (w .4) in
-    let d = c .before .before .before .before .before .part .ensures (w .2) (copy-part (w .0) (w .1) (w .2) (w .3) (w .4) a h) in
+    let d = c .before .before .before .before .before .walk .ensures (w .2) (copy-part (w .0) (w .1) (w .2) (w .3) (w .4) a h) in
     ((n .0, n .1, copy-between-room (w .0) (w .1) (w .2) (w .3) (w .4) a h d), (refl, refl, omega arith))
 
-copy-part-requires-2 : (t : ℕ) → copy-lts.Need-part-requires-2 (copy-claims t) (copy-at t) copy.Post
-copy-part-requires-2 t c κs =
+copy-walk-requires-2 : (t : ℕ) → copy-lts.Need-walk-requires-2 (copy-claims t) (copy-at t) copy.Post
+copy-walk-requires-2 t c κs =
     let w = c .before .before .before .before .before .before .before .before .before .before .before .before .before .before .before .before .before .before .before .pre .1 in
     let a = c .before .before .before .before .before .before .before .before .before .before .before .before .before .before .word .ensures in
     let h = c .before .before .before .before .before .before .before .before .before .before .before .past-names .ensures in
-    let d = c .before .before .before .before .before .before .before .before .before .part .ensures (w .2) (copy-part (w .0) (w .1) (w .2) (w .3) (w .4) a h) in
+    let d = c .before .before .before .before .before .before .before .before .before .walk .ensures (w .2) (copy-part (w .0) (w .1) (w .2) (w .3) (w .4) a h) in
     (omega (arith, c .before .before .before .before .before .before .before .before .before .before .before .before .before .before .before .before .before .before .before .pre .0, begun (bothOf copyOf (w .0) (w .1) (w .2) (w .3)) (w .4), copy-further (w .0) (w .1) (w .2) (w .3) (w .4) a h d), (w .3, copy-body (w .0) (w .1) (w .2) (w .3) (w .4) a h d (c .before .before .before .two-names .ensures)))
 
 copy-same-length : (t : ℕ) → copy-lts.Need-same-length (copy-claims t) (copy-at t) copy.Post
-copy-same-length t c = omega (arith, c .before .before .before .before .before .before .before .before .before .before .before .before .before .before .before .before .before .word .ensures .long, c .before .before .before .before .before .before .before .before .before .before .before .before .part .kept .1 .1 .0, c .before .before .before .before .before .before .two-names .ensures .long, c .before .before .part2 .kept .1 .1 .0)
+copy-same-length t c = omega (arith, c .before .before .before .before .before .before .before .before .before .before .before .before .before .before .before .before .before .word .ensures .long, c .before .before .before .before .before .before .before .before .before .before .before .before .walk .kept .1 .1 .0, c .before .before .before .before .before .before .two-names .ensures .long, c .before .before .walk2 .kept .1 .1 .0)
 
 copy-returns : (t : ℕ) → copy-lts.Need-returns (copy-claims t) (copy-at t) copy.Post
 copy-returns t c x y f g w =
     let a = c .before .before .before .before .before .before .before .before .before .before .before .before .before .before .before .before .before .word .ensures in
     let h = c .before .before .before .before .before .before .before .before .before .before .before .before .before .before .past-names .ensures in
-    let d = c .before .before .before .before .before .before .before .before .before .before .before .before .part .ensures f (copy-part x y f g w a h) in
+    let d = c .before .before .before .before .before .before .before .before .before .before .before .before .walk .ensures f (copy-part x y f g w a h) in
     let b = c .before .before .before .before .before .before .two-names .ensures in
-    copy-done x y f g w a h d b (c .before .before .part2 .ensures g (copy-body x y f g w a h d b))
+    copy-done x y f g w a h d b (c .before .before .walk2 .ensures g (copy-body x y f g w a h d b))
 
 discard-word-requires : (t : ℕ) → discard-lts.Need-word-requires (discard-claims t) (discard-at t) discard.Post
 discard-word-requires t c κs = let w = c .before .before .before .before .pre .1 in (omega arith, omega (arith, discard-room (w .0) (w .1) (w .2)), refl)
@@ -267,21 +267,21 @@ discard-add-skip t c = let w = c .before .before .before .before .before .before
 discard-skip-requires : (t : ℕ) → discard-lts.Need-skip-requires (discard-claims t) (discard-at t) discard.Post
 discard-skip-requires t c κs = let w = c .before .before .before .before .before .before .before .before .before .before .before .before .pre .1 in (w .0 ∷ [], discard-terms (w .0) (w .1) (w .2))
 
-discard-part-requires : (t : ℕ) → discard-lts.Need-part-requires (discard-claims t) (discard-at t) discard.Post
-discard-part-requires t c κs =
+discard-walk-requires : (t : ℕ) → discard-lts.Need-walk-requires (discard-claims t) (discard-at t) discard.Post
+discard-walk-requires t c κs =
     let w = c .before .before .before .before .before .before .before .before .before .before .before .before .before .before .pre .1 in
     let a = chain (c .before .before .before .before .before .before .before .before .before .word .ensures) (c .before .before .before .before .word2 .ensures) in
     let h = c .before .skip .ensures (w .0 ∷ []) (discard-terms (w .0) (w .1) (w .2)) in
     (omega (arith, c .before .before .before .before .before .before .before .before .before .before .before .before .before .before .pre .0, begun (twoOf discardOf (w .0) (w .1)) (w .2), discard-further (w .0) (w .1) (w .2) a h), (w .1, discard-part (w .0) (w .1) (w .2) a h))
 
 discard-same-length : (t : ℕ) → discard-lts.Need-same-length (discard-claims t) (discard-at t) discard.Post
-discard-same-length t c = omega (arith, c .before .before .before .before .before .before .before .before .before .before .before .before .word .ensures .long, c .before .before .before .before .before .before .before .word2 .ensures .long, c .before .before .part .kept .1 .1 .0)
+discard-same-length t c = omega (arith, c .before .before .before .before .before .before .before .before .before .before .before .before .word .ensures .long, c .before .before .before .before .before .before .before .word2 .ensures .long, c .before .before .walk .kept .1 .1 .0)
 
 discard-returns : (t : ℕ) → discard-lts.Need-returns (discard-claims t) (discard-at t) discard.Post
 discard-returns t c f g w =
     let a = chain (c .before .before .before .before .before .before .before .before .before .before .before .before .word .ensures) (c .before .before .before .before .before .before .before .word2 .ensures) in
     let h = c .before .before .before .before .skip .ensures (f ∷ []) (discard-terms f g w) in
-    discard-done f g w a h (c .before .before .part .ensures g (discard-part f g w a h))
+    discard-done f g w a h (c .before .before .walk .ensures g (discard-part f g w a h))
 
 let-pair-add-x : (t : ℕ) → let-pair-lts.Need-add-x (let-pair-claims t) (let-pair-at t) let-pair.Post
 let-pair-add-x t c = let w = c .before .before .pre .1 in omega (arith, begun (bothOf letPairOf (w .0) (w .1) (w .2) (w .3)) (w .4))
@@ -295,8 +295,8 @@ let-pair-two-names-requires t c κs =
 let-pair-past-names-requires : (t : ℕ) → let-pair-lts.Need-past-names-requires (let-pair-claims t) (let-pair-at t) let-pair.Post
 let-pair-past-names-requires t c κs = let w = c .before .before .before .before .before .before .before .before .pre .1 in let-in (w .0) (w .1) (w .2) (w .3) (w .4)
 
-let-pair-part-requires : (t : ℕ) → let-pair-lts.Need-part-requires (let-pair-claims t) (let-pair-at t) let-pair.Post
-let-pair-part-requires t c κs =
+let-pair-walk-requires : (t : ℕ) → let-pair-lts.Need-walk-requires (let-pair-claims t) (let-pair-at t) let-pair.Post
+let-pair-walk-requires t c κs =
     let w = c .before .before .before .before .before .before .before .before .before .before .pre .1 in
     let h = c .before .past-names .ensures in
     (omega (arith, c .before .before .before .before .before .before .before .before .before .before .pre .0, begun (bothOf letPairOf (w .0) (w .1) (w .2) (w .3)) (w .4), h), (w .2, let-part (w .0) (w .1) (w .2) (w .3) (w .4) (c .before .before .before .before .two-names .ensures) h))
@@ -306,27 +306,27 @@ let-pair-word-requires t c κs =
     let w = c .before .before .before .before .before .before .before .before .before .before .before .before .before .before .before .pre .1 in
     let a = c .before .before .before .before .before .before .before .before .before .two-names .ensures in
     let h = c .before .before .before .before .before .before .past-names .ensures in
-    let d = c .before .before .before .before .part .ensures (w .2) (let-part (w .0) (w .1) (w .2) (w .3) (w .4) a h) in
+    let d = c .before .before .before .before .walk .ensures (w .2) (let-part (w .0) (w .1) (w .2) (w .3) (w .4) a h) in
     (omega arith, let-between-room (w .0) (w .1) (w .2) (w .3) (w .4) a h d, refl)
 
-let-pair-part-requires-2 : (t : ℕ) → let-pair-lts.Need-part-requires-2 (let-pair-claims t) (let-pair-at t) let-pair.Post
-let-pair-part-requires-2 t c κs =
+let-pair-walk-requires-2 : (t : ℕ) → let-pair-lts.Need-walk-requires-2 (let-pair-claims t) (let-pair-at t) let-pair.Post
+let-pair-walk-requires-2 t c κs =
     let w = c .before .before .before .before .before .before .before .before .before .before .before .before .before .before .before .before .before .before .before .pre .1 in
     let a = c .before .before .before .before .before .before .before .before .before .before .before .before .before .two-names .ensures in
     let h = c .before .before .before .before .before .before .before .before .before .before .past-names .ensures in
-    let d = c .before .before .before .before .before .before .before .before .part .ensures (w .2) (let-part (w .0) (w .1) (w .2) (w .3) (w .4) a h) in
+    let d = c .before .before .before .before .before .before .before .before .walk .ensures (w .2) (let-part (w .0) (w .1) (w .2) (w .3) (w .4) a h) in
     (omega (arith, c .before .before .before .before .before .before .before .before .before .before .before .before .before .before .before .before .before .before .before .pre .0, begun (bothOf letPairOf (w .0) (w .1) (w .2) (w .3)) (w .4), let-further (w .0) (w .1) (w .2) (w .3) (w .4) a h d), (w .3, let-body (w .0) (w .1) (w .2) (w .3) (w .4) a h d (c .before .before .before .word .ensures)))
 
 let-pair-same-length : (t : ℕ) → let-pair-lts.Need-same-length (let-pair-claims t) (let-pair-at t) let-pair.Post
-let-pair-same-length t c = omega (arith, c .before .before .before .before .before .before .before .before .before .before .before .before .before .before .before .before .two-names .ensures .long, c .before .before .before .before .before .before .before .before .before .before .before .part .kept .1 .1 .0, c .before .before .before .before .before .before .word .ensures .long, c .before .before .part2 .kept .1 .1 .0)
+let-pair-same-length t c = omega (arith, c .before .before .before .before .before .before .before .before .before .before .before .before .before .before .before .before .two-names .ensures .long, c .before .before .before .before .before .before .before .before .before .before .before .walk .kept .1 .1 .0, c .before .before .before .before .before .before .word .ensures .long, c .before .before .walk2 .kept .1 .1 .0)
 
 let-pair-returns : (t : ℕ) → let-pair-lts.Need-returns (let-pair-claims t) (let-pair-at t) let-pair.Post
 let-pair-returns t c x y f g w =
     let a = c .before .before .before .before .before .before .before .before .before .before .before .before .before .before .before .before .two-names .ensures in
     let h = c .before .before .before .before .before .before .before .before .before .before .before .before .before .past-names .ensures in
-    let d = c .before .before .before .before .before .before .before .before .before .before .before .part .ensures f (let-part x y f g w a h) in
+    let d = c .before .before .before .before .before .before .before .before .before .before .before .walk .ensures f (let-part x y f g w a h) in
     let b = c .before .before .before .before .before .before .word .ensures in
-    let-done x y f g w a h d b (c .before .before .part2 .ensures g (let-body x y f g w a h d b))
+    let-done x y f g w a h d b (c .before .before .walk2 .ensures g (let-body x y f g w a h d b))
 
 part-shared-slice-read-if1 : (t : ℕ) → part-lts.Need-shared-slice-read-if1 (part-claims t) (part-at t) part.Post
 part-shared-slice-read-if1 t c = let w = c .before .before .before .pre .1 in begun (w .0) (w .1)
@@ -666,11 +666,11 @@ pub +case+copy+discard+let-pair+part+walk-spec : {M : Type 1} → statement M
     (case-past-requires t)
     (case-word-requires t)
     (case-past-names-requires t)
-    (case-part-requires t)
+    (case-walk-requires t)
     (case-left-name-requires t)
-    (case-part-requires-2 t)
+    (case-walk-requires-2 t)
     (case-right-name-requires t)
-    (case-part-requires-3 t)
+    (case-walk-requires-3 t)
     (case-word-requires-2 t)
     (case-places-requires t)
     (case-same-length t)
@@ -680,9 +680,9 @@ pub +case+copy+discard+let-pair+part+walk-spec : {M : Type 1} → statement M
     (copy-add-x t)
     (copy-word-requires t)
     (copy-past-names-requires t)
-    (copy-part-requires t)
+    (copy-walk-requires t)
     (copy-two-names-requires t)
-    (copy-part-requires-2 t)
+    (copy-walk-requires-2 t)
     (copy-same-length t)
     (copy-returns t))
     (λ t. discard-lts.spec (discard-claims t) (discard-at t)
@@ -691,7 +691,7 @@ pub +case+copy+discard+let-pair+part+walk-spec : {M : Type 1} → statement M
     (discard-word-requires-2 t)
     (discard-add-skip t)
     (discard-skip-requires t)
-    (discard-part-requires t)
+    (discard-walk-requires t)
     (discard-same-length t)
     (discard-returns t))
     (λ t. let-pair-lts.spec (let-pair-claims t) (let-pair-at t)
@@ -699,9 +699,9 @@ pub +case+copy+discard+let-pair+part+walk-spec : {M : Type 1} → statement M
     (let-pair-add-x t)
     (let-pair-two-names-requires t)
     (let-pair-past-names-requires t)
-    (let-pair-part-requires t)
+    (let-pair-walk-requires t)
     (let-pair-word-requires t)
-    (let-pair-part-requires-2 t)
+    (let-pair-walk-requires-2 t)
     (let-pair-same-length t)
     (let-pair-returns t))
     (λ t. part-lts.spec (part-claims t) (part-at t)
