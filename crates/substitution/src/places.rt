@@ -117,5 +117,7 @@ pub fn first_places(s: &[u8], name: &[u8], places: &mut [u8]) -> Found
     requires { ⌜ (length (now s) ≤ 65536) × (length (now s) ≤ length (now places)) ⌝ }
     ensures { λ r. ⌜ ((t : Term) → TermAt (now (s .entry)) 0 t → (r .next ≡ size t) × Wrote (now (places .entry)) 0 (kept (placesOf (now (name .entry)) t 0)) (now (places .exit)) (r .to)) ⌝ }
 {
-    find(s, 0, 1, 0, name, places, 0)
+    let end = walk::skip(s, 0, 1);
+    let to = free_places(&s[0..end], name, places);
+    Found { next: end, to }
 }
