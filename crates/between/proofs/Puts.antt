@@ -2,14 +2,14 @@
 -- and three runs written one after the other are its bytes. Assumes nothing.
 use Prim.Native.Nat.{ℕ, _+_, _-_, _*_, _/_, _<_, _≤_}
 use mathlib.Core.Path.{_≡_, refl, sym, ap, _∙_}
-use mathlib.Core.Bool.{Bool, true, false}
+use mathlib.Core.Bool.{true, false}
 use mathlib.Core.Option.{none}
-use mathlib.Core.List.{List, [], _∷_, _++_}
+use mathlib.Core.List.{List, _++_}
 use native.Mathlib.Omega.{arith}
 use lib.ListN.{length, take, replicate, length-append, length-replicate}
 use lib.Seq.{sets, slice, length-slice}
 use borrow.Author.Tests.{leb-true, le-leb, lt-leb}
-use Rattle.rules.specs.Basic.{Bytes, if_then_else_, _≤?_}
+use Rattle.rules.specs.Basic.{Bytes, _≤?_}
 use Rattle.rules.specs.Limits.{limits}
 use Rattle.rules.specs.Name.{Name}
 use Rattle.rules.specs.Term.{Term, encode, nodes, size, fits}
@@ -24,8 +24,7 @@ use Rattle.substitution.proofs.Writes.{chain, wrote-length, wrote-part}
 use Rattle.substitution.proofs.Shapes.{places-many}
 use Rattle.substitution.proofs.Splices.{spliced-term, spaced-term}
 use Rattle.substitution.proofs.Finds.{kept-length, kept-small}
-use Rattle.substitution.proofs.Growths.{product, nodes-go, bytes-go, count-small, nodes-after, bytes-after}
-use Rattle.spans.specs.Given.{Given}
+use Rattle.substitution.proofs.Growths.{product, count-small, nodes-after, bytes-after}
 use Rattle.between.specs.Made.{Between, Keeping, Putting, Makes}
 use Rattle.between.specs.declared.Made.the-variants.{Whole, Outgrown}
 

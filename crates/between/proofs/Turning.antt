@@ -1,10 +1,10 @@
 -- Two substitutions in turn: the first makes a term by itself, with nothing around it, and the second goes on from there.
 -- Assumes nothing.
-use Prim.Native.Nat.{ℕ, _+_, _-_, _<_, _≤_}
+use Prim.Native.Nat.{ℕ, _+_, _-_, _≤_}
 use mathlib.Core.Path.{_≡_, refl, sym, ap, _∙_}
 use mathlib.Core.Bool.{Bool, true, false}
 use mathlib.Core.Option.{none, some}
-use mathlib.Core.List.{List, [], _∷_, _++_, append-nil}
+use mathlib.Core.List.{_++_, append-nil}
 use native.Mathlib.Omega.{arith}
 use lib.ListN.{length, take}
 use lib.Seq.{sets, slice-empty}
@@ -14,7 +14,6 @@ use Rattle.rules.specs.Name.{Name}
 use Rattle.rules.specs.Term.{Term, encode, nodes, size, fits}
 use Rattle.rules.specs.Substitution.{subst}
 use Rattle.substitution.proofs.Writes.{wrote-part}
-use Rattle.spans.specs.Given.{Given}
 use Rattle.between.specs.Made.{Between, Putting, Turns, Makes}
 use Rattle.between.specs.declared.Made.{Made}
 use Rattle.between.specs.declared.Made.the-variants.{Whole, Outgrown}

@@ -1,6 +1,5 @@
 // What a redex becomes, written between what stands around it: src[..place] before, and src[end..] after, with `others` nodes.
 // The sizes of the whole are known before anything is written.
-ghost use mathlib.Core.Path.{_≡_};
 ghost use mathlib.Core.Option.{none, some};
 ghost use Prim.Native.Nat.{_+_};
 ghost use Rattle.rules.specs.Term.{Term};

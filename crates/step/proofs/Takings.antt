@@ -1,24 +1,21 @@
 -- From a rule's contract to the step's: the tag of what stands at the place says which form it has, and the rules' `contract` computes on it.
 -- Assumes nothing.
-use Prim.Native.Nat.{ℕ, _+_, _<_}
-use mathlib.Core.Path.{_≡_, refl, sym, ap, _∙_}
+use Prim.Native.Nat.{ℕ, _<_}
+use mathlib.Core.Path.{_≡_, refl, ap, _∙_}
 use mathlib.Core.Bool.{Bool, true, false}
 use mathlib.Core.Option.{Option, none, some}
-use native.Mathlib.Omega.{arith}
 use lib.ListN.{length, getD}
 use borrow.Author.Tests.{ne-eqb}
 use Rattle.rules.specs.Basic.{Bytes, if_then_else_}
 use Rattle.rules.specs.Limits.{limits}
 use Rattle.rules.specs.Name.{Name}
-use Rattle.rules.specs.Term.{Term, one, two, abs, both, branch, fst, snd, promote, derelict, pair, app, discard, letPair, copy, encode, nodes, size}
+use Rattle.rules.specs.Term.{Term, one, two, abs, both, branch, fst, snd, promote, derelict, pair, app, discard, letPair, copy, nodes, size}
 use Rattle.rules.specs.Substitution.{subst}
 use Rattle.rules.specs.declared.Rule.{Rule}
 use Rattle.rules.specs.declared.Rule.the-variants.{App, Let, Case, Fst, Snd, Derelict, Copy, Discard}
 use Rattle.rules.specs.Step.{contract, found, stepFits}
-use Rattle.walk.specs.Node.{tag}
 use Rattle.walk.proofs.Terms.{at-tag, at-inside}
 use Rattle.search.specs.Side.{side}
-use Rattle.step.specs.Redex.{Redex}
 use Rattle.between.specs.Made.{Makes}
 use Rattle.step.specs.Taken.{told, contracted, Contracting, Takes}
 use Rattle.between.specs.declared.Made.{Made}

@@ -1,13 +1,11 @@
 -- What one step leaves, of a term that was read. Assumes nothing: these are definitions.
-use Prim.Native.Nat.{ℕ, _≤_}
+use Prim.Native.Nat.{ℕ}
 use mathlib.Core.Path.{_≡_}
-use mathlib.Core.Bool.{Bool, true}
 use mathlib.Core.Option.{Option}
-use lib.ListN.{length}
 use lib.Seq.{sets}
 use Rattle.rules.specs.Basic.{Bytes, if_then_else_}
-use Rattle.rules.specs.Limits.{limits, outputRoom}
-use Rattle.rules.specs.Term.{Term, encode, nodes, size, fits}
+use Rattle.rules.specs.Limits.{limits}
+use Rattle.rules.specs.Term.{Term, encode, nodes, size}
 use Rattle.rules.specs.declared.Rule.{Rule}
 use Rattle.rules.specs.Step.{by, contract, Stepped, normal, found, stepFits}
 use Rattle.search.specs.Spot.{placed}

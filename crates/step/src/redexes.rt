@@ -1,5 +1,4 @@
 // The eight rules, each at the place where its redex stands.
-ghost use mathlib.Core.Path.{_≡_};
 ghost use mathlib.Core.Bool.{Bool};
 ghost use mathlib.Core.Option.{none, some};
 ghost use Prim.Native.Nat.{_+_};
