@@ -1,14 +1,13 @@
 -- What the rules say of the call, by what its buffer's length and the reader's answer are. Assumes nothing.
 use Prim.Native.Nat.{ℕ, _<_, _≤_}
-use mathlib.Core.Path.{_≡_, refl, sym, ap, _∙_}
-use native.Mathlib.Omega.{arith}
+use mathlib.Core.Path.{_≡_, ap}
 use lib.ListN.{length}
 use borrow.Author.Tests.{le-leb, lt-leb}
 use Rattle.rules.specs.Basic.{Bytes}
 use Rattle.rules.specs.Limits.{limits}
 use Rattle.rules.specs.declared.Refusal.{Refusal}
 use Rattle.rules.specs.declared.Answer.the-variants.{Good, Refused}
-use Rattle.rules.specs.Refusal.{good, refused, mapped, answered, refuse}
+use Rattle.rules.specs.Refusal.{mapped, answered, refuse}
 use Rattle.rules.specs.Term.{Term, nodes}
 use Rattle.rules.specs.Reading.{readTerm}
 use Rattle.rules.specs.Calls.{freeVarsCall}

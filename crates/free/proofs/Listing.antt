@@ -1,5 +1,5 @@
 -- The names of a row written one after the other. Assumes nothing.
-use Prim.Native.Nat.{ℕ, zero, suc, _+_, _-_, _<_, _≤_}
+use Prim.Native.Nat.{ℕ, _+_, _-_, _<_, _≤_}
 use mathlib.Core.Path.{_≡_, refl, sym, ap, _∙_}
 use mathlib.Core.List.{List, [], _∷_, _++_, append-nil, append-assoc}
 use native.Mathlib.Numerals.{add-one}
@@ -13,7 +13,7 @@ use Rattle.runs.specs.Writing.{slice-is, chain, wrote-none}
 use Rattle.walk.specs.Place.{NameAt}
 use Rattle.walk.proofs.Names.{head-byte}
 use Rattle.name_row.specs.Search.{at}
-use Rattle.name_row.specs.Rows.{Held, Writes}
+use Rattle.name_row.specs.Rows.{Writes}
 
 names-app : (xs ys : List Name) → encodeNames (xs ++ ys) ≡ encodeNames xs ++ encodeNames ys
 names-app [] ys = refl

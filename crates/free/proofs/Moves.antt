@@ -7,8 +7,8 @@ use native.Mathlib.Omega.{arith}
 use lib.ListN.{length, set, length-append}
 use Rattle.rules.specs.Basic.{Bytes}
 use Rattle.rules.specs.Name.{Name, encodeName, encodeNames}
-use Rattle.rules.specs.Term.{Term, var, leaf, one, two, abs, both, branch, Leaf, One, Two, Both, bothTag, nodes, size, parts, encode}
-use Rattle.walk.specs.Node.{names, head, encodeAll}
+use Rattle.rules.specs.Term.{Term, var, leaf, one, two, abs, both, branch, Leaf, One, Two, Both, bothTag, nodes, size, encode}
+use Rattle.walk.specs.Node.{head, encodeAll}
 use Rattle.walk.specs.Place.{NameAt, NamesAt, TermAt, TermsAt}
 use Rattle.walk.proofs.Names.{AfterIs, first-name, other-names, name-end}
 use Rattle.walk.proofs.Terms.{apart-size, at-names, at-parts, first, others}

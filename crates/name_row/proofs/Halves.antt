@@ -12,7 +12,7 @@ use Rattle.walk.specs.Place.{NameAt}
 use Rattle.name_row.specs.Members.{same-swap}
 use Rattle.name_row.specs.Search.{at, Between, everywhere, go-right, go-left, insert-there, insert-new}
 use Rattle.name_row.specs.Order.{orderOf, is-before, is-same, is-after}
-use Rattle.name_row.specs.Rows.{Held, Sought, Goes}
+use Rattle.name_row.specs.Rows.{Sought, Goes}
 use Rattle.name_row.specs.declared.order.Stands.{Stands}
 use Rattle.name_row.specs.declared.order.Stands.the-variants.{Before, Same, After}
 

@@ -1,15 +1,13 @@
 -- The members of a list of names into which a name is put, from which one is taken, and of two lists joined; each keeps the order.
 -- By induction on the list. Assumes nothing.
-use Prim.Native.Nat.{ℕ}
 use mathlib.Core.Path.{_≡_, refl, sym, ap, _∙_}
 use mathlib.Core.Bool.{Bool, true, false, not, _&&_, _||_}
 use mathlib.Core.List.{List, [], _∷_}
-use native.Mathlib.Omega.{arith}
 use Rattle.rules.specs.Basic.{if_then_else_}
 use Rattle.rules.specs.Name.{Name, same, before}
 use Rattle.rules.specs.Term.{Term, var, leaf, one, two, abs, both, branch}
 use Rattle.rules.specs.Free.{insert, union, without, free}
-use Rattle.name_row.specs.Ordered.{same-refl, same-eq, Trichotomy, is, below, above, compare, before-trans, elem, Below, Ordered, below-all}
+use Rattle.name_row.specs.Ordered.{same-eq, Trichotomy, is, below, above, compare, elem, Below, Ordered, below-all}
 
 -- ---- tests in another order
 

@@ -1,6 +1,5 @@
 -- What a node looks for in its first part: a pair, an abstraction, an injection or a promotion; or nothing that a rule knows.
 -- By cases on the shapes of terms. Assumes nothing.
-use Prim.Native.Nat.{ℕ}
 use mathlib.Core.Path.{_≡_, refl}
 use mathlib.Core.Bool.{Bool, true, false}
 use Rattle.rules.specs.Name.{Name}

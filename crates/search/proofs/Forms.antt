@@ -1,13 +1,12 @@
 -- What contracts is one of the eight forms, and its tag says which. Assumes nothing.
 use Prim.Native.Nat.{ℕ}
-use mathlib.Core.Path.{_≡_, refl, sym, ap, _∙_}
+use mathlib.Core.Path.{_≡_, refl, ap}
 use mathlib.Core.Bool.{Bool, true, false}
 use native.Mathlib.Omega.{arith}
-use borrow.Author.Tests.{ne-eqb}
 use Rattle.rules.specs.Basic.{_==_}
 use Rattle.rules.specs.Name.{Name}
 use Rattle.rules.specs.Term.{Term, var, leaf, one, two, abs, both, branch, inl, inr, fst, snd, abort, promote, derelict, pair, app, discard, letPair, copy, oneTag}
-use Rattle.rules.specs.Step.{Contraction, no, by, applied, ofPair, ofOne, ofPromote, ofInjection, contract}
+use Rattle.rules.specs.Step.{Contraction, applied, ofPair, ofOne, ofPromote, ofInjection, contract}
 use Rattle.walk.specs.Node.{tag}
 use Rattle.search.specs.Side.{side}
 use Rattle.search.proofs.Firsts.{First, aPair, anAbs, anInl, anInr, aPromote, other, first-of, contracts}

@@ -1,17 +1,16 @@
 -- A turn of the search: the node is not entered, is the redex, or its parts are searched in its place. Assumes nothing.
-use Prim.Native.Nat.{ℕ, suc, _+_, _-_, _<_, _≤_}
+use Prim.Native.Nat.{ℕ, _+_, _-_, _<_, _≤_}
 use mathlib.Core.Path.{_≡_, refl, sym, ap, _∙_}
 use mathlib.Core.Bool.{Bool, true, false}
 use mathlib.Core.Option.{Option, none, some}
-use mathlib.Core.List.{List, [], _∷_, _++_}
+use mathlib.Core.List.{List, [], _∷_}
 use native.Mathlib.Omega.{arith}
-use lib.ListN.{length, getD, length-append}
-use Rattle.rules.specs.Basic.{if_then_else_}
-use Rattle.rules.specs.Term.{Term, encode, size, parts}
-use Rattle.walk.specs.Node.{tag, head, encodeAll, namesAfter, partsAfter}
+use lib.ListN.{length, getD}
+use Rattle.rules.specs.Term.{Term, size, parts}
+use Rattle.walk.specs.Node.{tag, head, namesAfter, partsAfter}
 use Rattle.walk.specs.Place.{TermAt, TermsAt}
 use Rattle.walk.proofs.Names.{AfterIs}
-use Rattle.walk.proofs.Terms.{Some, SkipIs, apart-size, at-tag, at-inside, at-end, at-small, at-count-parts, at-parts, starts, alone, first, others}
+use Rattle.walk.proofs.Terms.{Some, SkipIs, apart-size, at-tag, at-end, at-small, at-count-parts, at-parts, starts, first, others}
 use Rattle.search.specs.Spot.{Spot, spot}
 use Rattle.search.specs.Searched.{entersAfter, reduces, soughtAt, sought}
 use Rattle.search.specs.declared.Sought.{Sought}

@@ -1,15 +1,15 @@
 -- The search at a node, by how many parts it enters: what it wants of the first part decides whether the node is the redex; else
 -- the parts are searched in order. By cases on the shapes of terms. Assumes nothing.
-use Prim.Native.Nat.{ℕ, suc, _+_, _-_, _<_, _≤_}
-use mathlib.Core.Path.{_≡_, refl, sym, ap, _∙_}
-use mathlib.Core.Bool.{Bool, true, false}
+use Prim.Native.Nat.{ℕ, _+_, _-_}
+use mathlib.Core.Path.{_≡_, refl, ap, _∙_}
+use mathlib.Core.Bool.{Bool}
 use mathlib.Core.Option.{Option, none, some}
-use mathlib.Core.List.{List, [], _∷_, _++_, append-nil}
+use mathlib.Core.List.{List, [], _∷_, append-nil}
 use native.Mathlib.Omega.{arith}
 use lib.ListN.{length, length-append}
 use Rattle.rules.specs.Basic.{if_then_else_}
 use Rattle.rules.specs.Name.{Name, encodeName, encodeNames}
-use Rattle.rules.specs.Term.{Term, var, leaf, one, two, abs, both, branch, unit, trivial, inl, inr, fst, snd, abort, promote, derelict, Two, pair, app, discard, Both, letPair, copy, bothTag, encode, size, parts}
+use Rattle.rules.specs.Term.{Term, var, leaf, one, two, abs, both, branch, unit, trivial, inl, inr, fst, snd, abort, promote, derelict, pair, app, discard, letPair, copy, encode, size, parts}
 use Rattle.rules.specs.Step.{Contraction, no, by, contract, nameBytes}
 use Rattle.walk.specs.Node.{tag, head, encodeAll}
 use Rattle.walk.proofs.Terms.{apart-size}

@@ -1,12 +1,12 @@
 -- The bytes and nodes around a spot: what stands on its left and right stays, whatever is put in its place.
 -- Each node with a hole for one part is such a frame; frames nest. By induction on the term. Assumes nothing.
-use Prim.Native.Nat.{ℕ, suc, _+_, _-_}
+use Prim.Native.Nat.{ℕ, _+_, _-_}
 use mathlib.Core.Path.{_≡_, refl, sym, ap, _∙_}
 use mathlib.Core.Option.{Option, none, some}
-use mathlib.Core.List.{List, [], _∷_, _++_, append-assoc, append-nil}
+use mathlib.Core.List.{[], _∷_, _++_, append-assoc, append-nil}
 use native.Mathlib.Omega.{arith}
 use lib.ListN.{length, length-append}
-use Rattle.rules.specs.Basic.{Bytes, _‥_}
+use Rattle.rules.specs.Basic.{Bytes}
 use Rattle.rules.specs.Name.{Name, encodeName}
 use Rattle.rules.specs.Term.{Term, var, leaf, one, two, abs, both, branch, One, inl, inr, fst, snd, abort, promote, derelict, Two, Both, letPair, copy, oneTag, twoTag, bothTag, encode, size, nodes}
 use Rattle.rules.specs.Step.{Contraction, no, by, contract, nameBytes}

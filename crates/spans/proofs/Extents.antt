@@ -1,12 +1,12 @@
 -- Nodes of terms in a row: a node counts one, and then its parts take its place. Assumes nothing.
-use Prim.Native.Nat.{ℕ, suc, _+_, _-_, _<_, _≤_}
-use mathlib.Core.Path.{_≡_, refl, sym, ap, _∙_}
+use Prim.Native.Nat.{ℕ, _+_, _-_, _<_, _≤_}
+use mathlib.Core.Path.{_≡_, refl, ap, _∙_}
 use mathlib.Core.List.{List, [], _∷_, _++_, append-nil}
 use native.Mathlib.Omega.{arith}
 use lib.ListN.{length, getD, length-append}
 use Rattle.rules.specs.Name.{Name}
-use Rattle.rules.specs.Term.{Term, var, leaf, one, two, abs, both, branch, encode, nodes, size, parts}
-use Rattle.walk.specs.Node.{head, encodeAll, namesAfter, partsAfter}
+use Rattle.rules.specs.Term.{Term, var, leaf, one, two, abs, both, branch, encode, nodes, parts}
+use Rattle.walk.specs.Node.{encodeAll, namesAfter, partsAfter}
 use Rattle.walk.specs.Place.{TermAt, TermsAt, NameAt, NamesAt}
 use Rattle.walk.proofs.Names.{AfterIs, first-name, other-names, name-end}
 use Rattle.walk.proofs.Terms.{Some, apart-size, encodeAll-append, at-count-parts, first, others, unrolled, starts, alone}

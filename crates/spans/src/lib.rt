@@ -1,5 +1,4 @@
 // Where names and terms end, and how many nodes a term has.
-ghost use mathlib.Core.Path.{_≡_};
 ghost use mathlib.Core.List.{[], _∷_};
 ghost use Prim.Native.Nat.{_+_};
 ghost use Rattle.rules.specs.Name.{Name};

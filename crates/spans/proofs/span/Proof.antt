@@ -1,6 +1,6 @@
 -- `spans::span` meets its contract: whatever the terms that are left have, all of them have that and what was met.
 -- Assumes nothing.
-use Prim.Native.Nat.{ℕ, _-_}
+use Prim.Native.Nat.{_-_}
 use native.Mathlib.Omega.{arith}
 use lib.ListN.{length}
 use Rattle.walk.proofs.Terms.{some-first, some-fits, at-inside, at-small, some-names, turn-ahead}
