@@ -44,11 +44,12 @@ fn oldest(s: &[u8], atom: usize, places: &[usize], counters: &[usize], k: usize)
 {
     let mut i = 0;
     while i < k {
-        let place = places[i];
+        let entry = i;
+        let place = places[entry];
         if opposed(s, atom, place) {
             return Named::Of {
                 stem: place + 1,
-                number: counters[i] + 1,
+                number: counters[entry] + 1,
             };
         }
         i += 1;

@@ -23,17 +23,17 @@ shared-slice-read-place c = let (g, a, es, v, w) = c .before .before .before .be
 opposed-requires : tie.Need-opposed-requires Inv-loop μ-loop
 opposed-requires c κs = entry-two _ _ _ _ _ _ (c .before .loop-test .taken) (c .before .before .before .before .before .before .pre)
 
-add-t13 : tie.Need-add-t13 Inv-loop μ-loop
-add-t13 c = omega (arith, entry-room _ _ _ _ _ _ (c .before .before .before .loop-test .taken) (c .before .before .before .before .before .before .before .before .pre))
+add-t14 : tie.Need-add-t14 Inv-loop μ-loop
+add-t14 c = omega (arith, entry-room _ _ _ _ _ _ (c .before .before .before .loop-test .taken) (c .before .before .before .before .before .before .before .before .pre))
 
-mul-t14 : tie.Need-mul-t14 Inv-loop μ-loop
-mul-t14 c = let (g, a, es, v, w) = c .before .before .before .before .before .before .before .before .pre in omega (arith, w .counted)
+mul-t15 : tie.Need-mul-t15 Inv-loop μ-loop
+mul-t15 c = let (g, a, es, v, w) = c .before .before .before .before .before .before .before .before .pre in omega (arith, w .counted)
 
-shared-slice-read-t16 : tie.Need-shared-slice-read-t16 Inv-loop μ-loop
-shared-slice-read-t16 c = let (g, a, es, v, w) = c .before .before .before .before .before .before .before .before .before .pre in omega (arith, w .counted)
+shared-slice-read-t17 : tie.Need-shared-slice-read-t17 Inv-loop μ-loop
+shared-slice-read-t17 c = let (g, a, es, v, w) = c .before .before .before .before .before .before .before .before .before .pre in omega (arith, w .counted)
 
-add-t17 : tie.Need-add-t17 Inv-loop μ-loop
-add-t17 c = let (g, a, es, v, w) = c .before .before .before .before .before .before .before .before .before .pre in omega (arith, w .each _ (c .before .before .before .before .loop-test .taken) .low)
+add-t18 : tie.Need-add-t18 Inv-loop μ-loop
+add-t18 c = let (g, a, es, v, w) = c .before .before .before .before .before .before .before .before .before .pre in omega (arith, w .each _ (c .before .before .before .before .loop-test .taken) .low)
 
 returns : tie.Need-returns Inv-loop μ-loop
 returns c = (finds-here _ _ _ _ _ _ (c .before .before .before .before .loop-test .taken) (c .before .before .before .before .before .loop .inv .1) _ (c .before .before .opposed .ensures) (c .before .if1 .taken), let (g, a, es, v, w) = c .before .before .before .before .before .before .before .before .before .pre in w .each _ (c .before .before .before .before .loop-test .taken) .low)
@@ -60,10 +60,10 @@ oldest-spec =
     mul-place
     shared-slice-read-place
     opposed-requires
-    add-t13
-    mul-t14
-    shared-slice-read-t16
-    add-t17
+    add-t14
+    mul-t15
+    shared-slice-read-t17
+    add-t18
     returns
     add-i
     loop-less
