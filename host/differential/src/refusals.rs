@@ -181,9 +181,12 @@ fn extraction(table: &mut Table) {
     table.expect("9, though no name is taken", extract(&[3, 0, 0], 100_000_001), [9, 0, 0]);
     table.expect("8", extract(&tower(60), 0), [8, 0, 0]);
     table.expect("9 before 8", extract(&tower(60), 100_000_000), [9, 0, 0]);
-    table.expect("7 before 9", extract(&[1, 0, 0, 0], 100_000_000), [7, 3, 1]);
+    for (why, bytes, number, place) in proof_faults() {
+        table.expect(&format!("{why} before 9"), extract(&bytes, 100_000_000), [number, place, 1]);
+    }
     for at in 0..2 {
         table.expect("1 before 9", short(extract(&axiom, 100_000_000), at), [1, 0, 0]);
+        table.expect("1 before 8", short(extract(&tower(60), 0), at), [1, 0, 0]);
     }
 }
 
@@ -210,6 +213,10 @@ fn files(table: &mut Table, call: Call, kind: u8) {
     }
     table.expect("11", load(changed(510, two[510] ^ 1)), [11, 0, 1]);
     table.expect("11 before 12", load(changed(0, 9)), [11, 0, 1]);
+    table.expect("11 before 13", load(changed(1000, 7)), [11, 1, 1]);
+    for (why, file) in [("11", changed(510, two[510] ^ 1)), ("12", sealed(513, 0)), ("13", sealed(1000, 7)), ("4", blocks(kind, &[0]))] {
+        table.expect(&format!("1 before {why}"), short(load(file), 0), [1, 0, 0]);
+    }
     table.expect("11 of block 1", load(changed(600, 99)), [11, 1, 1]);
     table.expect("12, the kind", load(sealed(0, 3 - kind)), [12, 0, 1]);
     table.expect("12, the number", load(sealed(513, 0)), [12, 1, 1]);
@@ -219,7 +226,7 @@ fn files(table: &mut Table, call: Call, kind: u8) {
     both[512] = 9;
     seal(&mut both[512..1024]);
     table.expect("12 before 13", load(both), [12, 1, 1]);
-    let mut first = blocks(kind, &[2]);
+    let mut first = blocks(kind, &[0]);
     first[300] = 1;
     seal(&mut first);
     table.expect("13 before the content", load(first), [13, 0, 1]);
