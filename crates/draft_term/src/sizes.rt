@@ -2,6 +2,8 @@
 use draft::heads::head_len;
 use draft::heads::nodes_of;
 use draft::heads::parts_of;
+use rules::MOST_BYTES;
+use rules::MOST_NODES;
 ghost use mathlib.Core.Path.{_≡_};
 ghost use Prim.Native.Nat.{_+_, _≤_, _<_};
 ghost use Rattle.rules.specs.Limits.{limits};
@@ -11,11 +13,6 @@ ghost use Rattle.draft.specs.Heads.{summed};
 ghost use Rattle.draft_term.specs.Measured.{cap, capped as cappedAt, Countable, Measured};
 
 const CAP: usize = 65535;
-
-// The limits of a term.
-const MOST_BYTES: usize = 4096;
-
-const MOST_NODES: usize = 512;
 
 fn capped(n: usize) -> usize
     ensures { λ r. ⌜ r ≡ cappedAt n ⌝ }
