@@ -2,14 +2,17 @@
 //!
 //!   bench                             medians of interleaved runs
 //!   bench only WORD                   the rows that have the word in their name
+//!   bench least                       the inputs of 50 nodes or more on which the port is nearest to the Rust
 //!   bench instructions [only WORD]    instructions for each byte of input, counted by valgrind
 
 mod calls;
 mod families;
 mod instructions;
+mod least;
 mod proofs;
 mod reducible;
 mod rows;
+mod shapes;
 mod timing;
 
 use rows::{rows, Row};
@@ -21,11 +24,12 @@ fn main() -> ExitCode {
     match words.as_slice() {
         [] => timing::table(rows("")),
         ["only", word] => timing::table(rows(word)),
+        ["least"] => least::table(),
         ["instructions"] => return instructions::table(""),
         ["instructions", "only", word] => return instructions::table(word),
         ["counted", word] => instructions::counted(word),
         _ => {
-            eprintln!("usage: bench [instructions] [only WORD]");
+            eprintln!("usage: bench [least] | [instructions] [only WORD]");
             return ExitCode::from(2);
         }
     }

@@ -16,15 +16,10 @@ pub fn table(rows: Vec<Row>) {
         let head = format!("{:<wide$} {:>6}", row.name, row.nodes);
         let beside = row.beside;
         let sides = row.sides();
-        let (other, port) = (repeats(&sides.other), repeats(&sides.port));
-        let (mut others, mut ports, mut ratios) = (Vec::new(), Vec::new(), Vec::new());
-        for _ in 0..ROUNDS {
-            let a = nanos(&sides.other, other) / sides.inputs as f64;
-            let b = nanos(&sides.port, port) / sides.inputs as f64;
-            others.push(a);
-            ports.push(b);
-            ratios.push(a / b);
-        }
+        let times = rounds(&sides.other, &sides.port, ROUNDS, NANOS);
+        let each = |f: fn(&(f64, f64)) -> f64| times.iter().map(|pair| f(pair) / sides.inputs as f64).collect::<Vec<f64>>();
+        let (mut others, mut ports) = (each(|(other, _)| *other), each(|(_, port)| *port));
+        let mut ratios: Vec<f64> = times.iter().map(|(other, port)| other / port).collect();
         println!(
             "{head} {:>6}  {beside:<10} {:>12.0} {:>12.0} {:>9.2}  {:.2} to {:.2}",
             sides.bytes / sides.inputs,
@@ -36,6 +31,18 @@ pub fn table(rows: Vec<Row>) {
         );
     }
     println!("ratio: how often the port does it while the other does it once");
+}
+
+/// The medians of both sides over so many rounds, each side running so long in a round.
+pub fn both(other: &dyn Fn(), port: &dyn Fn(), count: usize, long: f64) -> (f64, f64) {
+    let (mut others, mut ports): (Vec<f64>, Vec<f64>) = rounds(other, port, count, long).into_iter().unzip();
+    (quantile(&mut others, 2), quantile(&mut ports, 2))
+}
+
+/// Both sides, in turns.
+fn rounds(other: &dyn Fn(), port: &dyn Fn(), count: usize, long: f64) -> Vec<(f64, f64)> {
+    let (others, ports) = (repeats(other, long), repeats(port, long));
+    (0..count).map(|_| (nanos(other, others), nanos(port, ports))).collect()
 }
 
 /// How long each of so many runs takes, in nanoseconds.
@@ -63,13 +70,13 @@ fn thread_nanos() -> i64 {
     time.seconds * 1_000_000_000 + time.nanos
 }
 
-/// So often that a side runs long enough to be timed.
-fn repeats(side: &dyn Fn()) -> usize {
+/// So often that a side runs about so long.
+fn repeats(side: &dyn Fn(), long: f64) -> usize {
     let mut times = 1;
     loop {
         let each = nanos(side, times);
-        if each * times as f64 > NANOS / 4.0 {
-            return (NANOS / each).ceil() as usize;
+        if each * times as f64 > long / 4.0 {
+            return (long / each).ceil() as usize;
         }
         times *= 2;
     }
