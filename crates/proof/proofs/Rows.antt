@@ -8,9 +8,9 @@ use Rattle.rules.specs.Basic.{Bytes}
 use Rattle.rules.specs.Layout.{Tuple}
 use Rattle.rules.specs.Formula.{formulas}
 use Rattle.rules.specs.Reading.{Got, got, bad, Reader, andThen, pure, times, many, node, formulaGot, countingFormulas}
-use Rattle.reader.specs.declared.nodes.Read.{Read}
-use Rattle.reader.specs.declared.nodes.Read.the-variants.{Whole, Bad}
-use Rattle.reader.specs.View.{view}
+use Rattle.letters.specs.declared.Read.{Read}
+use Rattle.letters.specs.declared.Read.the-variants.{Whole, Bad}
+use Rattle.letters.specs.View.{view}
 use Rattle.proof.specs.Seen.{Reached, Most, Reading, To, Fault, seen, found, within}
 use Rattle.proof.specs.Stages.{formulaOf, rowOf}
 use Rattle.proof.proofs.Views.{seen-made, many-none}

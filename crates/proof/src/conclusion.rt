@@ -3,7 +3,7 @@ ghost use mathlib.Core.Path.{_≡_};
 ghost use Prim.Native.Nat.{_+_, _^_, _≤_, _<_};
 ghost use lib.ListN.{length};
 ghost use Rattle.rules.specs.Formula.{formulas as formulaLayout};
-ghost use Rattle.reader.specs.Classes.{Classes};
+ghost use Rattle.letters.specs.Classes.{Classes};
 ghost use Rattle.proof.specs.Seen.{pastByte, pastTag, seen, found, countSeen, within};
 ghost use Rattle.proof.specs.Stages.{rowOf, indexOf, ownOf, linearOf, countOf, topOf};
 use crate::Most;
@@ -11,9 +11,9 @@ use crate::Reached;
 use crate::Reading;
 use crate::tag::Tag;
 use crate::tag::read_tag;
-use reader::Form;
-use reader::nodes::Read;
-use reader::nodes::read_row;
+use letters::Form;
+use letters::Read;
+use nodes::read_row;
 
 // Where the premises begin, and how many there are.
 pub enum Conclusion {

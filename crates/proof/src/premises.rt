@@ -4,7 +4,7 @@ ghost use Prim.Native.Nat.{ℕ, _+_, _≤_};
 ghost use lib.ListN.{length};
 ghost use Rattle.rules.specs.Formula.{formulas as formulaLayout};
 ghost use Rattle.rules.specs.Reading.{many, proofAt};
-ghost use Rattle.reader.specs.Classes.{Classes};
+ghost use Rattle.letters.specs.Classes.{Classes};
 ghost use Rattle.proof.specs.Seen.{seen, found, reachedAt, within};
 use crate::Most;
 use crate::Reached;

@@ -16,8 +16,10 @@ use Rattle.rules.specs.declared.Answer.{Answer}
 use Rattle.rules.specs.declared.Answer.the-variants.{Good}
 use Rattle.laws.specs.Holds.{told}
 use Rattle.laws.specs.Names.{Item, letters-sound}
-use Rattle.reader.specs.View.{Read, Whole, Bad, view}
-use Rattle.reader.specs.Viewed.{view-got, view-bad}
+use Rattle.letters.specs.declared.Read.{Read}
+use Rattle.letters.specs.declared.Read.the-variants.{Whole, Bad}
+use Rattle.letters.specs.View.{view}
+use Rattle.letters.specs.Viewed.{view-got, view-bad}
 
 -- Letters are read alike whatever is counted beside them.
 abbrev strip : {A : Type 0} → Got ℕ A → Got (Unit {0}) A

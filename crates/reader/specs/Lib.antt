@@ -1,7 +1,1 @@
-pub mod Form
-pub mod View
-pub mod Viewed
-pub mod Passed
-pub mod Classes
-pub mod Tables
 pub mod Accepted

@@ -8,12 +8,13 @@ ghost use Rattle.rules.specs.Term.{nodes as nodeCount};
 ghost use Rattle.rules.specs.Formula.{formulaNodes};
 ghost use Rattle.rules.specs.Reading.{readTerm, readFormula, readName};
 ghost use Rattle.rules.specs.Calls.{checkTermCall, checkFormulaCall};
-ghost use Rattle.reader.specs.Form.{countOf, mostOf, readOf};
-use classes::letter_table;
-use classes::table_of;
-use names::Skip;
-use names::skip_letters;
-use nodes::Read;
+ghost use Rattle.letters.specs.Form.{countOf, mostOf, readOf};
+use letters::Form;
+use letters::Read;
+use letters::classes::letter_table;
+use letters::classes::table_of;
+use letters::names::Skip;
+use letters::names::skip_letters;
 use nodes::longest_name;
 use nodes::read_from;
 use rules::Answer;
@@ -21,16 +22,6 @@ use rules::MOST_BYTES;
 use rules::MOST_FORMULA_NODES;
 use rules::MOST_NODES;
 use rules::Refusal;
-
-pub mod classes;
-pub mod names;
-pub mod nodes;
-
-// The two forms that are read alike: a tag, then names, then parts.
-pub enum Form {
-    Term,
-    Formula,
-}
 
 fn refused(number: u8, place: usize, input: u8) -> Answer
     ensures { λ r. ⌜ r ≡ answered (refuse number place input) ⌝ }

@@ -1,0 +1,6 @@
+-- What the proofs of several functions use.
+pub mod Depth
+pub mod Node
+pub mod Rest
+pub mod Turn
+pub mod Ones
