@@ -15,9 +15,9 @@ use Rattle.runs.specs.Wrote.{Wrote}
 use Rattle.walk.specs.Place.{TermAt}
 use Rattle.walk.proofs.Names.{AfterIs}
 use Rattle.walk.proofs.Terms.{at-end, first, others}
-use Rattle.substitution.specs.Places.{places, kept}
-use Rattle.substitution.specs.declared.places.Found.{Found}
-use Rattle.substitution.proofs.Writes.{slice-is, wrote-length}
+use Rattle.places.specs.Places.{places, kept}
+use Rattle.places.specs.declared.Found.{Found}
+use Rattle.places.proofs.Writes.{slice-is, wrote-length}
 use Rattle.spans.specs.Measured.{Measured, Named}
 use Rattle.spans.specs.declared.Extent.{Extent}
 use Rattle.spans.specs.declared.Names.{Names}

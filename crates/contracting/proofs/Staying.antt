@@ -13,7 +13,7 @@ use Rattle.rules.specs.declared.Rule.{Rule}
 use Rattle.runs.specs.Wrote.{Wrote}
 use Rattle.walk.specs.Place.{TermAt}
 use Rattle.walk.proofs.Terms.{at-end, first, others}
-use Rattle.substitution.proofs.Writes.{slice-is}
+use Rattle.places.proofs.Writes.{slice-is}
 use Rattle.spans.specs.Measured.{Measured, MeasuredTwo}
 use Rattle.spans.specs.declared.Extent.{Extent}
 use Rattle.spans.specs.declared.Two.{Two as Spans}

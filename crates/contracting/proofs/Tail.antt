@@ -12,11 +12,11 @@ use Rattle.rules.specs.Term.{Term, encode, nodes, size}
 use Rattle.rules.specs.Free.{occurrences}
 use Rattle.rules.specs.Substitution.{subst}
 use Rattle.laws.specs.SubstSize.{subst-nodes, occurrences-nodes}
-use Rattle.substitution.specs.Places.{places, kept}
-use Rattle.substitution.specs.Spliced.{spliced}
-use Rattle.substitution.proofs.Shapes.{places-many}
-use Rattle.substitution.proofs.Splices.{spliced-term}
-use Rattle.substitution.proofs.Writes.{slice-is}
+use Rattle.places.specs.Places.{places, kept}
+use Rattle.splice.specs.Spliced.{spliced}
+use Rattle.places.proofs.Shapes.{places-many}
+use Rattle.splice.proofs.Splices.{spliced-term}
+use Rattle.places.proofs.Writes.{slice-is}
 use Rattle.walk.specs.Place.{TermAt}
 
 -- ---- the one place that is kept

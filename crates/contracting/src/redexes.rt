@@ -10,7 +10,7 @@ ghost use Rattle.rules.specs.Name.{Name};
 ghost use Rattle.rules.specs.Term.{Term, one, two, abs, both as twoNamed, branch as aBranch, fst, snd, promote, derelict as aDerelict, pair, app, discard as aDiscard, letPair, copy as aCopy};
 ghost use Rattle.rules.specs.declared.Rule.the-variants.{App, Let, Case, Fst, Snd, Derelict, Copy, Discard};
 ghost use Rattle.rules.specs.Substitution.{subst};
-ghost use Rattle.substitution.specs.Places.{kept as keptOf};
+ghost use Rattle.places.specs.Places.{kept as keptOf};
 ghost use Rattle.search.specs.Side.{side};
 ghost use Rattle.putting.specs.Put.{Room};
 ghost use Rattle.parts.specs.Contracts.{Redex, Contracts};

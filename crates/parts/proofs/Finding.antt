@@ -10,10 +10,10 @@ use Rattle.rules.specs.Term.{Term, size}
 use Rattle.runs.specs.Wrote.{Wrote}
 use Rattle.walk.specs.Place.{TermAt}
 use Rattle.walk.proofs.Terms.{at-end}
-use Rattle.substitution.specs.Places.{places, kept}
-use Rattle.substitution.specs.declared.places.Found.{Found}
-use Rattle.substitution.proofs.Writes.{wrote-part, wrote-length}
-use Rattle.substitution.proofs.Finds.{kept-small}
+use Rattle.places.specs.Places.{places, kept}
+use Rattle.places.specs.declared.Found.{Found}
+use Rattle.places.proofs.Writes.{wrote-part, wrote-length}
+use Rattle.places.proofs.Finds.{kept-small}
 use Rattle.parts.specs.Parts.{Kept}
 
 module _ (s : Bytes) (i : ℕ) (short : length s ≤ i + 4096) where

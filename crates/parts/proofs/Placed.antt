@@ -10,7 +10,7 @@ use Rattle.rules.specs.Term.{Term, nodes, size}
 use Rattle.rules.specs.Substitution.{subst}
 use Rattle.rules.specs.declared.Rule.{Rule}
 use Rattle.walk.proofs.Terms.{at-end}
-use Rattle.substitution.specs.declared.places.Found.{Found}
+use Rattle.places.specs.declared.Found.{Found}
 use Rattle.spans.specs.Given.{Given}
 use Rattle.spans.proofs.Rows.{term-part}
 use Rattle.putting.specs.Put.{Putting, Turns, Puts}

@@ -8,8 +8,8 @@ use Rattle.rules.specs.Limits.{limits}
 use Rattle.rules.specs.Name.{Name}
 use Rattle.rules.specs.Term.{Term, nodes, size, fits}
 use Rattle.walk.specs.Place.{TermAt}
-use Rattle.substitution.specs.Places.{places, kept}
-use Rattle.substitution.specs.declared.places.Found.{Found}
+use Rattle.places.specs.Places.{places, kept}
+use Rattle.places.specs.declared.Found.{Found}
 use Rattle.parts.specs.Contracts.{Redex}
 use Rattle.parts.specs.declared.Part.{Part}
 

@@ -11,12 +11,12 @@ ghost use Rattle.walk.specs.Place.{TermAt};
 ghost use Rattle.putting.specs.Put.{Room};
 ghost use Rattle.parts.specs.Contracts.{Contracts, told as toldOf};
 ghost use Rattle.parts.specs.Parts.{Kept, Placing, Pairing};
+use places::Found;
+use places::first_places;
 use putting::Put;
 use putting::in_turn;
 use putting::put_in;
 use rules::Rule;
-use substitution::places::Found;
-use substitution::places::first_places;
 
 // What becomes of a redex: the rule, and the nodes of the new whole. The redex's bytes up to `end` are replaced by so many that were
 // written; those behind stay, and are the tail of what it becomes. Or the new whole would outgrow the limits.

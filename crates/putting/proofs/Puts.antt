@@ -16,13 +16,13 @@ use Rattle.rules.specs.Free.{occurrences}
 use Rattle.rules.specs.Substitution.{subst}
 use Rattle.laws.specs.Same.{both-true}
 use Rattle.runs.specs.Wrote.{Wrote}
-use Rattle.substitution.specs.Places.{places}
-use Rattle.substitution.specs.Spliced.{spliced, Left}
-use Rattle.substitution.specs.Sizes.{Growth}
-use Rattle.substitution.proofs.Shapes.{places-many}
-use Rattle.substitution.proofs.Splices.{spliced-term, spaced-term}
-use Rattle.substitution.proofs.Finds.{kept-length}
-use Rattle.substitution.proofs.Growths.{nodes-go, bytes-go, count-small, nodes-after, bytes-after}
+use Rattle.places.specs.Places.{places}
+use Rattle.splice.specs.Spliced.{spliced, Left}
+use Rattle.splice.specs.Sizes.{Growth}
+use Rattle.places.proofs.Shapes.{places-many}
+use Rattle.splice.proofs.Splices.{spliced-term, spaced-term}
+use Rattle.places.proofs.Finds.{kept-length}
+use Rattle.splice.proofs.Growths.{nodes-go, bytes-go, count-small, nodes-after, bytes-after}
 use Rattle.putting.specs.Beside.{fitsBeside}
 use Rattle.putting.specs.Put.{Putting, Puts}
 use Rattle.putting.specs.declared.Put.the-variants.{Written, Outgrown}

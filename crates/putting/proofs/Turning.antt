@@ -17,9 +17,9 @@ use Rattle.rules.specs.Free.{occurrences}
 use Rattle.rules.specs.Substitution.{subst}
 use Rattle.laws.specs.SubstSize.{subst-nodes}
 use Rattle.runs.specs.Wrote.{Wrote}
-use Rattle.substitution.specs.Places.{places, kept}
-use Rattle.substitution.proofs.Writes.{wrote-part}
-use Rattle.substitution.proofs.Finds.{kept-small}
+use Rattle.places.specs.Places.{places, kept}
+use Rattle.places.proofs.Writes.{wrote-part}
+use Rattle.places.proofs.Finds.{kept-small}
 use Rattle.putting.specs.Beside.{fitsBeside}
 use Rattle.putting.specs.Put.{Putting, Turns, Puts}
 use Rattle.putting.specs.declared.Put.{Put}

@@ -10,7 +10,7 @@ use Rattle.rules.specs.Limits.{limits, outputRoom}
 use Rattle.rules.specs.Name.{Name}
 use Rattle.rules.specs.Term.{Term, encode, nodes, size}
 use Rattle.rules.specs.Step.{halfFits}
-use Rattle.substitution.specs.Places.{places, kept}
+use Rattle.places.specs.Places.{places, kept}
 use Rattle.spans.specs.Given.{Given}
 use Rattle.putting.specs.Beside.{fitsBeside}
 use Rattle.putting.specs.declared.Put.{Put}

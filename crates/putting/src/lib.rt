@@ -6,11 +6,11 @@ ghost use Rattle.rules.specs.Name.{Name};
 ghost use Rattle.rules.specs.Term.{Term, nodes as nodesOf, size as sizeOf};
 ghost use Rattle.rules.specs.Substitution.{subst};
 ghost use Rattle.putting.specs.Put.{Putting, Turns, Puts, Room};
+use places::free_places;
 use rules::MOST_BYTES;
 use rules::MOST_NODES;
-use substitution::places::free_places;
-use substitution::sizes::grown;
-use substitution::splice::splice;
+use splice::sizes::grown;
+use splice::splice;
 
 // The size of what was written, and the nodes of the new whole; or that outgrows the limits, and nothing was written.
 pub enum Put {

@@ -10,7 +10,7 @@ use Rattle.rules.specs.Basic.{Bytes}
 use Rattle.rules.specs.Term.{encode, size}
 use Rattle.rules.specs.declared.Counts.{Counts}
 use Rattle.rules.specs.Reduction.{Reduced, stopped, outgrew}
-use Rattle.substitution.proofs.Writes.{zeros}
+use Rattle.places.proofs.Writes.{zeros}
 use Rattle.gap.proofs.Buffers.{fits-few}
 use Rattle.repeating.specs.Repeating.{last, repeatedOf, Repeats}
 use Rattle.repeating.specs.declared.Repeated.{Repeated}

@@ -23,7 +23,7 @@ use Rattle.laws.specs.Numbers.{term-spares}
 use Rattle.reader.specs.Accepted.{Accepts, accepts, refuses}
 use Rattle.runs.specs.Wrote.{Wrote}
 use Rattle.runs.specs.Writing.{filled-up}
-use Rattle.substitution.proofs.Writes.{zeros}
+use Rattle.places.proofs.Writes.{zeros}
 use Rattle.spans.specs.Given.{Reads}
 use Rattle.step.specs.Taken.{Takes}
 use Rattle.step.specs.declared.Taken.{Taken}

@@ -1,11 +1,3 @@
--- What the proofs of several functions use, here and in the crates above.
-pub mod Writes
-pub mod Shapes
-pub mod Splices
-pub mod Finds
-mod Passings
-mod Sweeps
-mod Splicing
-pub mod Growths
+-- What the proofs of several functions use.
 mod Works
 mod Answers

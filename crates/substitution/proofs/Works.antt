@@ -19,14 +19,14 @@ use Rattle.rules.specs.Substitution.{subst}
 use Rattle.laws.specs.Same.{both-true}
 use Rattle.runs.specs.Wrote.{Wrote}
 use Rattle.runs.specs.Writing.{wrote-length, filled-up}
-use Rattle.substitution.specs.Places.{places, kept}
-use Rattle.substitution.specs.Spliced.{spliced, Left}
-use Rattle.substitution.specs.Sizes.{Growth}
+use Rattle.places.specs.Places.{places, kept}
+use Rattle.splice.specs.Spliced.{spliced, Left}
+use Rattle.splice.specs.Sizes.{Growth}
 use Rattle.substitution.specs.Work.{Job, Done}
-use Rattle.substitution.proofs.Writes.{wrote-part, zeros}
-use Rattle.substitution.proofs.Shapes.{places-many}
-use Rattle.substitution.proofs.Splices.{spliced-term, spaced-term}
-use Rattle.substitution.proofs.Finds.{kept-length, kept-small}
+use Rattle.places.proofs.Writes.{wrote-part, zeros}
+use Rattle.places.proofs.Shapes.{places-many}
+use Rattle.splice.proofs.Splices.{spliced-term, spaced-term}
+use Rattle.places.proofs.Finds.{kept-length, kept-small}
 
 -- what fits has at most 4,096 bytes
 pub fits-bytes : (t : Term) → fits limits t ≡ true → size t ≤ 4096

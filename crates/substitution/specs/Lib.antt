@@ -1,5 +1,1 @@
-pub mod Places
-pub mod Passing
-pub mod Spliced
 pub mod Work
-pub mod Sizes

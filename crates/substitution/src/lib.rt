@@ -10,11 +10,7 @@ use rules::Answer;
 use rules::OUTPUT_ROOM;
 use rules::Refusal;
 use rules::SCRATCH_ROOM;
-
-pub mod passing;
-pub mod places;
-pub mod sizes;
-pub mod splice;
+use splice::sizes;
 
 // The inputs of a substitution: how many nodes the term has, and the value; or a refusal.
 enum Inputs {

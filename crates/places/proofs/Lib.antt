@@ -1,0 +1,6 @@
+-- What the proofs of several functions use, here and in the crates above.
+pub mod Writes
+pub mod Shapes
+pub mod Finds
+mod Passings
+mod Sweeps

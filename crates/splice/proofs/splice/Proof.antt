@@ -1,0 +1,93 @@
+-- `splice::splice` meets its contract: whatever the places that are left give, all give. Assumes nothing.
+use Prim.Native.Nat.{_+_, _-_}
+use mathlib.Core.Path.{refl, _∙_}
+use native.Mathlib.Omega.{arith}
+use lib.ListN.{length}
+use Rattle.runs.specs.Writing.{wrote-length}
+use Rattle.splice.proofs.Splicing.{Going, begin, bounds, value-room, turn, last-run, done}
+use Rattle.splice.proofs.splice.Statement.{statement}
+use Rattle.splice.proofs.splice.Tie as tie
+
+abbrev Inv-loop : tie.InvT-loop
+Inv-loop s places gap value out₀ to i₀ k₀ o₀ out i k o = Going s places gap value out₀ to out i k o
+
+abbrev μ-loop : tie.MeasureT-loop
+μ-loop s places gap value out₀ to i₀ k₀ o₀ out i k o = length places - k
+
+loop-holds : tie.Need-loop-holds Inv-loop μ-loop
+loop-holds c = begin _ _ _ _ _ _ (c .before .before .before .before .pre)
+
+shared-slice-read-low : tie.Need-shared-slice-read-low Inv-loop μ-loop
+shared-slice-read-low c = omega arith
+
+cast-low : tie.Need-cast-low Inv-loop μ-loop
+cast-low c = omega (arith, c .shared-slice-known4 .given (c .before .before .loop .k))
+
+add-second : tie.Need-add-second Inv-loop μ-loop
+add-second c = omega arith
+
+shared-slice-read-high : tie.Need-shared-slice-read-high Inv-loop μ-loop
+shared-slice-read-high c = omega (arith, bounds (c .before .before .before .loop .inv) (c .before .before .loop-test .taken) _ refl .held)
+
+cast-high : tie.Need-cast-high Inv-loop μ-loop
+cast-high c = omega (arith, c .shared-slice-known5 .given (c .before .before .before .loop .k + 1))
+
+mul-place : tie.Need-mul-place Inv-loop μ-loop
+mul-place c = omega (arith, c .shared-slice-known5 .given (c .before .before .before .loop .k + 1))
+
+add-place : tie.Need-add-place Inv-loop μ-loop
+add-place c = omega (arith, c .shared-slice-known5 .given (c .before .before .before .loop .k), c .shared-slice-known5 .given (c .before .before .before .loop .k + 1))
+
+copy-requires : tie.Need-copy-requires Inv-loop μ-loop
+copy-requires c κs = let b = bounds (c .before .before .before .before .loop .inv) (c .before .before .before .loop-test .taken) _ refl in (b .from, omega (arith, b .within), omega (arith, b .room))
+
+copy-requires-2 : tie.Need-copy-requires-2 Inv-loop μ-loop
+copy-requires-2 c κs =
+    let l = c .before .before .before .before .before .before .before .before .loop in
+    let t = c .before .before .before .before .before .before .before .loop-test .taken in
+    (omega arith, omega arith, value-room (l .inv) t _ refl _ _ (c .before .before .before .copy .ensures))
+
+add-i : tie.Need-add-i Inv-loop μ-loop
+add-i c = let b = bounds (c .before .before .before .before .before .before .before .before .before .before .before .loop .inv) (c .before .before .before .before .before .before .before .before .before .before .loop-test .taken) _ refl in omega (arith, b .within)
+
+add-k : tie.Need-add-k Inv-loop μ-loop
+add-k c = let b = bounds (c .before .before .before .before .before .before .before .before .before .before .before .loop .inv) (c .before .before .before .before .before .before .before .before .before .before .loop-test .taken) _ refl in omega (arith, b .held)
+
+loop-less : tie.Need-loop-less Inv-loop μ-loop
+loop-less c = omega arith
+
+loop-again : tie.Need-loop-again Inv-loop μ-loop
+loop-again c = turn (c .before .before .before .before .before .before .before .before .before .before .before .loop .inv) (c .before .before .before .before .before .before .before .before .before .before .loop-test .taken) _ refl _ _ _ _ (c .before .before .before .before .before .before .copy .ensures) (c .before .before .copy2 .ensures)
+
+copy-requires-3 : tie.Need-copy-requires-3 Inv-loop μ-loop
+copy-requires-3 c κs = let b = last-run (c .before .before .loop .inv) (c .before .loop-test .left) in (b .0, omega arith, b .1)
+
+same-length : tie.Need-same-length Inv-loop μ-loop
+same-length c = wrote-length (c .before .before .copy3 .ensures) ∙ c .before .before .before .before .before .loop .inv .same
+
+returns : tie.Need-returns Inv-loop μ-loop
+returns c = done (c .before .before .before .before .before .loop .inv) (c .before .before .before .before .loop-test .left) _ _ (c .before .before .copy3 .ensures)
+
+pub splice-spec : {M : Type 1} → statement M
+splice-spec =
+    tie.close
+    (tie.spec
+    Inv-loop
+    μ-loop
+    loop-holds
+    shared-slice-read-low
+    cast-low
+    add-second
+    shared-slice-read-high
+    cast-high
+    mul-place
+    add-place
+    copy-requires
+    copy-requires-2
+    add-i
+    add-k
+    loop-less
+    loop-again
+    copy-requires-3
+    same-length
+    returns)
