@@ -1,9 +1,2 @@
--- What the proofs of several functions use.
-mod Shapes
-mod Inverts
-mod Names
-mod Shaped
-mod Binders
-mod Walking
-mod Calls
+-- What the proof of the call uses.
 mod Whole

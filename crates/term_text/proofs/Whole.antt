@@ -18,7 +18,7 @@ use Rattle.laws.specs.TextSize.{term-text-size}
 use Rattle.reader.specs.Accepted.{Accepts, accepts, refuses}
 use Rattle.words.specs.Call.{Ends, start}
 use Rattle.words.specs.Call as call
-use Rattle.term_text.specs.Task.{TermTask}
+use Rattle.phrases.specs.Task.{TermTask}
 
 module _ (s o : List ℕ) where
   pub short : length o < 20480 → Ends (Refused (record { number = 1; place = 0; input = 0 })) o (textCall limits s o)

@@ -1,0 +1,9 @@
+pub mod Words
+pub mod Task
+pub mod Shapes
+pub mod Inverts
+pub mod Names
+pub mod Shaped
+pub mod Binders
+pub mod Walking
+pub mod Calls

@@ -1,0 +1,127 @@
+// Words and names of a term's text: the word that a tag chooses, names with the words around them, a variable, a leaf.
+ghost use mathlib.Core.Path.{_≡_};
+ghost use Prim.Native.Nat.{_+_, _≤_, _<_};
+ghost use lib.ListN.{length, getD, take};
+ghost use Rattle.rules.specs.Basic.{say, _‥_};
+ghost use Rattle.rules.specs.Name.{Name};
+ghost use Rattle.rules.specs.Term.{Leaf, var as varOf, leaf as leafOf};
+ghost use Rattle.words.specs.Prints.{Prints};
+ghost use Rattle.phrases.specs.Task.{TermTask, TermDone, nameAt, afterName, NameIn};
+ghost use Rattle.phrases.specs.Words.{wordOf, longOf, signOf};
+use words::name;
+use words::named;
+use words::past;
+use words::places;
+use words::spaced;
+use words::word;
+
+// The word that each tag chooses, low byte first: its first eight bytes.
+fn word_of(tag: u8) -> u64
+    ensures { λ r. ⌜ r ≡ wordOf tag ⌝ }
+{
+    match tag % 16 {
+        1 => 0,
+        2 => 0x2928,
+        3 => 0x202c,
+        4 => 0,
+        5 => 0,
+        6 => 0x20,
+        7 => 0x206c6e69,
+        8 => 0x20726e69,
+        9 => 0,
+        10 => 0xa99fe2a89fe2,
+        11 => 0x20747366,
+        12 => 0x20646e73,
+        13 => 0x20647275736261,
+        14 => 0x21,
+        15 => 0x7463696c65726564,
+        _ => 0,
+    }
+}
+
+// How long it is: four bits a tag.
+fn long_of(tag: usize) -> usize
+    requires { ⌜ tag < 16 ⌝ }
+    ensures { λ r. ⌜ r ≡ longOf tag ⌝ }
+{
+    (10481079216882328064usize >> (tag * 4)) % 16
+}
+
+pub fn sign(tag: u8, out: &mut [u8], to: usize) -> usize
+    requires { ⌜ (tag < 16) × (to + 9 ≤ length (now out)) ⌝ }
+    ensures { λ r. ⌜ Prints (now (out .entry)) to (signOf tag) (now (out .exit)) r ⌝ }
+{
+    spaced(out, to, word_of(tag), long_of(tag as usize))
+}
+
+// `λ`, the name and `. `
+pub fn bound_name(s: &[u8], x: usize, out: &mut [u8], to: usize) -> usize
+    requires { ⌜ NameIn (now s) x × (to + getD (now s) x 0 + 28 ≤ length (now out)) ⌝ }
+    ensures { λ r. ⌜ Prints (now (out .entry)) to (say "λ" ‥ nameAt (now (s .entry)) x ‥ say ". ") (now (out .exit)) r ⌝ }
+{
+    let a = word(out, to, b"\xce\xbb      ", 2);
+    named(s, x, out, a, b".       ", 2)
+}
+
+// The place after two names.
+pub fn past_names(s: &[u8], x: usize) -> usize
+    requires { ⌜ NameIn (now s) x × NameIn (now s) (afterName (now s) x) ⌝ }
+    ensures { λ r. ⌜ r ≡ afterName (now (s .entry)) (afterName (now (s .entry)) x) ⌝ }
+{
+    past(s, past(s, x))
+}
+
+// The first five bytes of a word, a name, `, `, the next name and the first n bytes of a word.
+pub fn two_names(
+    s: &[u8],
+    x: usize,
+    out: &mut [u8],
+    to: usize,
+    lead: &[u8; 8],
+    tail: &[u8; 8],
+    n: usize,
+) -> usize
+    requires { ⌜ NameIn (now s) x × NameIn (now s) (afterName (now s) x) × (to + getD (now s) x 0 + getD (now s) (afterName (now s) x) 0 + 31 ≤ length (now out)) ⌝ }
+    requires { ⌜ (length (now lead) ≡ 8) × (length (now tail) ≡ 8) × (n ≤ 8) ⌝ }
+    ensures { λ r. ⌜ Prints (now (out .entry)) to (take 5 (now (lead .entry)) ‥ nameAt (now (s .entry)) x ‥ say ", " ‥ nameAt (now (s .entry)) (afterName (now (s .entry)) x) ‥ take n (now (tail .entry))) (now (out .exit)) r ⌝ }
+{
+    let a = word(out, to, lead, 5);
+    let b = named(s, x, out, a, b",       ", 2);
+    named(s, past(s, x), out, b, tail, n)
+}
+
+// ` of { inl `, the name and ` => `
+pub fn left_name(s: &[u8], x: usize, out: &mut [u8], to: usize) -> usize
+    requires { ⌜ NameIn (now s) x × (to + getD (now s) x 0 + 34 ≤ length (now out)) ⌝ }
+    ensures { λ r. ⌜ Prints (now (out .entry)) to (say " of { inl " ‥ nameAt (now (s .entry)) x ‥ say " => ") (now (out .exit)) r ⌝ }
+{
+    let a = word(out, to, b" of { in", 8);
+    let b = word(out, a, b"l       ", 2);
+    named(s, x, out, b, b" =>     ", 4)
+}
+
+// ` | inr `, the name and ` => `
+pub fn right_name(s: &[u8], y: usize, out: &mut [u8], to: usize) -> usize
+    requires { ⌜ NameIn (now s) y × (to + getD (now s) y 0 + 31 ≤ length (now out)) ⌝ }
+    ensures { λ r. ⌜ Prints (now (out .entry)) to (say " | inr " ‥ nameAt (now (s .entry)) y ‥ say " => ") (now (out .exit)) r ⌝ }
+{
+    let a = word(out, to, b" | inr  ", 7);
+    named(s, y, out, a, b" =>     ", 4)
+}
+
+pub fn var(s: &[u8], at: usize, out: &mut [u8], to: usize) -> usize
+    requires { ⌜ ((x : Name) × TermTask (now s) at (now out) to (varOf x)) ⌝ }
+    ensures { λ r. ⌜ ((x : Name) → TermTask (now (s .entry)) at (now (out .entry)) to (varOf x) → TermDone at (now (out .entry)) to (varOf x) (now (out .exit)) r) ⌝ }
+{
+    let first = at + 1;
+    let o = name(s, first, out, to);
+    places(past(s, first), o)
+}
+
+pub fn leaf(s: &[u8], at: usize, out: &mut [u8], to: usize) -> usize
+    requires { ⌜ ((k : Leaf) × TermTask (now s) at (now out) to (leafOf k)) ⌝ }
+    ensures { λ r. ⌜ ((k : Leaf) → TermTask (now (s .entry)) at (now (out .entry)) to (leafOf k) → TermDone at (now (out .entry)) to (leafOf k) (now (out .exit)) r) ⌝ }
+{
+    let o = sign(s[at], out, to);
+    places(at + 1, o)
+}
