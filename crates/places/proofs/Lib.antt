@@ -3,4 +3,5 @@ pub mod Writes
 pub mod Shapes
 pub mod Finds
 mod Passings
+mod Meets
 mod Sweeps

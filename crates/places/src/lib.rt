@@ -9,6 +9,7 @@ ghost use Rattle.runs.specs.Wrote.{Wrote};
 ghost use Rattle.walk.specs.Node.{encodeAll};
 ghost use Rattle.walk.specs.Place.{TermAt, TermsAt};
 ghost use Rattle.places.specs.Places.{places as placesOf, placesAll, kept};
+ghost use Rattle.places.specs.Passed.{Passed};
 
 pub mod passing;
 
@@ -79,46 +80,79 @@ fn find(
     Found { next: i, to: o }
 }
 
-// Keeps where `name` is free in the term s, and returns how many bytes that took.
-// A node's parts follow it, so the nodes are passed as they stand; the parts of one that binds the name are walked by `find`.
-pub fn free_places(s: &[u8], name: &[u8], places: &mut [u8]) -> usize
-    requires { ⌜ ((t : Term) × (now s ≡ encode t)) ⌝ }
-    requires { ⌜ (length (now s) ≤ 65536) × (length (now s) ≤ length (now places)) ⌝ }
-    ensures { λ r. ⌜ ((t : Term) → now (s .entry) ≡ encode t → Wrote (now (places .entry)) 0 (kept (placesOf (now (name .entry)) t 0)) (now (places .exit)) r) ⌝ }
+// What a node leaves to do: the place where the sweep goes on, how many terms there take the node's place, and the place after what was kept.
+struct Met {
+    next: usize,
+    parts: usize,
+    to: usize,
+}
+
+// Passes the node at `at`. The variable is kept, the parts of a binder of the name are walked by `find`, and those of another node are left.
+fn meet(s: &[u8], at: usize, name: &[u8], places: &mut [u8], to: usize) -> Met
+    requires { ⌜ ((t : Term) × TermAt (now s) at t) ⌝ }
+    requires { ⌜ (length (now s) ≤ 65536) × (to + (length (now s) - at) ≤ length (now places)) ⌝ }
+    ensures { λ r. ⌜ ((t : Term) → TermAt (now (s .entry)) at t → Passed (now (name .entry)) t at (now (places .entry)) to (r .next) (r .parts) (now (places .exit)) (r .to)) ⌝ }
 {
-    let last = passing::ending(name);
-    let mut i = 0;
-    let mut o = 0;
-    while i < s.len() {
-        let start = passing::pass(s, i, last);
-        if start != 0 {
-            i = start;
-            continue;
-        }
-        let node = walk::look(s, i, name);
-        if node.is {
-            o = keep(places, o, i);
-            i = node.start;
-            continue;
-        }
-        if node.hides == 0 {
-            i = node.start;
-            continue;
-        }
-        let f = find(s, node.start, node.parts, node.hides, name, places, o);
-        i = f.next;
-        o = f.to;
+    let node = walk::look(s, at, name);
+    let start = node.start;
+    if node.is {
+        let past = keep(places, to, at);
+        return Met {
+            next: start,
+            parts: 0,
+            to: past,
+        };
     }
-    o
+    let parts = node.parts;
+    let hides = node.hides;
+    if hides == 0 {
+        return Met {
+            next: start,
+            parts,
+            to,
+        };
+    }
+    let found = find(s, start, parts, hides, name, places, to);
+    Met {
+        next: found.next,
+        parts: 0,
+        to: found.to,
+    }
 }
 
 // Keeps where `name` is free in the term at the start of s, and tells where that ends.
+// A node's parts follow it, so the nodes are passed as they stand until no term is left, most of them by the last bytes of their names.
 pub fn first_places(s: &[u8], name: &[u8], places: &mut [u8]) -> Found
     requires { ⌜ ((t : Term) × TermAt (now s) 0 t) ⌝ }
     requires { ⌜ (length (now s) ≤ 65536) × (length (now s) ≤ length (now places)) ⌝ }
     ensures { λ r. ⌜ ((t : Term) → TermAt (now (s .entry)) 0 t → (r .next ≡ size t) × Wrote (now (places .entry)) 0 (kept (placesOf (now (name .entry)) t 0)) (now (places .exit)) (r .to)) ⌝ }
 {
-    let end = walk::skip(s, 0, 1);
-    let to = free_places(&s[0..end], name, places);
-    Found { next: end, to }
+    let last = passing::ending(name);
+    let mut i = 0;
+    let mut left = 1;
+    let mut o = 0;
+    while 0 < left {
+        let start = passing::pass(s, i, last);
+        if start != 0 {
+            let tag = s[i] as usize;
+            left = left - 1 + walk::parts_of(tag);
+            i = start;
+            continue;
+        }
+        let met = meet(s, i, name, places, o);
+        left = left - 1 + met.parts;
+        i = met.next;
+        o = met.to;
+    }
+    Found { next: i, to: o }
+}
+
+// Keeps where `name` is free in the term s, and returns how many bytes that took.
+pub fn free_places(s: &[u8], name: &[u8], places: &mut [u8]) -> usize
+    requires { ⌜ ((t : Term) × (now s ≡ encode t)) ⌝ }
+    requires { ⌜ (length (now s) ≤ 65536) × (length (now s) ≤ length (now places)) ⌝ }
+    ensures { λ r. ⌜ ((t : Term) → now (s .entry) ≡ encode t → Wrote (now (places .entry)) 0 (kept (placesOf (now (name .entry)) t 0)) (now (places .exit)) r) ⌝ }
+{
+    let found = first_places(s, name, places);
+    found.to
 }
