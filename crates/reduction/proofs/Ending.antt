@@ -12,9 +12,10 @@ use Rattle.rules.specs.declared.Counts.{Counts}
 use Rattle.rules.specs.Reduction.{Reduced, stopped, outgrew}
 use Rattle.places.proofs.Writes.{zeros}
 use Rattle.gap.proofs.Buffers.{fits-few}
-use Rattle.repeating.specs.Repeating.{last, repeatedOf, Repeats}
-use Rattle.repeating.specs.declared.Repeated.{Repeated}
-use Rattle.repeating.specs.declared.Repeated.the-variants.{Stopped, Outgrown}
+use Rattle.repeating.specs.Turning.{last, Repeats}
+use Rattle.course.specs.Told.{repeatedOf}
+use Rattle.course.specs.declared.Repeated.{Repeated}
+use Rattle.course.specs.declared.Repeated.the-variants.{Stopped, Outgrown}
 use Rattle.reduction.specs.Answers.{Reducing}
 use Rattle.reduction.specs.declared.Reduced.the-variants.{Stopped as IsStopped, Refused as IsRefused}
 

@@ -20,8 +20,8 @@ use Rattle.laws.specs.Same.{both-true}
 use Rattle.laws.specs.Decoding.{term-sound, term-complete}
 use Rattle.laws.specs.Fits.{fits-accepted, accepted-fits}
 use Rattle.laws.specs.StepLegal.{step-legal}
-use Rattle.repeating.specs.Counted.{total, one-more}
-use Rattle.repeating.specs.Repeating.{last}
+use Rattle.course.specs.Counted.{total, one-more}
+use Rattle.repeating.specs.Turning.{last}
 use Rattle.repeating.specs.Carried.{at-limit, at-normal, at-found, at-over, Turn, rests, goes, outgrows, turn}
 
 -- ---- added

@@ -9,7 +9,7 @@ ghost use Rattle.rules.specs.Reduction.{reduce};
 ghost use Rattle.rules.specs.Calls.{reduceCall};
 ghost use Rattle.spans.specs.Given.{Reads};
 ghost use Rattle.reduction.specs.Answers.{reducedBy, Reducing};
-use repeating::Repeated;
+use course::Repeated;
 use repeating::repeat_steps;
 use rules::Answer;
 use rules::Counts;

@@ -7,18 +7,20 @@ use lib.ListN.{length, replicate, length-replicate}
 use lib.Seq.{slice, take-length}
 use Rattle.rules.specs.Basic.{Bytes}
 use Rattle.rules.specs.Limits.{limits, scratchRoom}
-use Rattle.rules.specs.Term.{Term, encode}
+use Rattle.rules.specs.Term.{Term, encode, size}
 use Rattle.rules.specs.declared.Counts.{Counts}
-use Rattle.rules.specs.Reduction.{noCounts, reduce}
+use Rattle.rules.specs.Reduction.{noCounts, stopped, reduce}
 use Rattle.runs.specs.Wrote.{Wrote}
 use Rattle.spans.specs.Given.{Reads}
 use Rattle.gap.proofs.Buffers.{fits-few}
 use Rattle.gap.specs.Standing.{Standing, Finds}
 use Rattle.gap.specs.declared.place.Place.{Place}
 use Rattle.gap.proofs.Wholes.{stands-first}
-use Rattle.repeating.specs.Repeating.{Counted, Begun, Repeats}
-use Rattle.repeating.specs.Carried.{at-rest}
-use Rattle.repeating.specs.declared.Repeated.the-variants.{Stopped}
+use Rattle.course.specs.Told.{repeatedOf}
+use Rattle.course.specs.declared.Course.{Course}
+use Rattle.course.specs.declared.Repeated.{Repeated}
+use Rattle.repeating.specs.Turning.{Carried, Stands, Room, Repeats}
+use Rattle.repeating.proofs.Turns.{rests}
 
 -- a term that was read, put at the end of the scratch
 module _ {term : Bytes} {n : ℕ} {out : Bytes} {t : Term} (d : Reads term n out t) (scratch : Bytes) (h : scratchRoom limits ≤ length scratch) where
@@ -35,18 +37,20 @@ module _ {term : Bytes} {n : ℕ} {out : Bytes} {t : Term} (d : Reads term n out
       stands-first t (d .fits) v (omega (arith, ap (λ (z : Bytes). length z) (d .whole), begin-room)) (d .room) h
       (omega (arith, length-replicate {A = ℕ} 512 0))
 
-  module _ {out₁ scratch₁ stack₁ : Bytes} {p : Place} (f : Finds t out₁ scratch₁ stack₁ p) where
-    pub counts : p .going ≡ true → Counted t out₁ scratch₁ stack₁ (p .o) (p .i) (p .depth) n
-    counts e = record { stands = f .finds e .stands; count = d .count }
+  module _ {out₁ scratch₁ stack₁ : Bytes} {p : Place} (f : Finds t out₁ scratch₁ stack₁ p) (limit : ℕ) (c : Counts) (q : c ≡ noCounts) where
+    none-done : Carried limit t t (record { at = p; nodes = n; steps = 0; counts = c })
+    none-done = let z : limit - 0 ≡ limit = omega arith in record { count = d .count; within = omega arith; added = rw q; carries = rw (z, q) }
+
+    pub first : p .going ≡ true → Stands limit t out₁ scratch₁ stack₁ (record { at = p; nodes = n; steps = 0; counts = c })
+    first e = record { whole = t; carried = none-done; stands = f .finds e .stands }
 
     -- there is no redex
-    pub settled : p .going ≡ false → (limit : ℕ) (c : Counts) → c ≡ noCounts → Repeats (reduce limits limit t) out₁ (Stopped 0 c true (p .o))
-    settled e limit c q = let y = f .ends e in rw (at-rest limits 0 noCounts t limit (y .none)) (record { says = rw (q, y .long); bytes = rw (← y .long) (y .bytes); fits = y .fits })
+    pub settled : p .going ≡ false → {r : Repeated} → ((w : Term) → p .o ≡ size w → r ≡ repeatedOf (stopped 0 c true w)) → Repeats (reduce limits limit t) out₁ r
+    settled e h = rests none-done (f .ends e) h
 
 -- the arrays in which a contraction works
-pub room-made : {t : Term} {out scratch stack : Bytes} {o i d n : ℕ} → Counted t out scratch stack o i d n
-    → Begun t out scratch stack o i d n (replicate 4096 0) (replicate 4096 0) (replicate 4096 0)
-room-made k = record { from = k; places-room = long; half-room = long; made-room = long }
+pub room-made : Room (replicate 4096 0) (replicate 4096 0) (replicate 4096 0)
+room-made = record { places-room = long; half-room = long; made-room = long }
   where
     long : 4096 ≤ length (replicate {A = ℕ} 4096 0)
     long = omega (arith, length-replicate {A = ℕ} 4096 0)

@@ -1,3 +1,2 @@
-pub mod Counted
-pub mod Repeating
+pub mod Turning
 pub mod Carried

@@ -1,8 +1,8 @@
--- `repeating::counting::plus` meets its contract, rule by rule. Assumes nothing.
+-- `course::counting::plus` meets its contract, rule by rule. Assumes nothing.
 use native.Mathlib.Numerals.{add-one}
 use borrow.Author.Needs.{needs}
-use Rattle.repeating.proofs.counting.plus.Statement.{statement}
-use Rattle.repeating.proofs.counting.plus.Tie as tie
+use Rattle.course.proofs.counting.plus.Statement.{statement}
+use Rattle.course.proofs.counting.plus.Tie as tie
 
 enum-told : tie.Need-enum-told
 enum-told c = search needs

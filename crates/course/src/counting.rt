@@ -2,7 +2,7 @@
 ghost use mathlib.Core.Path.{_≡_};
 ghost use Prim.Native.Nat.{_<_};
 ghost use Rattle.rules.specs.Reduction.{noCounts, plus as plusOf};
-ghost use Rattle.repeating.specs.Counted.{total};
+ghost use Rattle.course.specs.Counted.{total};
 use rules::Counts;
 use rules::Rule;
 
