@@ -90,13 +90,9 @@ module _ (n : ℕ) (p out scratch : Bytes) where
       pub value : Proof
       value = accepts-proof limits 1 p o e .value
 
-      pub few-read : m ≤ 64 → Checked p out 64 value
+      pub read : Checked p out m value
       unfolding value
-      few-read l = let a = accepts-proof limits 1 p o e in record { holds = a .holds; few = omega (arith, a .counts); room = h }
-
-      pub many-read : Checked p out 512 value
-      unfolding value
-      many-read = let a = accepts-proof limits 1 p o e in record { holds = a .holds; few = a .holds .few-rules; room = h }
+      read = let a = accepts-proof limits 1 p o e in record { holds = a .holds; few = omega (arith, a .counts); room = h }
 
       outcome-is : proofOutcome limits n p ≡ outcome (extract terms value [] n)
       unfolding value

@@ -1,41 +1,37 @@
--- The walk over a whole proof starts with no entry and no row, and its draft is of the term that the proof makes. Assumes nothing.
-use Prim.Native.Nat.{ℕ, _+_, _*_, _^_, _<_}
-use mathlib.Core.Path.{_≡_, refl, sym, _∙_}
+-- A checked proof is walked from no entry and no row on, and its draft is of the term that the proof makes. Assumes nothing.
+use Prim.Native.Nat.{ℕ, _+_, _*_, _<_, _≤_}
+use mathlib.Core.Path.{_≡_, sym, ap, _∙_}
+use mathlib.Core.Bool.{Bool, true}
 use mathlib.Core.List.{List, [], append-nil}
-use native.Mathlib.Nat.{not-suc-le-zero}
 use native.Mathlib.Omega.{arith}
 use lib.ListN.{length}
-use Rattle.rules.specs.Basic.{Bytes}
+use borrow.Author.Tests.{le-leb}
+use Rattle.rules.specs.Basic.{Bytes, _<?_}
+use Rattle.rules.specs.Limits.{limits, mostCounter}
+use Rattle.rules.specs.Refusal.{Outcome, refuse}
+use Rattle.rules.specs.Term.{Term, fits}
 use Rattle.rules.specs.Proof.{Proof, encodeProof}
 use Rattle.rules.specs.Extraction.{terms, extract}
-use Rattle.draft.specs.Steady.{rows-none, small-none}
-use Rattle.extract.specs.Entry.{EntriesAt}
-use Rattle.extract.specs.Legals.{extract-fine}
-use Rattle.extract.specs.Walk.{Task, Done}
-use Rattle.extract.specs.Whole.{Finishes, Checked}
+use Rattle.rules.specs.Buffers.{filled, cleared}
+use Rattle.rules.specs.Calls.{extractEnding}
 use Rattle.one_rule.specs.declared.Drafted.{Drafted}
+use Rattle.drafting.specs.Walk.{Done}
+use Rattle.own_row.specs.Whole.{Whole}
+use Rattle.extract.specs.Legals.{extract-fine}
+use Rattle.extract.specs.Whole.{decided, outcome, told, Finishes, Finished, Checked}
+use Rattle.extract.specs.declared.Extraction.{Extraction}
 
-no-entries : (s : Bytes) (places counters : List ℕ) → EntriesAt s places counters 0 []
-no-entries s places counters = record { many = refl; placed = omega arith; counted = omega arith; each = λ i h. absurd (not-suc-le-zero h) }
-
-module _ {s out : Bytes} {most : ℕ} {p : Proof} (w : Checked s out most p) {n : ℕ} (low : n < 2 ^ 32) where
-  pub whole-task : {places counters rows : List ℕ} → length places ≡ most → length counters ≡ most → length rows ≡ most * 5 → Task s 0 places counters 0 rows 0 n p []
-  whole-task {places} {counters} {rows} a b c =
+module _ {s out : Bytes} {most : ℕ} {p : Proof} (w : Checked s out most p) {n : ℕ} where
+  pub whole : {ws : List ℕ} → n ≤ 100000000 → length ws ≡ most * 5 → Whole s most ws n p
+  whole low e =
       record {
         proof = record { rest = []; bytes = w .holds .bytes ∙ sym (append-nil (encodeProof p)) };
-        ready =
-            record {
-              entries = no-entries s places counters;
-              rows = rows-none rows;
-              small = small-none rows;
-              placed = omega (arith, w .few);
-              counted = omega (arith, w .few);
-              room = omega (arith, w .few);
-              few = omega (arith, w .holds .few-rules);
-            };
+        many = w .few;
+        room = omega (arith, w .few, e);
+        few = omega (arith, w .holds .few-rules, low);
       }
 
-  pub whole-draft : {places′ counters′ rows rows′ : List ℕ} {d : Drafted} {zs : List ℕ} → length zs ≡ (most + 2) * 2 → Done s 0 places′ counters′ 0 rows rows′ 0 n p [] d → Finishes s rows′ d zs out (extract terms p [] n)
+  pub whole-draft : {ws ws′ : List ℕ} {d : Drafted} {zs : List ℕ} → length zs ≡ (most + 2) * 2 → Done s 0 ws ws′ 0 n p [] d → Finishes s ws′ d zs out (extract terms p [] n)
   whole-draft l x =
       record {
         counter = x .counter;
@@ -45,3 +41,19 @@ module _ {s out : Bytes} {most : ℕ} {p : Proof} (w : Checked s out most p) {n 
         legal = λ h. extract-fine p (w .holds .legal) .legal [] n tt h;
         room = w .room;
       }
+
+  -- a counter that is over the most before the walk is over it after the walk
+  pub over-counter : mostCounter < n → {scratch : Bytes} {r : Extraction} → r ≡ told (refuse 9 0 0) → Finished (extract terms p [] n) out scratch r out scratch
+  over-counter g {scratch} q =
+      let x = extract terms p [] n in
+      let up : n ≤ x .1 = extract-fine p (w .holds .legal) .rises [] n in
+      let z : (mostCounter <? x .1) ≡ true = le-leb 100000001 (x .1) (omega (arith, g, up)) in
+      let e : outcome x ≡ refuse 9 0 0 = ap (λ (b : Bool). decided b (fits limits (x .0)) x) z in
+      record { says = q ∙ ap told (sym e); leaves = ap (λ (z : Outcome (Term × ℕ)). filled out (extractEnding z .writes)) (sym e); clears = ap (λ (z : Outcome (Term × ℕ)). cleared 0 scratch (extractEnding z .says)) (sym e) }
+
+-- a proof of no more rules than were counted
+pub checked-few : {s out : Bytes} {m : ℕ} {p : Proof} → Checked s out m p → m ≤ 64 → Checked s out 64 p
+checked-few w h = record { holds = w .holds; few = omega (arith, w .few, h); room = w .room }
+
+pub checked-many : {s out : Bytes} {m : ℕ} {p : Proof} → Checked s out m p → Checked s out 512 p
+checked-many w = record { holds = w .holds; few = w .holds .few-rules; room = w .room }

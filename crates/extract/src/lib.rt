@@ -1,4 +1,4 @@
-// Extraction of terms from proofs: a walk over the checked proof makes a draft of the term, and the term is measured and written from the draft.
+// Extraction of terms from proofs: a walk over the checked proof makes a draft of the term (crates/drafting), and the term is measured and written from the draft.
 ghost use mathlib.Core.Path.{_≡_};
 ghost use mathlib.Core.List.{List, []};
 ghost use Prim.Native.Nat.{ℕ, _≤_};
@@ -12,16 +12,13 @@ ghost use Rattle.rules.specs.Calls.{Entry, extractCall};
 ghost use Rattle.extract.specs.Whole.{extraction, told, Finishes, Finished, Checked};
 use draft_term::parts::put_part;
 use draft_term::sizes::fits;
-use drafting::draft_rule;
 use one_rule::Drafted;
+use own_row::draft_few;
+use own_row::draft_many;
 use rules::Answer;
 use rules::OUTPUT_ROOM;
 use rules::Refusal;
 use rules::SCRATCH_ROOM;
-
-mod axiom;
-mod drafting;
-mod entries;
 
 // The bytes of the term and the counter after it; or a refusal.
 pub enum Extraction {
@@ -43,7 +40,7 @@ fn refused(number: u8) -> Extraction
 }
 
 // The term of a draft, unless its counter or its size is over the most.
-fn finish(
+pub fn finish(
     proof: &[u8],
     rows: &[usize],
     draft: Drafted,
@@ -71,34 +68,50 @@ fn finish(
     refused(8)
 }
 
-// The term of a checked proof of few rules. Arrays are set to zero where they are made, so that those of the most rules would cost more than the work.
-fn extract_few(counter: u32, proof: &[u8], out: &mut [u8], scratch: &mut [u8]) -> Extraction
-    requires { ⌜ ((p : Proof) × Checked (now proof) (now out) 64 p) ⌝ }
+// The term of a checked proof of few rules. Arrays are set to zeros where they are made, so that those of the most rules would cost more than the work.
+fn extract_few(start: usize, proof: &[u8], out: &mut [u8], scratch: &mut [u8]) -> Extraction
+    requires { ⌜ ((p : Proof) × Checked (now proof) (now out) 64 p × (start ≤ 100000000)) ⌝ }
     ensures { λ r. ⌜ ((p : Proof) → Checked (now (proof .entry)) (now (out .entry)) 64 p
-        → Finished (extractOf terms p [] counter) (now (out .entry)) (now (scratch .entry)) r (now (out .exit)) (now (scratch .exit))) ⌝ }
+        → Finished (extractOf terms p [] start) (now (out .entry)) (now (scratch .entry)) r (now (out .exit)) (now (scratch .exit))) ⌝ }
 {
-    let mut places = [0usize; 64];
-    let mut counters = [0usize; 64];
     let mut rows = [0usize; 320];
-    let start = counter as usize;
-    let draft = draft_rule(proof, 0, &mut places, &mut counters, 0, &mut rows, 0, start);
+    let draft = draft_few(proof, &mut rows, start);
     let mut sizes = [0usize; 132];
     finish(proof, &rows, draft, &mut sizes, out, scratch)
 }
 
 // The same of a proof of up to the most rules.
-fn extract_many(counter: u32, proof: &[u8], out: &mut [u8], scratch: &mut [u8]) -> Extraction
-    requires { ⌜ ((p : Proof) × Checked (now proof) (now out) 512 p) ⌝ }
+fn extract_many(start: usize, proof: &[u8], out: &mut [u8], scratch: &mut [u8]) -> Extraction
+    requires { ⌜ ((p : Proof) × Checked (now proof) (now out) 512 p × (start ≤ 100000000)) ⌝ }
     ensures { λ r. ⌜ ((p : Proof) → Checked (now (proof .entry)) (now (out .entry)) 512 p
-        → Finished (extractOf terms p [] counter) (now (out .entry)) (now (scratch .entry)) r (now (out .exit)) (now (scratch .exit))) ⌝ }
+        → Finished (extractOf terms p [] start) (now (out .entry)) (now (scratch .entry)) r (now (out .exit)) (now (scratch .exit))) ⌝ }
 {
-    let mut places = [0usize; 512];
-    let mut counters = [0usize; 512];
     let mut rows = [0usize; 2560];
-    let start = counter as usize;
-    let draft = draft_rule(proof, 0, &mut places, &mut counters, 0, &mut rows, 0, start);
+    let draft = draft_many(proof, &mut rows, start);
     let mut sizes = [0usize; 1028];
     finish(proof, &rows, draft, &mut sizes, out, scratch)
+}
+
+// The term of a proof that was read. The counter only rises, so that one that is over the most stays so.
+fn extract_read(
+    counter: u32,
+    rules: usize,
+    proof: &[u8],
+    out: &mut [u8],
+    scratch: &mut [u8],
+) -> Extraction
+    requires { ⌜ ((p : Proof) × Checked (now proof) (now out) rules p) ⌝ }
+    ensures { λ r. ⌜ ((p : Proof) → Checked (now (proof .entry)) (now (out .entry)) rules p
+        → Finished (extractOf terms p [] counter) (now (out .entry)) (now (scratch .entry)) r (now (out .exit)) (now (scratch .exit))) ⌝ }
+{
+    let start = counter as usize;
+    if MOST_COUNTER < start {
+        return refused(9);
+    }
+    if 64 < rules {
+        return extract_many(start, proof, out, scratch);
+    }
+    extract_few(start, proof, out, scratch)
 }
 
 // The term of a proof, from a counter on: its bytes in out, with zeros behind them.
@@ -119,11 +132,6 @@ pub fn extract(counter: u32, proof: &[u8], out: &mut [u8], scratch: &mut [u8]) -
     }
     match proof::proof_input(proof, 1) {
         Answer::Refused(r) => Extraction::Refused(r),
-        Answer::Good(rules) => {
-            if 64 < rules {
-                return extract_many(counter, proof, out, scratch);
-            }
-            extract_few(counter, proof, out, scratch)
-        }
+        Answer::Good(rules) => extract_read(counter, rules, proof, out, scratch),
     }
 }

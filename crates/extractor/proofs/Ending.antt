@@ -1,25 +1,38 @@
 -- What a call of the rules leaves, from how the extraction beside the row ended: by cases of its answer.
 -- Assumes nothing.
-use Prim.Native.Nat.{ℕ, _<_, _≤_}
+use Prim.Native.Nat.{ℕ, _+_, _<_, _≤_}
 use mathlib.Core.Path.{_≡_, refl, sym, ap, subst, _∙_}
-use mathlib.Core.Bool.{Bool, true, false, _&&_, _||_}
-use mathlib.Core.List.{List}
+use mathlib.Core.Bool.{Bool, true, false, not, _&&_, _||_}
+use mathlib.Core.List.{List, []}
 use native.Mathlib.Omega.{arith}
-use lib.ListN.{length, replicate}
+use lib.Dec.{T}
+use lib.ListN.{length, replicate, length-replicate}
 use borrow.Author.Tests.{le-leb, lt-leb, ne-eqb}
 use Rattle.rules.specs.Basic.{Bytes, if_then_else_, _≤?_, _==_}
-use Rattle.rules.specs.Limits.{limits, entryRoom}
-use Rattle.rules.specs.Refusal.{Outcome, good, refused, answered, sparesScratch}
+use Rattle.rules.specs.Limits.{limits, entryRoom, mostCounter}
+use Rattle.rules.specs.Proof.{Proof, rules}
+use Rattle.rules.specs.Reading.{readProof}
+use Rattle.rules.specs.Extraction.{terms, extract}
+use Rattle.rules.specs.declared.Refusal.{Refusal}
+use Rattle.rules.specs.declared.Answer.the-variants.{Good, Refused as Bad}
+use Rattle.laws.specs.Octets.{Octets}
+use Rattle.one_rule.specs.declared.Drafted.{Drafted}
+use Rattle.drafting.specs.Walk.{Done, Starts, Ends}
+use Rattle.own_row.specs.Whole.{Whole}
+use Rattle.own_row.proofs.Starting.{whole-starts, whole-ends}
+use Rattle.rules.specs.Refusal.{Outcome, good, refused, mapped, answered, sparesScratch}
 use Rattle.rules.specs.Term.{Term}
 use Rattle.rules.specs.Buffers.{cleared}
 use Rattle.rules.specs.Calls.{Entry, noEntry, workRoom, counterAfter, proofOutcome, extractCall}
-use Rattle.extract.specs.Whole.{extraction}
+use Rattle.extract.specs.Whole.{extraction, Finished, Checked}
+use Rattle.extract.proofs.Starting.{whole, over-counter, checked-many}
+use Rattle.extract.proofs.Calling.{short-output, short-scratch, bad-proof, read, good-proof, value}
 use Rattle.extract.specs.declared.Extraction.{Extraction}
 use Rattle.extract.specs.declared.Extraction.the-variants.{Made, Refused}
 use Rattle.entries.specs.declared.CutEntry.{CutEntry}
 use Rattle.extractor.specs.declared.Ended.{Ended}
 use Rattle.entries.specs.Entries.{none, zeroed, pairs}
-use Rattle.extractor.specs.Ending.{clearsOf, endedOf, Extracts}
+use Rattle.extractor.specs.Ending.{clearsOf, endedOf, Extracts, Beside, Alone, Walks, Begins, Closes}
 use Rattle.entries.proofs.Filling.{zeroed-all, length-pairs, pairs-zeroed}
 
 few-of : (b : Bool) (m : ℕ) → (if b then 0 else m) ≤ m
@@ -47,12 +60,8 @@ counter-is (good b) x n m = refl
 counter-is (refused q) x n m = refl
 
 module _ (n : ℕ) (p out scratch : Bytes) where
-  -- what is had of an extraction beside a row of m entries
-  abbrev pub Beside : (m : ℕ) → Ended → Bytes → Bytes → Type 0
-  Beside m r out′ scratch′ = (es : List Entry) → length es ≡ m → (r .clears ≤ m) × Extracts (extractCall limits n p out scratch es) (r .answer) out′ scratch′ (zeroed noEntry (r .clears) es) (r .counter)
-
   -- fewer than 512 entries
-  pub short-row : (m : ℕ) → m < 512 → {r : Ended} → r ≡ endedOf (Refused (record { number = 1; place = 0; input = 0 })) n m → Beside m r out scratch
+  pub short-row : (m : ℕ) → m < 512 → {r : Ended} → r ≡ endedOf (Refused (record { number = 1; place = 0; input = 0 })) n m → Beside n p out scratch m r out scratch
   unfolding extractCall
   short-row m h {r} q es e = subst (λ (z : Ended). (z .clears ≤ m) × Extracts (extractCall limits n p out scratch es) (z .answer) out scratch (zeroed noEntry (z .clears) es) (z .counter)) (sym q)
       (omega arith, rw (no-room) (record { says = refl; leaves = refl; clears = refl; zeroes = refl; counts = refl }))
@@ -68,7 +77,7 @@ module _ (n : ℕ) (p out scratch : Bytes) where
   pub long-row : (m : ℕ) → 512 ≤ m → {x : Extraction} {r : Ended} {out′ scratch′ : Bytes} → r ≡ endedOf x n m
       → ((es : List Entry) → entryRoom limits ≤ length es → x ≡ extraction (extractCall limits n p out scratch es .answer) (extractCall limits n p out scratch es .counter))
       → ((es : List Entry) → entryRoom limits ≤ length es → out′ ≡ extractCall limits n p out scratch es .output)
-      → ((es : List Entry) → entryRoom limits ≤ length es → scratch′ ≡ extractCall limits n p out scratch es .scratch) → Beside m r out′ scratch′
+      → ((es : List Entry) → entryRoom limits ≤ length es → scratch′ ≡ extractCall limits n p out scratch es .scratch) → Beside n p out scratch m r out′ scratch′
   unfolding extractCall
   long-row m h {x} {r} {out′} {scratch′} q a b c es e =
       let g : 512 ≤ length es = subst (λ (k : ℕ). 512 ≤ k) (sym e) h in
@@ -107,3 +116,91 @@ module _ (n : ℕ) (p out scratch : Bytes) (m : ℕ) (r : Ended) (out′ scratch
   over-row zs q =
       let x = at-row .1 in
       record { says = x .says; leaves = x .leaves; clears = x .clears; zeroes = ap pairs q ∙ pairs-zeroed (r .clears) ys ∙ x .zeroes; counts = x .counts }
+
+-- ---- before anything is walked
+
+apart : {A : Type 0} → _≡_ {A = Bool} true false → A
+apart e = absurd (let z : _≡_ {A = ℕ} 0 1 = cc in omega arith)
+
+module _ (n room : ℕ) (p out scratch : Bytes) where
+  stop-begins : {r : Ended} → r .goes ≡ false → Beside n p out scratch room r out scratch → Begins n room p out scratch r
+  stop-begins e b = record { stops = λ _. b; walks = λ z. apart (sym z ∙ e) }
+
+  refusal : (x : Refusal) {r : Ended} → r ≡ endedOf (Refused x) n room → r .goes ≡ false
+  refusal x q = ap (λ (z : Ended). z .goes) q
+
+  pub begins-short : room < 512 → {r : Ended} → r ≡ endedOf (Refused (record { number = 1; place = 0; input = 0 })) n room → Begins n room p out scratch r
+  begins-short h q = stop-begins (refusal _ q) (short-row n p out scratch room h q)
+
+  module _ (h : 512 ≤ room) where
+    stays : (x : Refusal) {r : Ended} → r ≡ endedOf (Refused x) n room → Alone n p out scratch (Refused x) out scratch → Begins n room p out scratch r
+    stays x q a = stop-begins (refusal x q) (long-row n p out scratch room h q (a .0) (a .1 .0) (a .1 .1))
+
+    pub begins-output : length out < 4096 → {r : Ended} → r ≡ endedOf (Refused (record { number = 1; place = 0; input = 0 })) n room → Begins n room p out scratch r
+    begins-output l q = stays _ q (short-output n p out scratch l refl)
+
+    pub begins-scratch : 4096 ≤ length out → length scratch < 8192 → {r : Ended} → r ≡ endedOf (Refused (record { number = 1; place = 0; input = 0 })) n room → Begins n room p out scratch r
+    begins-scratch l m q = stays _ q (short-scratch n p out scratch l m refl)
+
+    module _ (l : 4096 ≤ length out) (m : 8192 ≤ length scratch) where
+      pub begins-bad : (x : Refusal) → answered (mapped rules (readProof limits 1 p)) ≡ Bad x → {r : Ended} → r ≡ endedOf (Refused x) n room → Begins n room p out scratch r
+      begins-bad x e q = stays x q (bad-proof n p out scratch l m x e)
+
+      module _ (j : ℕ) (o : Octets p) (e : answered (mapped rules (readProof limits 1 p)) ≡ Good j) where
+        pub begins-nine : mostCounter < n → {r : Ended} → r ≡ endedOf (Refused (record { number = 9; place = 0; input = 0 })) n room → Begins n room p out scratch r
+        begins-nine g q = stays _ q (good-proof n p out scratch l m j o e (over-counter (read n p out scratch l m j o e) g refl))
+
+        pub begins-walk : n ≤ mostCounter → (r : Ended) → r .goes ≡ true → Begins n room p out scratch r
+        begins-walk g r z =
+            record {
+              stops = λ y. apart (sym z ∙ y);
+              walks =
+                  λ _. record {
+                    enough = h;
+                    low = g;
+                    value = value n p out scratch l m j o e;
+                    checked = checked-many (read n p out scratch l m j o e);
+                    means = λ x out′ scratch′ w. good-proof n p out scratch l m j o e w;
+                  };
+            }
+
+holds : (t : Bool) → T t → t ≡ true
+holds true _ = refl
+holds false h = absurd h
+
+fails : (t : Bool) → T (not t) → t ≡ false
+fails true h = absurd h
+fails false _ = refl
+
+-- what the walk asks, and what it gives, where the call did not end before
+module _ {n m : ℕ} {p out scratch : Bytes} (ys : List CutEntry) {b : Ended} (e : length ys ≡ m) (s : Begins n m p out scratch b) (g : T (b .goes)) where
+  walks-on : Walks n m p out scratch
+  walks-on = s .walks (holds (b .goes) g)
+
+  pub walk-needs : ((v : Proof) × Checked p out 512 v × (512 ≤ length ys) × (n ≤ 100000000))
+  walk-needs = (walks-on .value, walks-on .checked, subst (λ (k : ℕ). 512 ≤ k) (sym e) (walks-on .enough), walks-on .low)
+
+  pub walk-gives : {r : Ended} {out′ scratch′ : Bytes} → ((v : Proof) → Checked p out 512 v → Closes n (length ys) (extract terms v [] n) out scratch r out′ scratch′) → Beside n p out scratch m r out′ scratch′
+  walk-gives {r} {out′} {scratch′} f =
+      let w = walks-on in
+      let c = subst (λ (k : ℕ). Closes n k (extract terms (w .value) [] n) out scratch r out′ scratch′) e (f (w .value) (w .checked)) in
+      let a = w .means (c .made) out′ scratch′ (c .finished) in
+      long-row n p out scratch m (w .enough) (c .is) (a .0) (a .1 .0) (a .1 .1)
+
+pub stop-gives : {n m : ℕ} {p out scratch : Bytes} {b : Ended} → Begins n m p out scratch b → T (not (b .goes)) → Beside n p out scratch m b out scratch
+stop-gives {b = b} s g = s .stops (fails (b .goes) g)
+
+-- ---- the walk
+
+abbrev pub noRows : List ℕ
+noRows = replicate 2560 0
+
+module _ {s out : Bytes} {p : Proof} {n c : ℕ} (low : n ≤ 100000000) (e : c ≡ n) (w : Checked s out 512 p) where
+  whole-proof : Whole s 512 noRows c p
+  whole-proof = subst (λ (m : ℕ). Whole s 512 noRows m p) (sym e) (whole w low (length-replicate {A = ℕ} 2560 0))
+
+  pub walk-starts : {cs : List CutEntry} → 512 ≤ length cs → Starts s 0 cs 0 noRows 0 c
+  walk-starts h = whole-starts h (p, whole-proof)
+
+  pub walk-done : {cs : List CutEntry} → 512 ≤ length cs → {ws : List ℕ} {d : Drafted} → Ends s 0 cs 0 noRows ws 0 c d → Done s 0 noRows ws 0 n p [] d
+  walk-done h {ws} {d} f = subst (λ (m : ℕ). Done s 0 noRows ws 0 m p [] d) e (whole-ends h f p whole-proof)

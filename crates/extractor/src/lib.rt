@@ -1,20 +1,28 @@
 // The named form of extraction: an extractor that is lent and changed where it stands, and the cut entries a lent row.
 ghost use mathlib.Core.Path.{_≡_};
-ghost use mathlib.Core.List.{List};
-ghost use Prim.Native.Nat.{_≤_};
+ghost use mathlib.Core.List.{List, []};
+ghost use Prim.Native.Nat.{ℕ, _≤_};
 ghost use lib.ListN.{length};
 ghost use Rattle.rules.specs.Limits.{limits};
-ghost use Rattle.rules.specs.Calls.{Entry, noEntry, startCall, extractCall};
-ghost use Rattle.entries.specs.Entries.{zeroed, pairs};
-ghost use Rattle.extractor.specs.Ending.{clearsOf, endedOf, Extracts};
+ghost use Rattle.rules.specs.Proof.{Proof};
+ghost use Rattle.rules.specs.Extraction.{terms, extract as extractOf};
+ghost use Rattle.rules.specs.Calls.{startCall, extractCall};
+ghost use Rattle.entries.specs.Entries.{pairs};
+ghost use Rattle.drafting.specs.Walk.{Done};
+ghost use Rattle.extract.specs.Whole.{Checked};
+ghost use Rattle.extract.specs.declared.Extraction.the-variants.{Refused};
+ghost use Rattle.extractor.specs.Ending.{clearsOf, endedOf, Extracts, Begins, Closes};
+use drafting::draft_rule;
 use entries::CutEntry;
 use entries::clear_rows;
-use entries::row_len;
 use extract::Extraction;
-use extract::extract as extract_alone;
+use extract::finish;
+use one_rule::Drafted;
 use rules::Answer;
 use rules::ENTRY_ROOM;
+use rules::OUTPUT_ROOM;
 use rules::Refusal;
+use rules::SCRATCH_ROOM;
 
 pub struct Extractor {
     pub counter: u32,
@@ -44,11 +52,12 @@ impl Extractor {
     }
 }
 
-// How an extraction ends: its answer, the counter after it, and how many entries of the row are set to zeros.
+// How an extraction ends: its answer, the counter after it, and how many entries of the row are set to zeros; or that it goes on.
 struct Ended {
     pub answer: Answer,
     pub counter: u32,
     pub clears: usize,
+    pub goes: bool,
 }
 
 // How many entries a refusal sets to zeros: none by 1 to 7 and 9, else all.
@@ -73,38 +82,103 @@ fn end_of(made: Extraction, before: u32, room: usize) -> Ended
             answer: Answer::Good(bytes),
             counter,
             clears: room,
+            goes: false,
         },
         Extraction::Refused(r) => Ended {
             answer: Answer::Refused(r),
             counter: before,
             clears: clears(r.number, room),
+            goes: false,
         },
     }
 }
 
-// An extraction that has cut entries of its own, beside a row of so many.
-fn extract_beside(
+// A refusal that is about no place of an input.
+fn stopped(number: u8, before: u32, room: usize) -> Ended
+    ensures { λ r. ⌜ r ≡ endedOf (Refused (record { number = number; place = 0; input = 0 })) before room ⌝ }
+{
+    end_of(
+        Extraction::Refused(Refusal {
+            number,
+            place: 0,
+            input: 0,
+        }),
+        before,
+        room,
+    )
+}
+
+// What is refused before anything is walked. A counter that is over the most stays so.
+fn begin(counter: u32, room: usize, proof: &[u8], out: &[u8], scratch: &[u8]) -> Ended
+    ensures { λ r. ⌜ Begins counter room (now (proof .entry)) (now (out .entry)) (now (scratch .entry)) r ⌝ }
+{
+    if room < ENTRY_ROOM {
+        return stopped(1, counter, room);
+    }
+    if out.len() < OUTPUT_ROOM {
+        return stopped(1, counter, room);
+    }
+    if scratch.len() < SCRATCH_ROOM {
+        return stopped(1, counter, room);
+    }
+    match proof::proof_input(proof, 1) {
+        Answer::Refused(r) => end_of(Extraction::Refused(r), counter, room),
+        Answer::Good(rules) => {
+            if 100_000_000 < counter {
+                return stopped(9, counter, room);
+            }
+            Ended {
+                answer: Answer::Good(rules),
+                counter,
+                clears: 0,
+                goes: true,
+            }
+        }
+    }
+}
+
+// The term of a draft is measured and written.
+fn close(
     counter: u32,
     room: usize,
     proof: &[u8],
+    rows: &[usize],
+    draft: Drafted,
     out: &mut [u8],
     scratch: &mut [u8],
 ) -> Ended
-    ensures { λ r. ⌜ ((es : List Entry) → length es ≡ room → (r .clears ≤ room) × Extracts (extractCall limits counter (now (proof .entry)) (now (out .entry)) (now (scratch .entry)) es)
-        (r .answer) (now (out .exit)) (now (scratch .exit)) (zeroed noEntry (r .clears) es) (r .counter)) ⌝ }
+    requires { ⌜ ((p : Proof) × (ws : List ℕ) × Checked (now proof) (now out) 512 p × Done (now proof) 0 ws (now rows) 0 counter p [] draft) ⌝ }
+    ensures { λ r. ⌜ ((p : Proof) → (ws : List ℕ) → Checked (now (proof .entry)) (now (out .entry)) 512 p → Done (now (proof .entry)) 0 ws (now (rows .entry)) 0 counter p [] draft
+        → Closes counter room (extractOf terms p [] counter) (now (out .entry)) (now (scratch .entry)) r (now (out .exit)) (now (scratch .exit))) ⌝ }
 {
-    if room < ENTRY_ROOM {
-        return end_of(
-            Extraction::Refused(Refusal {
-                number: 1,
-                place: 0,
-                input: 0,
-            }),
-            counter,
-            room,
-        );
-    }
-    end_of(extract_alone(counter, proof, out, scratch), counter, room)
+    let mut sizes = [0usize; 1028];
+    let made = finish(proof, rows, draft, &mut sizes, out, scratch);
+    end_of(made, counter, room)
+}
+
+fn start_of(counter: u32) -> usize
+    ensures { λ r. ⌜ r ≡ counter ⌝ }
+{
+    counter as usize
+}
+
+// A checked proof is walked over the row, with rows for the most rules.
+fn walk_proof(
+    counter: u32,
+    proof: &[u8],
+    entries: &mut [CutEntry],
+    out: &mut [u8],
+    scratch: &mut [u8],
+) -> Ended
+    requires { ⌜ ((p : Proof) × Checked (now proof) (now out) 512 p × (512 ≤ length (now entries)) × (counter ≤ 100000000)) ⌝ }
+    ensures { λ r. ⌜ (now (entries .exit) ≡ now (entries .entry)) × ((p : Proof) → Checked (now (proof .entry)) (now (out .entry)) 512 p
+        → Closes counter (length (now (entries .entry))) (extractOf terms p [] counter) (now (out .entry)) (now (scratch .entry)) r (now (out .exit)) (now (scratch .exit))) ⌝ }
+{
+    let mut rows = [0usize; 2560];
+    let start = start_of(counter);
+    let draft = draft_rule(proof, 0, entries, 0, &mut rows, 0, start);
+    let room = entries.len();
+    close(counter, room, proof, &rows, draft, out, scratch)
 }
 
 // An extraction over the row itself, from a counter: the entries are set to zeros, or not.
@@ -118,8 +192,12 @@ fn extract_with(
     ensures { λ r. ⌜ Extracts (extractCall limits counter (now (proof .entry)) (now (out .entry)) (now (scratch .entry)) (pairs (now (entries .entry))))
         (r .answer) (now (out .exit)) (now (scratch .exit)) (pairs (now (entries .exit))) (r .counter) ⌝ }
 {
-    let room = row_len(entries);
-    let end = extract_beside(counter, room, proof, out, scratch);
-    clear_rows(entries, end.clears);
-    end
+    let begun = begin(counter, entries.len(), proof, out, scratch);
+    if begun.goes {
+        let end = walk_proof(counter, proof, entries, out, scratch);
+        clear_rows(entries, end.clears);
+        return end;
+    }
+    clear_rows(entries, begun.clears);
+    begun
 }

@@ -1,7 +1,7 @@
 -- `extract::extract` meets its contract: the reader's answer says which proof it is, and its term is extracted. Assumes nothing.
 use mathlib.Core.Path.{sym, _∙_}
 use Rattle.laws.specs.Octets.{octets}
-use Rattle.extract.proofs.Calling.{short-output, short-scratch, bad-proof, few-read, many-read, good-proof}
+use Rattle.extract.proofs.Calling.{short-output, short-scratch, bad-proof, read, good-proof}
 use borrow.Author.Needs.{needs}
 use Rattle.extract.proofs.extract.Statement.{statement}
 use Rattle.extract.proofs.extract.Tie as tie
@@ -27,10 +27,12 @@ enum-known-r c = search needs
 enum-known-rules : tie.Need-enum-known-rules
 enum-known-rules c = search needs
 
-extract-many-requires : tie.Need-extract-many-requires
-extract-many-requires c κs =
-    let a = c .before .before .before .before .before .before .before .before .before .before .before .before .args in
-    (_, many-read (a .counter) (a .proof .now) (a .out .now) (a .scratch .now) (c .before .before .before .before .before .before .before .before .if1 .left) (c .before .before .before .before .before .before .before .if2 .left) _ (octets (a .proof .now) (λ i. c .before .before .before .before .before .before .before .before .before .before .before .shared-slice-known .given i .fits)) (sym (c .before .before .before .before .before .before .proof-input .ensures) ∙ c .before .before .before .before .rules .given .1))
+extract-read-requires : tie.Need-extract-read-requires
+extract-read-requires c κs = let a = c .before .before .before .before .before .before .before .before .before .before .before .args in
+    (_, read (a .counter) (a .proof .now) (a .out .now) (a .scratch .now) (c .before .before .before .before .before .before .before .if1 .left) (c .before .before .before .before .before .before .if2 .left) _ (octets (a .proof .now) (λ i. c .before .before .before .before .before .before .before .before .before .before .shared-slice-known .given i .fits)) (sym (c .before .before .before .before .before .proof-input .ensures) ∙ c .before .before .before .rules .given .1))
+
+returns-3 : tie.Need-returns-3
+returns-3 c = let a = c .before .before .before .before .before .before .before .before .before .args in bad-proof (a .counter) (a .proof .now) (a .out .now) (a .scratch .now) (c .before .before .before .before .before .if1 .left) (c .before .before .before .before .if2 .left) _ (sym (c .before .before .before .proof-input .ensures) ∙ c .before .r .given .1)
 
 same-length : tie.Need-same-length
 same-length c = search needs
@@ -38,35 +40,12 @@ same-length c = search needs
 same-length-2 : tie.Need-same-length-2
 same-length-2 c = search needs
 
-returns-3 : tie.Need-returns-3
-returns-3 c =
-    let a = c .before .before .before .before .before .before .before .before .before .before .before .before .before .before .before .before .before .args in
-    let o = octets (a .proof .now) (λ i. c .before .before .before .before .before .before .before .before .before .before .before .before .before .before .before .before .shared-slice-known .given i .fits) in
-    let e = sym (c .before .before .before .before .before .before .before .before .before .before .before .proof-input .ensures) ∙ c .before .before .before .before .before .before .before .before .before .rules .given .1 in
-    good-proof (a .counter) (a .proof .now) (a .out .now) (a .scratch .now) (c .before .before .before .before .before .before .before .before .before .before .before .before .before .if1 .left) (c .before .before .before .before .before .before .before .before .before .before .before .before .if2 .left) _ o e
-    (c .before .before .before .before .extract-many .ensures _ (many-read (a .counter) (a .proof .now) (a .out .now) (a .scratch .now) (c .before .before .before .before .before .before .before .before .before .before .before .before .before .if1 .left) (c .before .before .before .before .before .before .before .before .before .before .before .before .if2 .left) _ o e))
-
-extract-few-requires : tie.Need-extract-few-requires
-extract-few-requires c κs =
-    let a = c .before .before .before .before .before .before .before .before .before .before .before .before .args in
-    (_, few-read (a .counter) (a .proof .now) (a .out .now) (a .scratch .now) (c .before .before .before .before .before .before .before .before .if1 .left) (c .before .before .before .before .before .before .before .if2 .left) _ (octets (a .proof .now) (λ i. c .before .before .before .before .before .before .before .before .before .before .before .shared-slice-known .given i .fits)) (sym (c .before .before .before .before .before .before .proof-input .ensures) ∙ c .before .before .before .before .rules .given .1) (c .before .before .if3 .left))
-
 returns-4 : tie.Need-returns-4
-returns-4 c = let a = c .before .before .before .before .before .before .before .before .before .args in bad-proof (a .counter) (a .proof .now) (a .out .now) (a .scratch .now) (c .before .before .before .before .before .if1 .left) (c .before .before .before .before .if2 .left) _ (sym (c .before .before .before .proof-input .ensures) ∙ c .before .r .given .1)
-
-same-length-3 : tie.Need-same-length-3
-same-length-3 c = search needs
-
-same-length-4 : tie.Need-same-length-4
-same-length-4 c = search needs
-
-returns-5 : tie.Need-returns-5
-returns-5 c =
-    let a = c .before .before .before .before .before .before .before .before .before .before .before .before .before .before .before .before .before .args in
-    let o = octets (a .proof .now) (λ i. c .before .before .before .before .before .before .before .before .before .before .before .before .before .before .before .before .shared-slice-known .given i .fits) in
-    let e = sym (c .before .before .before .before .before .before .before .before .before .before .before .proof-input .ensures) ∙ c .before .before .before .before .before .before .before .before .before .rules .given .1 in
-    good-proof (a .counter) (a .proof .now) (a .out .now) (a .scratch .now) (c .before .before .before .before .before .before .before .before .before .before .before .before .before .if1 .left) (c .before .before .before .before .before .before .before .before .before .before .before .before .if2 .left) _ o e
-    (c .before .before .before .before .extract-few .ensures _ (few-read (a .counter) (a .proof .now) (a .out .now) (a .scratch .now) (c .before .before .before .before .before .before .before .before .before .before .before .before .before .if1 .left) (c .before .before .before .before .before .before .before .before .before .before .before .before .if2 .left) _ o e (c .before .before .before .before .before .before .before .if3 .left)))
+returns-4 c = let a = c .before .before .before .before .before .before .before .before .before .before .before .before .before .before .before .before .args in
+    let o = octets (a .proof .now) (λ i. c .before .before .before .before .before .before .before .before .before .before .before .before .before .before .before .shared-slice-known .given i .fits) in
+    let e = sym (c .before .before .before .before .before .before .before .before .before .before .proof-input .ensures) ∙ c .before .before .before .before .before .before .before .before .rules .given .1 in
+    good-proof (a .counter) (a .proof .now) (a .out .now) (a .scratch .now) (c .before .before .before .before .before .before .before .before .before .before .before .before .if1 .left) (c .before .before .before .before .before .before .before .before .before .before .before .if2 .left) _ o e
+    (c .before .before .before .before .extract-read .ensures _ (read (a .counter) (a .proof .now) (a .out .now) (a .scratch .now) (c .before .before .before .before .before .before .before .before .before .before .before .before .if1 .left) (c .before .before .before .before .before .before .before .before .before .before .before .if2 .left) _ o e))
 
 pub extract-spec : {M : Type 1} → statement M
 extract-spec =
@@ -79,12 +58,8 @@ extract-spec =
     proof-input-requires
     enum-known-r
     enum-known-rules
-    extract-many-requires
+    extract-read-requires
+    returns-3
     same-length
     same-length-2
-    returns-3
-    extract-few-requires
-    returns-4
-    same-length-3
-    same-length-4
-    returns-5)
+    returns-4)

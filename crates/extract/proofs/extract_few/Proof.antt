@@ -1,22 +1,15 @@
--- `extract::extract_few` meets its contract: the walk starts with no entry and no row. Assumes nothing.
+-- `extract::extract_few` meets its contract: the draft of the whole proof is finished. Assumes nothing.
 use mathlib.Core.Path.{refl}
-use mathlib.Core.List.{[]}
-use Rattle.extract.proofs.Starting.{whole-task, whole-draft}
+use Rattle.extract.proofs.Starting.{whole, whole-draft}
 use borrow.Author.Needs.{needs}
 use Rattle.extract.proofs.extract_few.Statement.{statement}
 use Rattle.extract.proofs.extract_few.Tie as tie
 
-slice-aggregate-draft-rule : tie.Need-slice-aggregate-draft-rule
-slice-aggregate-draft-rule c = search needs
+slice-aggregate-draft-few : tie.Need-slice-aggregate-draft-few
+slice-aggregate-draft-few c = search needs
 
-slice-aggregate-draft-rule-2 : tie.Need-slice-aggregate-draft-rule-2
-slice-aggregate-draft-rule-2 c = search needs
-
-slice-aggregate-draft-rule-3 : tie.Need-slice-aggregate-draft-rule-3
-slice-aggregate-draft-rule-3 c = search needs
-
-draft-rule-requires : tie.Need-draft-rule-requires
-draft-rule-requires c κs = let (p, w) = c .before .before .before .before .before .before .pre in (p, [], whole-task w (c .before .before .before .before .before .before .fits .counter .fits) refl refl refl)
+draft-few-requires : tie.Need-draft-few-requires
+draft-few-requires c κs = (c .before .before .before .before .pre .0, whole (c .before .before .before .before .pre .1) (c .before .before .before .before .pre .2) refl)
 
 slice-aggregate-finish : tie.Need-slice-aggregate-finish
 slice-aggregate-finish c = search needs
@@ -25,7 +18,7 @@ slice-aggregate-finish-2 : tie.Need-slice-aggregate-finish-2
 slice-aggregate-finish-2 c = search needs
 
 finish-requires : tie.Need-finish-requires
-finish-requires c κs = let (p, w) = c .before .before .before .before .before .before .before .before .before .before .before .before .before .before .pre in (_, _, whole-draft w (c .before .before .before .before .before .before .before .before .before .before .before .before .before .before .fits .counter .fits) refl (c .before .before .before .before .before .before .before .draft-rule .ensures p [] (whole-task w (c .before .before .before .before .before .before .before .before .before .before .before .before .before .before .fits .counter .fits) refl refl refl)))
+finish-requires c κs = (_, _, whole-draft (c .before .before .before .before .before .before .before .before .before .before .pre .1) refl (c .before .before .before .before .before .draft-few .ensures (c .before .before .before .before .before .before .before .before .before .before .pre .0) (whole (c .before .before .before .before .before .before .before .before .before .before .pre .1) (c .before .before .before .before .before .before .before .before .before .before .pre .2) refl)))
 
 same-length : tie.Need-same-length
 same-length c = search needs
@@ -34,16 +27,14 @@ same-length-2 : tie.Need-same-length-2
 same-length-2 c = search needs
 
 returns : tie.Need-returns
-returns c = λ p w. c .before .before .before .before .before .finish .ensures _ _ (whole-draft w (c .before .before .before .before .before .before .before .before .before .before .before .before .before .before .before .before .before .before .before .before .fits .counter .fits) refl (c .before .before .before .before .before .before .before .before .before .before .before .before .before .draft-rule .ensures p [] (whole-task w (c .before .before .before .before .before .before .before .before .before .before .before .before .before .before .before .before .before .before .before .before .fits .counter .fits) refl refl refl)))
+returns c = λ p w. c .before .before .before .before .before .finish .ensures _ _ (whole-draft w refl (c .before .before .before .before .before .before .before .before .before .before .before .draft-few .ensures p (whole w (c .before .before .before .before .before .before .before .before .before .before .before .before .before .before .before .before .pre .2) refl)))
 
 pub extract-few-spec : {M : Type 1} → statement M
 extract-few-spec =
     tie.close
     (tie.spec
-    slice-aggregate-draft-rule
-    slice-aggregate-draft-rule-2
-    slice-aggregate-draft-rule-3
-    draft-rule-requires
+    slice-aggregate-draft-few
+    draft-few-requires
     slice-aggregate-finish
     slice-aggregate-finish-2
     finish-requires

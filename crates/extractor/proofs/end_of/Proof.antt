@@ -1,6 +1,7 @@
 -- `extractor::end_of` meets its contract: in each arm the record is that of the constructor that the match found. Assumes nothing.
 use Prim.Native.Nat.{ℕ}
 use mathlib.Core.Path.{sym, ap, _∙_}
+use mathlib.Core.Bool.{false}
 use borrow.Author.Needs.{needs}
 use Rattle.rules.specs.declared.Answer.the-variants.{Refused as Bad}
 use Rattle.extract.specs.declared.Extraction.{Extraction}
@@ -25,7 +26,7 @@ returns c =
 returns-2 : tie.Need-returns-2
 returns-2 c =
     let a = c .before .before .before .before .args in
-    ap (λ (k : ℕ). record { answer = Bad (c .before .before .made2 .given .0 .0); counter = a .before; clears = k }) (c .clears .ensures)
+    ap (λ (k : ℕ). record { answer = Bad (c .before .before .made2 .given .0 .0); counter = a .before; clears = k; goes = false }) (c .clears .ensures)
     ∙ sym (ap (λ (x : Extraction). endedOf x (a .before) (a .room)) (c .before .before .made2 .given .1))
 
 pub end-of-spec : {M : Type 1} → statement M

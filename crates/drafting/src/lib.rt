@@ -1,0 +1,140 @@
+// From a checked proof to a draft of its term: one walk over its rules, with the row of cut entries that is lent and a counter.
+ghost use mathlib.Core.Path.{_≡_};
+ghost use mathlib.Core.List.{List};
+ghost use Prim.Native.Nat.{ℕ, _^_, _<_};
+ghost use Rattle.drafting.specs.Walk.{Starts, Ends};
+ghost use Rattle.drafting.specs.Planning.{Planned, Began};
+ghost use Rattle.drafting.specs.declared.plan.Plan.{Plan};
+use entries::CutEntry;
+use entries::entry_at;
+use entries::put_entry;
+use one_rule::Drafted;
+use one_rule::puts::put_pair;
+use plan::Plan;
+use plan::plan_at;
+use put::put_alone;
+use put::put_axiom;
+use put::put_cut;
+use put::put_first;
+use seeking::axiom_name;
+
+mod plan;
+mod put;
+
+// The entry of a Cut on the formula at `place`.
+fn entry_of(place: usize, counter: usize) -> CutEntry
+    requires { ⌜ counter < 2 ^ 32 ⌝ }
+    ensures { λ r. ⌜ r ≡ record { place = place; counter = counter } ⌝ }
+{
+    CutEntry {
+        place,
+        counter: counter as u32,
+    }
+}
+
+// A rule that reads no premise, by its plan.
+fn draft_alone(
+    s: &[u8],
+    plan: Plan,
+    row: &[CutEntry],
+    k: usize,
+    rows: &mut [usize],
+    used: usize,
+    counter: usize,
+) -> Drafted
+    requires { ⌜ (plan .act < 3) × ((at : ℕ) × Planned (now s) at plan × Starts (now s) at (now row) k (now rows) used counter) ⌝ }
+    ensures { λ r. ⌜ ((at : ℕ) → Planned (now (s .entry)) at plan → Starts (now (s .entry)) at (now (row .entry)) k (now (rows .entry)) used counter
+        → Ends (now (s .entry)) at (now (row .entry)) k (now (rows .entry)) (now (rows .exit)) used counter r) ⌝ }
+{
+    if plan.act < 2 {
+        return put_alone(s, plan, rows, used, counter);
+    }
+    let search = axiom_name(s, plan.linear, row, k);
+    put_axiom(s, plan, search, rows, used, counter)
+}
+
+// The rule at `at`, with its premises.
+pub fn draft_rule(
+    s: &[u8],
+    at: usize,
+    row: &mut [CutEntry],
+    k: usize,
+    rows: &mut [usize],
+    used: usize,
+    counter: usize,
+) -> Drafted
+    requires { ⌜ Starts (now s) at (now row) k (now rows) used counter ⌝ }
+    ensures { λ r. ⌜ (now (row .exit) ≡ now (row .entry)) × Ends (now (s .entry)) at (now (row .entry)) k (now (rows .entry)) (now (rows .exit)) used counter r ⌝ }
+{
+    let plan = plan_at(s, at);
+    if plan.act < 3 {
+        return draft_alone(s, plan, row, k, rows, used, counter);
+    }
+    draft_premises(s, at, plan, row, k, rows, used, counter)
+}
+
+// A rule that reads its first premise, or two.
+fn draft_premises(
+    s: &[u8],
+    at: usize,
+    plan: Plan,
+    row: &mut [CutEntry],
+    k: usize,
+    rows: &mut [usize],
+    used: usize,
+    counter: usize,
+) -> Drafted
+    requires { ⌜ (2 < plan .act) × Planned (now s) at plan × Starts (now s) at (now row) k (now rows) used counter ⌝ }
+    ensures { λ r. ⌜ (now (row .exit) ≡ now (row .entry)) × Ends (now (s .entry)) at (now (row .entry)) k (now (rows .entry)) (now (rows .exit)) used counter r ⌝ }
+{
+    let one = draft_rule(s, plan.first, row, k, rows, used, counter + plan.names);
+    if plan.act == 3 {
+        return put_first(s, plan, counter, one, rows);
+    }
+    draft_second(s, at, plan, counter, one, row, k, rows)
+}
+
+// The second premise: of a pair, or of a Cut.
+fn draft_second(
+    s: &[u8],
+    at: usize,
+    plan: Plan,
+    counter: usize,
+    one: Drafted,
+    row: &mut [CutEntry],
+    k: usize,
+    rows: &mut [usize],
+) -> Drafted
+    requires { ⌜ (3 < plan .act) × ((ws : List ℕ) × (used : ℕ) × Began (now s) at (now row) k ws (now rows) used counter plan one) ⌝ }
+    ensures { λ r. ⌜ (now (row .exit) ≡ now (row .entry)) × ((ws : List ℕ) → (used : ℕ) → Began (now (s .entry)) at (now (row .entry)) k ws (now (rows .entry)) used counter plan one
+        → Ends (now (s .entry)) at (now (row .entry)) k ws (now (rows .exit)) used counter r) ⌝ }
+{
+    if plan.act == 4 {
+        let two = draft_rule(s, one.next, row, k, rows, one.used, one.counter);
+        return put_pair(one.part, two, rows);
+    }
+    draft_consumer(s, at, counter, one, row, k, rows)
+}
+
+// The consumer of a Cut has one entry more, and what stood there is put back behind it.
+fn draft_consumer(
+    s: &[u8],
+    at: usize,
+    counter: usize,
+    one: Drafted,
+    row: &mut [CutEntry],
+    k: usize,
+    rows: &mut [usize],
+) -> Drafted
+    requires { ⌜ ((plan : Plan) × (ws : List ℕ) × (used : ℕ) × (4 < plan .act) × Began (now s) at (now row) k ws (now rows) used counter plan one) ⌝ }
+    ensures { λ r. ⌜ (now (row .exit) ≡ now (row .entry)) × ((plan : Plan) → (ws : List ℕ) → (used : ℕ) → 4 < plan .act
+        → Began (now (s .entry)) at (now (row .entry)) k ws (now (rows .entry)) used counter plan one
+        → Ends (now (s .entry)) at (now (row .entry)) k ws (now (rows .exit)) used counter r) ⌝ }
+{
+    let own = at + 1;
+    let before = entry_at(row, k);
+    put_entry(row, k, entry_of(own, counter));
+    let two = draft_rule(s, one.next, row, k + 1, rows, one.used, one.counter);
+    put_entry(row, k, before);
+    put_cut(s, own, one, two, rows)
+}

@@ -1,0 +1,50 @@
+-- `extract::extract_read` meets its contract: by whether the counter is over the most already, and by how many rules there are. Assumes nothing.
+use Rattle.extract.proofs.Starting.{over-counter, checked-few, checked-many}
+use borrow.Author.Needs.{needs}
+use Rattle.extract.proofs.extract_read.Statement.{statement}
+use Rattle.extract.proofs.extract_read.Tie as tie
+
+refused-requires : tie.Need-refused-requires
+refused-requires c κs = search needs
+
+returns : tie.Need-returns
+returns c = λ p w. over-counter w (c .before .if1 .taken) (c .refused .ensures)
+
+extract-many-requires : tie.Need-extract-many-requires
+extract-many-requires c κs = (c .before .before .before .before .before .before .before .pre .0, checked-many (c .before .before .before .before .before .before .before .pre .1), c .before .before .before .if1 .left)
+
+same-length : tie.Need-same-length
+same-length c = search needs
+
+same-length-2 : tie.Need-same-length-2
+same-length-2 c = search needs
+
+returns-2 : tie.Need-returns-2
+returns-2 c = λ p w. c .before .before .before .before .extract-many .ensures p (checked-many w)
+
+extract-few-requires : tie.Need-extract-few-requires
+extract-few-requires c κs = (c .before .before .before .before .before .before .before .pre .0, checked-few (c .before .before .before .before .before .before .before .pre .1) (c .before .before .if2 .left), c .before .before .before .if1 .left)
+
+same-length-3 : tie.Need-same-length-3
+same-length-3 c = search needs
+
+same-length-4 : tie.Need-same-length-4
+same-length-4 c = search needs
+
+returns-3 : tie.Need-returns-3
+returns-3 c = λ p w. c .before .before .before .before .extract-few .ensures p (checked-few w (c .before .before .before .before .before .before .before .if2 .left))
+
+pub extract-read-spec : {M : Type 1} → statement M
+extract-read-spec =
+    tie.close
+    (tie.spec
+    refused-requires
+    returns
+    extract-many-requires
+    same-length
+    same-length-2
+    returns-2
+    extract-few-requires
+    same-length-3
+    same-length-4
+    returns-3)
