@@ -4,13 +4,15 @@ use Prim.Native.Nat.{ℕ}
 use mathlib.Core.Path.{_≡_, refl, sym, ap, _∙_}
 use mathlib.Core.Logic.{inl, inr}
 use mathlib.Core.List.{List, [], _∷_}
+use native.Mathlib.Omega.{arith}
 use lib.ListN.{getD}
 use types.Run.{OneOf}
 use Rattle.rules.specs.Name.{Name}
-use Rattle.rules.specs.Term.{Term, var, leaf, one, two, abs, both, branch, Leaf, unit, trivial, One, inl as injectLeft, inr as injectRight, fst, snd, abort, promote, derelict, Two, pair, app, discard, letPair, copy, encode}
+use Rattle.rules.specs.Term.{Term, var, leaf, one, two, abs, both, branch, Leaf, unit, trivial, One, inl as injectLeft, inr as injectRight, fst, snd, abort, promote, derelict, Two, pair, app, discard, letPair, copy, oneTag, encode}
 use Rattle.walk.specs.Node.{tag}
 use Rattle.words.specs.Steps.{first-byte}
-use Rattle.phrases.specs.Task.{TermTask}
+use Rattle.phrases.specs.Task.{TermTask, Whole}
+use Rattle.phrases.specs.Words.{onePart}
 use Rattle.phrases.specs.Shapes.{Bracketed}
 
 pub data Shape : Type 0 where
@@ -97,23 +99,59 @@ pub two-key : {k : ℕ} → OneOf (3 ∷ 6 ∷ []) k → shapeOf k ≡ a-two
 two-key (inl h) = rw h
 two-key (inr h) = rw h
 
--- it has none of the keys
-abbrev pub Rest : ℕ → Type 0
-Rest k =
-    (((((((Unit {0} × (k ≡ 1 → ⊥)) × (OneOf (2 ∷ 10 ∷ []) k → ⊥)) × (OneOf (3 ∷ 6 ∷ []) k → ⊥)) × (k ≡ 4 → ⊥)) × (k ≡ 5 → ⊥)) × (k ≡ 9 → ⊥)) × (k ≡ 16 → ⊥)) × (k ≡ 17 → ⊥)
+one-tags : (k : One) → onePart (oneTag k) ≡ 1
+one-tags injectLeft = refl
+one-tags injectRight = refl
+one-tags fst = refl
+one-tags snd = refl
+one-tags abort = refl
+one-tags promote = refl
+one-tags derelict = refl
 
-rest-one : (t : Term) → Rest (tag t) → shape t ≡ an-one
-rest-one (var x) r = absurd (r .0 .0 .0 .0 .0 .0 .0 .1 refl)
-rest-one (leaf unit) r = absurd (r .0 .0 .0 .0 .0 .0 .1 (inl refl))
-rest-one (leaf trivial) r = absurd (r .0 .0 .0 .0 .0 .0 .1 (inr refl))
-rest-one (one k e) r = refl
-rest-one (two pair a b) r = absurd (r .0 .0 .0 .0 .0 .1 (inl refl))
-rest-one (two app a b) r = absurd (r .0 .0 .0 .0 .0 .1 (inr refl))
-rest-one (two discard a b) r = absurd (r .0 .1 refl)
-rest-one (abs x e) r = absurd (r .0 .0 .0 .1 refl)
-rest-one (both letPair x y e b) r = absurd (r .0 .0 .0 .0 .1 refl)
-rest-one (both copy x y e b) r = absurd (r .1 refl)
-rest-one (branch x y e l r′) r = absurd (r .0 .0 .1 refl)
+one-shape : (t : Term) → onePart (tag t) ≡ 1 → shape t ≡ an-one
+one-shape (var x) h = absurd (omega (arith, h))
+one-shape (leaf unit) h = absurd (omega (arith, h))
+one-shape (leaf trivial) h = absurd (omega (arith, h))
+one-shape (one k e) h = refl
+one-shape (two pair a b) h = absurd (omega (arith, h))
+one-shape (two app a b) h = absurd (omega (arith, h))
+one-shape (two discard a b) h = absurd (omega (arith, h))
+one-shape (abs x e) h = absurd (omega (arith, h))
+one-shape (both letPair x y e b) h = absurd (omega (arith, h))
+one-shape (both copy x y e b) h = absurd (omega (arith, h))
+one-shape (branch x y e l r) h = absurd (omega (arith, h))
+
+-- it has none of the keys of the walk, and not one part
+abbrev pub Rest : ℕ → Type 0
+Rest k = (((Unit {0} × (k ≡ 1 → ⊥)) × (OneOf (3 ∷ 6 ∷ []) k → ⊥)) × (k ≡ 5 → ⊥)) × (onePart k ≡ 1 → ⊥)
+
+rest-whole : (t : Term) → Rest (tag t) → Whole t
+rest-whole (var x) r = absurd (r .0 .0 .0 .1 refl)
+rest-whole (leaf k) r = tt
+rest-whole (one k e) r = absurd (r .1 (one-tags k))
+rest-whole (two pair a b) r = absurd (r .0 .0 .1 (inl refl))
+rest-whole (two app a b) r = absurd (r .0 .0 .1 (inr refl))
+rest-whole (two discard a b) r = tt
+rest-whole (abs x e) r = absurd (r .0 .1 refl)
+rest-whole (both k x y e b) r = tt
+rest-whole (branch x y e l r′) r = tt
+
+-- and none of those of the terms that are printed whole, but the last's
+abbrev pub Last : ℕ → Type 0
+Last k = (((Unit {0} × (OneOf (2 ∷ 10 ∷ []) k → ⊥)) × (k ≡ 4 → ⊥)) × (k ≡ 9 → ⊥)) × (k ≡ 16 → ⊥)
+
+last-copy : (t : Term) → Whole t → Last (tag t) → shape t ≡ a-copy
+last-copy (var x) w r = absurd w
+last-copy (leaf unit) w r = absurd (r .0 .0 .0 .1 (inl refl))
+last-copy (leaf trivial) w r = absurd (r .0 .0 .0 .1 (inr refl))
+last-copy (one k e) w r = absurd w
+last-copy (two pair a b) w r = absurd w
+last-copy (two app a b) w r = absurd w
+last-copy (two discard a b) w r = absurd (r .1 refl)
+last-copy (abs x e) w r = absurd w
+last-copy (both letPair x y e b) w r = absurd (r .0 .0 .1 refl)
+last-copy (both copy x y e b) w r = refl
+last-copy (branch x y e l r′) w r = absurd (r .0 .1 refl)
 
 module _ {s : List ℕ} {at : ℕ} {out : List ℕ} {to : ℕ} where
   tag-at : (t : Term) → TermTask s at out to t → getD s at 0 ≡ tag t
@@ -129,5 +167,11 @@ module _ {s : List ℕ} {at : ℕ} {out : List ℕ} {to : ℕ} where
   pub made-of : (n : Shape) (t : Term) → TermTask s at out to t → shapeOf (getD s at 0) ≡ n → Made n t
   made-of n t w h = let q : shape t ≡ n = sym (ap (λ (k : ℕ). shapeOf k) (tag-at t w) ∙ tag-shape t) ∙ h in rw q at (made t)
 
-  pub made-one : (t : Term) → TermTask s at out to t → Rest (getD s at 0) → Made an-one t
-  made-one t w h = rw (rest-one t (rw (tag-at t w) at h)) at (made t)
+  pub made-one : (t : Term) → TermTask s at out to t → onePart (getD s at 0) ≡ 1 → Made an-one t
+  made-one t w h = rw (one-shape t (rw (tag-at t w) at h)) at (made t)
+
+  pub is-whole : (t : Term) → TermTask s at out to t → Rest (getD s at 0) → Whole t
+  is-whole t w h = rest-whole t (rw (tag-at t w) at h)
+
+  pub made-copy : (t : Term) → TermTask s at out to t → Whole t → Last (getD s at 0) → Made a-copy t
+  made-copy t w z h = rw (last-copy t z (rw (tag-at t w) at h)) at (made t)

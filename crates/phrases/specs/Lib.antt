@@ -6,4 +6,5 @@ pub mod Names
 pub mod Shaped
 pub mod Binders
 pub mod Walking
+pub mod Turns
 pub mod Calls

@@ -1,15 +1,15 @@
 -- Names after a tag: what stands at each place, and the place after them.
 -- Assumes nothing.
-use Prim.Native.Nat.{ℕ, _+_, _≤_}
+use Prim.Native.Nat.{ℕ, _+_, _<_, _≤_}
 use mathlib.Core.Path.{_≡_, sym, ap, _∙_}
 use mathlib.Core.List.{List, [], _∷_, _++_, append-assoc}
 use native.Mathlib.Omega.{arith}
-use lib.ListN.{length, getD, drop, length-drop}
+use lib.ListN.{length, getD, drop, length-drop, length-append, length-replicate}
 use lib.Seq.{length-take-le}
 use Rattle.rules.specs.Name.{Name, encodeName}
-use Rattle.words.specs.Prints.{Prints}
-use Rattle.words.specs.Task.{Task, Done}
-use Rattle.words.specs.Steps.{passed, pass-then, Named, named}
+use Rattle.words.specs.Prints.{Prints, brackets}
+use Rattle.words.specs.Task.{Task, Done, places}
+use Rattle.words.specs.Steps.{chain, finish, passed, pass-then, no-more, Named, named}
 use Rattle.phrases.specs.Task.{nameAt, afterName, NameIn}
 
 module _ {s : List ℕ} {at : ℕ} {x : Name} (n : Named s at x) where
@@ -62,3 +62,28 @@ regroup u a b c w = rw (append-assoc a b c) at w
 pub spread : (x u y v w : List ℕ) → x ++ (u ++ (y ++ (v ++ w))) ≡ (x ++ (u ++ (y ++ v))) ++ w
 spread x u y v w =
     sym (append-assoc x (u ++ (y ++ v)) w ∙ ap (λ (l : List ℕ). x ++ l) (append-assoc u (y ++ v) w ∙ ap (λ (l : List ℕ). u ++ l) (append-assoc y v w)))
+
+-- a name, and brackets after it
+module _ {s : List ℕ} {at : ℕ} {out : List ℕ} {to : ℕ} (x : Name) (c : ℕ) (t : Task s at out to (encodeName x) (x ++ brackets c)) where
+  last-named : Named s at x
+  last-named = named x [] (no-more t)
+
+  pub last-in : length x ≤ 24 → NameIn s at
+  last-in h = name-in last-named h
+
+  module _ {o : List ℕ} {p q : ℕ} (a : Prints out to (nameAt s at) o p) (h : q ≡ afterName s at) where
+    last-prints : Prints out to x o p
+    last-prints = rw (name-is last-named) at a
+
+    pub last-room : p + c + 8 ≤ length o
+    last-room = omega (arith, t .room, last-prints .ends, last-prints .long, length-append x (brackets c), length-replicate {A = ℕ} c 41)
+
+    module _ {o₁ : List ℕ} {r : ℕ} (b : Prints o p (brackets c) o₁ r) where
+      whole-prints : Prints out to (x ++ brackets c) o₁ r
+      whole-prints = chain last-prints b
+
+      pub last-places : (q < 65536) × (r < 65536)
+      last-places = (omega (arith, h, last-named .long, last-named .fits, t .short), omega (arith, whole-prints .ends, t .low))
+
+      pub last-done : {w : ℕ} → w ≡ places q r → Done at out to (encodeName x) (x ++ brackets c) o₁ w
+      last-done e = finish whole-prints (omega (arith, e, h, last-named .long, whole-prints .ends))

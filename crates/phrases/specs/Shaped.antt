@@ -1,4 +1,4 @@
--- A variable, a leaf, and discard: what each call is asked, and that what they print is the term's text.
+-- A leaf, and discard: what each call is asked, and that what they print is the term's text.
 -- Assumes nothing.
 use Prim.Native.Nat.{ℕ, _+_, _<_, _≤_}
 use mathlib.Core.Path.{_≡_, refl, sym, ap, _∙_}
@@ -6,18 +6,15 @@ use mathlib.Core.List.{List, [], _∷_, _++_, append-assoc, append-nil}
 use native.Mathlib.Omega.{arith}
 use lib.ListN.{length, getD}
 use Rattle.rules.specs.Basic.{say}
-use Rattle.rules.specs.Name.{Name, nameMost}
 use Rattle.rules.specs.Term.{Term, var, leaf, one, two, abs, both, branch, Leaf, discard, leafTag, encode}
 use Rattle.rules.specs.Text.{leafText, text}
-use Rattle.laws.specs.Names.{name-long}
 use Rattle.walk.specs.Place.{TermsAt}
 use Rattle.words.specs.Prints.{Prints}
 use Rattle.words.specs.Task.{Task, places}
-use Rattle.words.specs.Steps.{finish, ends-in, first-byte, passed, printed, pass-then, print-then, print-last, no-more, Named, named}
-use Rattle.phrases.specs.Task.{TermTask, TermDone, nameAt, afterName, NameIn}
+use Rattle.words.specs.Steps.{ends-in, first-byte, passed, printed, pass-then, print-then, print-last}
+use Rattle.phrases.specs.Task.{TermTask, TermDone}
 use Rattle.phrases.specs.Words.{signOf}
 use Rattle.phrases.specs.Shapes.{leaf-word, leaf-low}
-use Rattle.phrases.specs.Names.{name-in, name-is}
 
 -- a word that was chosen by the tag
 pub chosen : (b k : ℕ) {w out : List ℕ} {to : ℕ} {o : List ℕ} {p : ℕ} → b ≡ k → signOf k ≡ w → Prints out to (signOf b) o p → Prints out to w o p
@@ -33,27 +30,6 @@ module _ {s : List ℕ} {at : ℕ} {out : List ℕ} {to : ℕ} where
   begun (abs x e) t = omega (arith, ends-in (t .task))
   begun (both k x y e b) t = omega (arith, ends-in (t .task))
   begun (branch x y e l r) t = omega (arith, ends-in (t .task))
-
-  -- ---- a variable
-  module _ (x : Name) (t : TermTask s at out to (var x)) where
-    var-named : Named s (at + 1) x
-    unfolding encode
-    var-named = named x [] (no-more (passed (1 ∷ []) (t .task)))
-
-    pub var-in : NameIn s (at + 1)
-    var-in = name-in var-named (name-long nameMost x (t .legal) .1)
-
-    module _ {o : List ℕ} {p q : ℕ} (a : Prints out to (nameAt s (at + 1)) o p) (h : q ≡ afterName s (at + 1)) where
-      var-prints : Prints out to x o p
-      var-prints = rw (name-is var-named) at a
-
-      pub var-places : (q < 65536) × (p < 65536)
-      unfolding text
-      var-places = (omega (arith, h, var-in .fits, t .task .short), omega (arith, var-prints .ends, t .task .low))
-
-      pub var-done : {r : ℕ} → r ≡ places q p → TermDone at out to (var x) o r
-      unfolding encode text
-      var-done e = finish var-prints (omega (arith, e, h, var-named .long, var-prints .ends))
 
   -- ---- a leaf
   module _ (k : Leaf) (t : TermTask s at out to (leaf k)) where

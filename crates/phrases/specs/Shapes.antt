@@ -11,7 +11,7 @@ use Rattle.rules.specs.Basic.{say, _≤?_}
 use Rattle.rules.specs.Term.{Term, two, Leaf, unit, trivial, One, inl, inr, fst, snd, abort, promote, derelict, Two, pair, app, discard, leafTag, oneTag, twoTag}
 use Rattle.rules.specs.Text.{leafText, oneText, text}
 use Rattle.laws.specs.Same.{both-true}
-use Rattle.phrases.specs.Words.{longOf, signOf}
+use Rattle.phrases.specs.Words.{longOf, signOf, betweenOf}
 
 -- what is printed in brackets
 abbrev pub Bracketed : Two → Type 0
@@ -61,13 +61,8 @@ one-low abort = omega arith
 one-low promote = omega arith
 one-low derelict = omega arith
 
-pub two-text : (k : Two) → Bracketed k → (a b : Term) → text (two k a b) ≡ say "(" ++ (text a ++ (signOf (twoTag k) ++ (text b ++ say ")")))
+pub two-text : (k : Two) → Bracketed k → (a b : Term) → text (two k a b) ≡ say "(" ++ (text a ++ (betweenOf (twoTag k) ++ (text b ++ say ")")))
 unfolding text
 two-text pair h a b = refl
 two-text app h a b = refl
 two-text discard h a b = absurd h
-
-pub two-low : (k : Two) → Bracketed k → twoTag k < 16
-two-low pair h = omega arith
-two-low app h = omega arith
-two-low discard h = absurd h

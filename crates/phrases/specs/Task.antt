@@ -3,7 +3,7 @@ use Prim.Native.Nat.{ℕ, _+_, _≤_}
 use mathlib.Core.List.{List}
 use lib.ListN.{length, getD, take, drop}
 use Rattle.rules.specs.Legal.{Legal}
-use Rattle.rules.specs.Term.{Term, encode}
+use Rattle.rules.specs.Term.{Term, var, leaf, one, two, abs, both, branch, pair, app, discard, encode}
 use Rattle.rules.specs.Text.{text}
 use Rattle.words.specs.Task.{Task, Done}
 
@@ -25,3 +25,15 @@ afterName s i = i + 1 + getD s i 0
 pub record NameIn (s : List ℕ) (i : ℕ) : Type 0 where
   pub few : getD s i 0 ≤ 24
   pub fits : afterName s i ≤ length s
+
+-- it is not one of the terms with whose last part the walk goes on
+abbrev pub Whole : Term → Type 0
+Whole (var x) = ⊥
+Whole (leaf k) = Unit {0}
+Whole (one k e) = ⊥
+Whole (two pair a b) = ⊥
+Whole (two app a b) = ⊥
+Whole (two discard a b) = Unit {0}
+Whole (abs x e) = ⊥
+Whole (both k x y e b) = Unit {0}
+Whole (branch x y e l r) = Unit {0}

@@ -8,15 +8,15 @@ use lib.ListN.{length, getD, length-append, length-replicate}
 use Rattle.rules.specs.Basic.{say}
 use Rattle.rules.specs.Name.{Name, encodeName, nameMost}
 use Rattle.rules.specs.Legal.{Legal}
-use Rattle.rules.specs.Term.{Term, one, two, abs, One, Two, oneTag, twoTag, encode}
+use Rattle.rules.specs.Term.{Term, var, one, two, abs, One, Two, oneTag, twoTag, encode}
 use Rattle.rules.specs.Text.{oneText, text}
 use Rattle.laws.specs.Names.{name-long}
 use Rattle.words.specs.Prints.{Prints, brackets}
 use Rattle.words.specs.Task.{Task, Done}
 use Rattle.words.specs.Steps.{first-byte, passed, printed, part-of, part-end, after-part, part-then, pass-then, print-then, no-more, no-more-done, told, told-done, Named, named}
 use Rattle.phrases.specs.Task.{TermTask, TermDone, nameAt, afterName, NameIn}
-use Rattle.phrases.specs.Words.{signOf}
-use Rattle.phrases.specs.Shapes.{Bracketed, one-word, one-low, two-text, two-low}
+use Rattle.phrases.specs.Words.{signOf, betweenOf}
+use Rattle.phrases.specs.Shapes.{Bracketed, one-word, one-low, two-text}
 use Rattle.phrases.specs.Names.{name-in, name-is, after-one, one-then}
 use Rattle.phrases.specs.Shaped.{chosen}
 
@@ -90,12 +90,12 @@ module _ {s : List ℕ} {at : ℕ} {out₀ : List ℕ} {to : ℕ} {T : Term} {ou
   -- ---- a pair or an application: its bracket is counted
   module _ (k : Two) (z : Bracketed k) (f g : Term) (a : At s at out₀ to T out i o c (two k f g)) where
     abbrev later : List ℕ
-    later = signOf (twoTag k) ++ (text g ++ brackets (c + 1))
+    later = betweenOf (twoTag k) ++ (text g ++ brackets (c + 1))
 
     two-spelt : text (two k f g) ++ brackets c ≡ say "(" ++ (text f ++ later)
     two-spelt =
         let q : suc c ≡ c + 1 = omega arith in
-        let x = signOf (twoTag k) in
+        let x = betweenOf (twoTag k) in
         ap (λ (l : List ℕ). l ++ brackets c) (two-text k z f g)
         ∙ ap (λ (l : List ℕ). say "(" ++ l)
         (append-assoc (text f) (x ++ (text g ++ say ")")) (brackets c) ∙ ap (λ (l : List ℕ). text f ++ l)
@@ -105,10 +105,29 @@ module _ {s : List ℕ} {at : ℕ} {out₀ : List ℕ} {to : ℕ} {T : Term} {ou
     pub two-room : o < length out
     two-room = omega (arith, a .task .room)
 
+    after-tag : Task s (i + 1) out o (encode f ++ encode g) (say "(" ++ (text f ++ later))
+    unfolding encode
+    after-tag = passed (twoTag k ∷ []) (told two-spelt (a .task))
+
+    pub first-part : TermTask s (i + 1) out o f
+    first-part =
+        let u = after-tag in
+        let m : length (text f ++ later) ≡ length (text f) + length later = length-append (text f) later in
+        record {
+          legal = a .legal .0;
+          task = record {
+            inside = u .inside;
+            rest = encode g ++ u .rest;
+            bytes = u .bytes ∙ append-assoc (encode f) (encode g) (u .rest);
+            room = omega (arith, u .room);
+            short = u .short;
+            low = omega (arith, u .low);
+          };
+        }
+
     module _ {o₁ : List ℕ} {p : ℕ} (b : Prints out o (40 ∷ []) o₁ p) where
       two-parts : Task s (i + 1) o₁ p (encode f ++ encode g) (text f ++ later)
-      unfolding encode
-      two-parts = printed (say "(") (passed (twoTag k ∷ []) (told two-spelt (a .task))) b
+      two-parts = printed (say "(") after-tag b
 
       pub left-part : TermTask s (i + 1) o₁ p f
       left-part = record { legal = a .legal .0; task = part-of (encode f) (encode g) (text f) later two-parts }
@@ -120,20 +139,76 @@ module _ {s : List ℕ} {at : ℕ} {out₀ : List ℕ} {to : ℕ} {T : Term} {ou
         pub two-further : i < l % 65536
         two-further = omega (arith, part-end (encode f) (encode g) (text f) later two-parts d)
 
-        pub between-asked : (getD s i 0 < 16) × (l / 65536 + 9 ≤ length o₂)
-        unfolding encode
-        between-asked = (omega (arith, first-byte (a .task), two-low k z), omega (arith, between .room))
+        pub between-room : l / 65536 + 8 ≤ length o₂
+        between-room = omega (arith, between .room)
 
-        pub two-turn : {o₃ : List ℕ} {q : ℕ} → Prints o₂ (l / 65536) (signOf (getD s i 0)) o₃ q → At s at out₀ to T o₃ (l % 65536) q (c + 1) g
+        pub two-turn : {o₃ : List ℕ} {q : ℕ} → Prints o₂ (l / 65536) (betweenOf (getD s i 0)) o₃ q → At s at out₀ to T o₃ (l % 65536) q (c + 1) g
         unfolding encode
         two-turn {o₃} {q} e =
-            let w : Prints o₂ (l / 65536) (signOf (twoTag k)) o₃ q = chosen (getD s i 0) (twoTag k) (first-byte (a .task)) refl e in
+            let w : Prints o₂ (l / 65536) (betweenOf (twoTag k)) o₃ q = rw (ap (λ (n : ℕ). betweenOf n) (first-byte (a .task))) at e in
             record {
               legal = a .legal .1;
-              task = printed (signOf (twoTag k)) between w;
+              task = printed (betweenOf (twoTag k)) between w;
               gives = λ r. a .gives (told-done (sym two-spelt)
                   (pass-then (twoTag k ∷ []) (encode f ++ encode g) (print-then b (part-then (encode f) (encode g) (text f) later two-parts d (print-then w r)))));
             }
+
+  -- ---- a variable: the end
+  module _ (x : Name) (a : At s at out₀ to T out i o c (var x)) where
+    pub last-task : Task s (i + 1) out o (encodeName x) (x ++ brackets c)
+    unfolding encode text
+    last-task = passed (1 ∷ []) (a .task)
+
+    pub last-long : length x ≤ 24
+    last-long = name-long nameMost x (a .legal) .1
+
+    pub last-done : {o₁ : List ℕ} {r : ℕ} → Done (i + 1) out o (encodeName x) (x ++ brackets c) o₁ r → TermDone at out₀ to T o₁ r
+    unfolding encode text
+    last-done d = a .gives (pass-then (1 ∷ []) (encodeName x) d)
+
+  -- ---- a pair or an application whose first part is a variable
+  module _ (k : Two) (z : Bracketed k) (x : Name) (g : Term) (a : At s at out₀ to T out i o c (two k (var x) g)) where
+    abbrev name-opens : List ℕ
+    name-opens = say "(" ++ (x ++ betweenOf (twoTag k))
+
+    abbrev body : List ℕ
+    body = text g ++ brackets (c + 1)
+
+    name-spelt : text (two k (var x) g) ++ brackets c ≡ name-opens ++ body
+    unfolding text
+    name-spelt = two-spelt k z (var x) g a ∙ ap (λ (l : List ℕ). say "(" ++ l) (sym (append-assoc x (betweenOf (twoTag k)) body))
+
+    name-task : Task s (i + 2) out o (encodeName x ++ encode g) (name-opens ++ body)
+    unfolding encode
+    name-task = passed (twoTag k ∷ 1 ∷ []) (told name-spelt (a .task))
+
+    first-named : Named s (i + 2) x
+    first-named = named x (encode g) name-task
+
+    pub first-asked : NameIn s (i + 2) × (o + getD s (i + 2) 0 + 26 ≤ length out)
+    first-asked =
+        let m : length (brackets (c + 1)) ≡ c + 1 = length-replicate {A = ℕ} (c + 1) 41 in (
+          name-in first-named (name-long nameMost x (a .legal .0) .1),
+          omega (
+            arith,
+            first-named .long,
+            name-task .room,
+            length-append name-opens body,
+            length-append x (betweenOf (twoTag k)),
+            length-append (text g) (brackets (c + 1)),
+          ),
+        )
+
+    pub first-turn : {o₁ : List ℕ} {p q : ℕ} → Prints out o (say "(" ++ (nameAt s (i + 2) ++ betweenOf (getD s i 0))) o₁ p → q ≡ afterName s (i + 2)
+        → At s at out₀ to T o₁ q p (c + 1) g
+    unfolding encode
+    first-turn {o₁} {p} {q} b h =
+        let w : Prints out o name-opens o₁ p = rw (name-is first-named, ap (λ (n : ℕ). betweenOf n) (first-byte (a .task))) at b in
+        record {
+          legal = a .legal .1;
+          task = rw h (printed name-opens (after-one x (encode g) name-task) w);
+          gives = λ d. a .gives (told-done (sym name-spelt) (pass-then (twoTag k ∷ 1 ∷ []) (encodeName x ++ encode g) (one-then x (encode g) name-task (print-then w (rw h at d)))));
+        }
 
   -- ---- an abstraction
   module _ (x : Name) (f : Term) (a : At s at out₀ to T out i o c (abs x f)) where

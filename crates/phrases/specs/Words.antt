@@ -1,5 +1,5 @@
 -- What the tags of terms stand for, in numbers: the words that a tag chooses. Assumes nothing: these are definitions.
-use Prim.Native.Nat.{ℕ, _*_, _/_, _%_, _^_}
+use Prim.Native.Nat.{ℕ, _+_, _*_, _/_, _%_, _^_}
 use mathlib.Core.List.{List, [], _∷_, _++_}
 use lib.ListN.{getD, take}
 use Rattle.words.specs.Prints.{eight}
@@ -18,3 +18,11 @@ longOf k = 10481079216882328064 / 2 ^ (k * 4) % 16
 
 abbrev pub signOf : (tag : ℕ) → List ℕ
 signOf k = take (longOf k) (eight (wordOf k) ++ 32 ∷ [])
+
+-- what stands between the parts of a pair or an application
+abbrev pub betweenOf : (tag : ℕ) → List ℕ
+betweenOf k = take (1 + k % 2) (eight (0x2020 + 12 * (k % 2)))
+
+-- 1 for the tags of nodes with one part and no name
+abbrev pub onePart : (tag : ℕ) → ℕ
+onePart k = 63872 / 2 ^ (k % 32) % 2

@@ -1,15 +1,19 @@
-// Words and names of a term's text: the word that a tag chooses, names with the words around them, a variable, a leaf.
+// Words and names of a term's text: the word that a tag chooses, names with the words around them, a leaf.
 ghost use mathlib.Core.Path.{_≡_};
 ghost use Prim.Native.Nat.{_+_, _≤_, _<_};
 ghost use lib.ListN.{length, getD, take};
 ghost use Rattle.rules.specs.Basic.{say, _‥_};
-ghost use Rattle.rules.specs.Name.{Name};
-ghost use Rattle.rules.specs.Term.{Leaf, var as varOf, leaf as leafOf};
-ghost use Rattle.words.specs.Prints.{Prints};
+ghost use Rattle.rules.specs.Name.{Name, encodeName};
+ghost use Rattle.rules.specs.Term.{Leaf, leaf as leafOf};
+ghost use Rattle.words.specs.Prints.{Prints, brackets};
+ghost use Rattle.words.specs.Task.{Task, Done};
 ghost use Rattle.phrases.specs.Task.{TermTask, TermDone, nameAt, afterName, NameIn};
-ghost use Rattle.phrases.specs.Words.{wordOf, longOf, signOf};
+ghost use Rattle.phrases.specs.Words.{wordOf, longOf, signOf, onePart, betweenOf};
+use words::byte;
+use words::closes;
 use words::name;
 use words::named;
+use words::number;
 use words::past;
 use words::places;
 use words::spaced;
@@ -52,6 +56,22 @@ pub fn sign(tag: u8, out: &mut [u8], to: usize) -> usize
     ensures { λ r. ⌜ Prints (now (out .entry)) to (signOf tag) (now (out .exit)) r ⌝ }
 {
     spaced(out, to, word_of(tag), long_of(tag as usize))
+}
+
+// 1 for a tag of nodes with one part and no name, 0 for any other: one bit a tag.
+pub fn one_part(tag: u8) -> usize
+    ensures { λ r. ⌜ r ≡ onePart tag ⌝ }
+{
+    (63872usize >> (tag % 32) as usize) % 2
+}
+
+// What stands between the parts of a pair, a comma and a space, or of an application, a space.
+pub fn between(tag: u8, out: &mut [u8], to: usize) -> usize
+    requires { ⌜ to + 8 ≤ length (now out) ⌝ }
+    ensures { λ r. ⌜ Prints (now (out .entry)) to (betweenOf tag) (now (out .exit)) r ⌝ }
+{
+    let comma = tag % 2;
+    number(out, to, 0x2020 + 12 * comma as u64, 1 + comma as usize)
 }
 
 // `λ`, the name and `. `
@@ -109,13 +129,24 @@ pub fn right_name(s: &[u8], y: usize, out: &mut [u8], to: usize) -> usize
     named(s, y, out, a, b" =>     ", 4)
 }
 
-pub fn var(s: &[u8], at: usize, out: &mut [u8], to: usize) -> usize
-    requires { ⌜ ((x : Name) × TermTask (now s) at (now out) to (varOf x)) ⌝ }
-    ensures { λ r. ⌜ ((x : Name) → TermTask (now (s .entry)) at (now (out .entry)) to (varOf x) → TermDone at (now (out .entry)) to (varOf x) (now (out .exit)) r) ⌝ }
+// The bracket of a pair or an application, its first part where this is a variable, and what stands before the second.
+pub fn first_name(tag: u8, s: &[u8], x: usize, out: &mut [u8], to: usize) -> usize
+    requires { ⌜ NameIn (now s) x × (to + getD (now s) x 0 + 26 ≤ length (now out)) ⌝ }
+    ensures { λ r. ⌜ Prints (now (out .entry)) to (say "(" ‥ nameAt (now (s .entry)) x ‥ betweenOf tag) (now (out .exit)) r ⌝ }
 {
-    let first = at + 1;
-    let o = name(s, first, out, to);
-    places(past(s, first), o)
+    let a = byte(out, to, b'(');
+    let b = name(s, x, out, a);
+    between(tag, out, b)
+}
+
+// A name, and n closing brackets after it. The length is read before anything is written, and so once.
+pub fn last_name(s: &[u8], x: usize, out: &mut [u8], to: usize, n: usize) -> usize
+    requires { ⌜ ((y : Name) × (length y ≤ 24) × Task (now s) x (now out) to (encodeName y) (y ‥ brackets n)) ⌝ }
+    ensures { λ r. ⌜ ((y : Name) → Task (now (s .entry)) x (now (out .entry)) to (encodeName y) (y ‥ brackets n) → Done x (now (out .entry)) to (encodeName y) (y ‥ brackets n) (now (out .exit)) r) ⌝ }
+{
+    let end = past(s, x);
+    let a = name(s, x, out, to);
+    places(end, closes(out, a, n))
 }
 
 pub fn leaf(s: &[u8], at: usize, out: &mut [u8], to: usize) -> usize

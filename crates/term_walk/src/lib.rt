@@ -2,15 +2,18 @@
 ghost use mathlib.Core.Path.{_≡_};
 ghost use Rattle.rules.specs.Name.{Name};
 ghost use Rattle.rules.specs.Term.{Term, two as twoOf, both as bothOf, branch as branchOf, discard as discardOf, letPair as letPairOf, copy as copyOf};
-ghost use Rattle.phrases.specs.Task.{TermTask, TermDone};
+ghost use Rattle.phrases.specs.Task.{TermTask, TermDone, Whole};
+use phrases::between;
 use phrases::bound_name;
+use phrases::first_name;
+use phrases::last_name;
 use phrases::leaf;
 use phrases::left_name;
+use phrases::one_part;
 use phrases::past_names;
 use phrases::right_name;
 use phrases::sign;
 use phrases::two_names;
-use phrases::var;
 use words::byte;
 use words::closed;
 use words::past;
@@ -65,18 +68,22 @@ fn case(s: &[u8], at: usize, out: &mut [u8], to: usize) -> usize
     places(r % 65536, d)
 }
 
-// The first part of a pair or an application is mostly a variable, and needs no call of `walk`.
-fn part(s: &[u8], at: usize, out: &mut [u8], to: usize) -> usize
-    requires { ⌜ ((t : Term) × TermTask (now s) at (now out) to t) ⌝ }
-    ensures { λ r. ⌜ ((t : Term) → TermTask (now (s .entry)) at (now (out .entry)) to t → TermDone at (now (out .entry)) to t (now (out .exit)) r) ⌝ }
+// A leaf, let, copy, case or discard: one with whose last part `walk` does not go on.
+fn whole(s: &[u8], at: usize, out: &mut [u8], to: usize) -> usize
+    requires { ⌜ ((t : Term) × Whole t × TermTask (now s) at (now out) to t) ⌝ }
+    ensures { λ r. ⌜ ((t : Term) → Whole t → TermTask (now (s .entry)) at (now (out .entry)) to t → TermDone at (now (out .entry)) to t (now (out .exit)) r) ⌝ }
 {
-    if s[at] == 1 {
-        return var(&*s, at, out, to);
+    match s[at] {
+        2 | 10 => leaf(&*s, at, out, to),
+        4 => let_pair(&*s, at, out, to),
+        9 => case(&*s, at, out, to),
+        16 => discard(&*s, at, out, to),
+        _ => copy(&*s, at, out, to),
     }
-    walk(&*s, at, out, to)
 }
 
-// Goes on with the last part in its own loop where nothing but brackets comes after it, and keeps count of these.
+// Goes on with the last part in its own loop where nothing but brackets comes after it, and keeps count of these. The first part of a pair or an
+// application is mostly a variable, and needs no call.
 pub fn walk(s: &[u8], at: usize, out: &mut [u8], to: usize) -> usize
     requires { ⌜ ((t : Term) × TermTask (now s) at (now out) to t) ⌝ }
     ensures { λ r. ⌜ ((t : Term) → TermTask (now (s .entry)) at (now (out .entry)) to t → TermDone at (now (out .entry)) to t (now (out .exit)) r) ⌝ }
@@ -86,49 +93,36 @@ pub fn walk(s: &[u8], at: usize, out: &mut [u8], to: usize) -> usize
     let mut brackets = 0;
     loop {
         let tag = s[i];
+        let x = i + 1;
         match tag {
-            1 => {
-                let r = var(&*s, i, out, o);
-                return closed(out, r, brackets);
-            }
-            2 | 10 => {
-                let r = leaf(&*s, i, out, o);
-                return closed(out, r, brackets);
-            }
+            1 => return last_name(s, x, out, o, brackets),
             3 | 6 => {
-                let a = byte(out, o, b'(');
-                let l = part(&*s, i + 1, out, a);
-                o = sign(tag, out, l / 65536);
-                i = l % 65536;
                 brackets += 1;
+                if s[x] == 1 {
+                    let y = i + 2;
+                    i = past(s, y);
+                    o = first_name(tag, s, y, out, o);
+                    continue;
+                }
+                o = byte(out, o, b'(');
+                let l = walk(&*s, x, out, o);
+                o = between(tag, out, l / 65536);
+                i = l % 65536;
                 continue;
-            }
-            4 => {
-                let r = let_pair(&*s, i, out, o);
-                return closed(out, r, brackets);
             }
             5 => {
-                let x = i + 1;
-                o = bound_name(s, x, out, o);
                 i = past(s, x);
+                o = bound_name(s, x, out, o);
                 continue;
-            }
-            9 => {
-                let r = case(&*s, i, out, o);
-                return closed(out, r, brackets);
-            }
-            16 => {
-                let r = discard(&*s, i, out, o);
-                return closed(out, r, brackets);
-            }
-            17 => {
-                let r = copy(&*s, i, out, o);
-                return closed(out, r, brackets);
             }
             _ => {
-                o = sign(tag, out, o);
-                i += 1;
-                continue;
+                if one_part(tag) == 1 {
+                    o = sign(tag, out, o);
+                    i = x;
+                    continue;
+                }
+                let r = whole(&*s, i, out, o);
+                return closed(out, r, brackets);
             }
         }
     }

@@ -1,52 +1,55 @@
 -- The proof of the cycle of calls over a term: each shape prints its words and names and hands its parts on, further on in the bytes. Assumes nothing.
-use mathlib.Core.Path.{refl, ap, _∙_}
+use mathlib.Core.Path.{refl, sym, _∙_}
 use mathlib.Core.List.{[], _∷_}
 use native.Mathlib.Omega.{arith}
+use lib.ListN.{length}
 use Rattle.rules.specs.Term.{both as bothOf, two as twoOf, branch as branchOf, discard as discardOf, letPair as letPairOf, copy as copyOf}
 use Rattle.words.specs.Steps.{chain}
-use Rattle.phrases.specs.Inverts.{shapeOf, a-var, a-two, an-abs, two-key, made-of, made-one}
 use Rattle.phrases.specs.Shaped.{begun, discard-terms, discard-room, discard-further, discard-part, discard-done}
-use Rattle.phrases.specs.Binders.{let-in, let-room, let-part, let-further, let-between-room, let-body, let-done, copy-in, copy-room, copy-part, copy-further, copy-between-room, copy-body, copy-done, case-in, case-room, case-part, left-further, left-room, left-branch, right-further, right-room, right-branch, end-room, case-places, case-done}
-use Rattle.phrases.specs.Walking.{Going, begin, here, brackets-room, ends, few-brackets, one-asked, one-turn, two-room, left-part, two-further, between-asked, two-turn, abs-in, abs-room, abs-turn}
-use Rattle.phrases.specs.Calls.{var-here, var-called, leaf-here, leaf-called, let-here, let-called, case-here, case-called, discard-here, discard-called, copy-here, copy-called}
+use Rattle.phrases.specs.Binders.{let-in, let-room, let-part, let-further, let-between-room, let-body, let-done, copy-in, copy-room, copy-part, copy-further, copy-between-room, copy-body, copy-done, case-in, case-room, case-part, left-further as case-left-further, left-room as case-left-room, left-branch, right-further, right-room, right-branch, end-room, case-places, case-done}
+use Rattle.phrases.specs.Walking.{Going, begin, few-brackets}
+use Rattle.phrases.specs.Turns.{on-begun, name-here, name-ends, first-begun, first-here, first-next, open-room, left-here, left-further, left-room, left-next, bound-here, bound-next, one-here, one-next, whole-here, whole-room, whole-ends}
+use Rattle.phrases.specs.Calls.{leaf-here, leaf-called, let-here, let-called, case-here, case-called, discard-here, discard-called, copy-here, copy-called}
 use Prim.Native.Nat.{ℕ, _+_, _*_, _-_, _<_}
-use lib.ListN.{length}
 use borrow.Fn.Kinds.{In}
 use borrow.Fn.PlainCycle.{Measures, is, falls, and}
 use Rattle.term_walk.proofs.case.Reads as case
 use Rattle.term_walk.proofs.case.Kinds as case-kinds
-use Rattle.term_walk.proofs.+case+copy+discard+let_pair+part+walk.Lts-case as case-lts
+use Rattle.term_walk.proofs.+case+copy+discard+let_pair+walk+whole.Lts-case as case-lts
 use Rattle.term_walk.proofs.copy.Reads as copy
 use Rattle.term_walk.proofs.copy.Kinds as copy-kinds
-use Rattle.term_walk.proofs.+case+copy+discard+let_pair+part+walk.Lts-copy as copy-lts
+use Rattle.term_walk.proofs.+case+copy+discard+let_pair+walk+whole.Lts-copy as copy-lts
 use Rattle.term_walk.proofs.discard.Reads as discard
 use Rattle.term_walk.proofs.discard.Kinds as discard-kinds
-use Rattle.term_walk.proofs.+case+copy+discard+let_pair+part+walk.Lts-discard as discard-lts
+use Rattle.term_walk.proofs.+case+copy+discard+let_pair+walk+whole.Lts-discard as discard-lts
 use Rattle.term_walk.proofs.let_pair.Reads as let-pair
 use Rattle.term_walk.proofs.let_pair.Kinds as let-pair-kinds
-use Rattle.term_walk.proofs.+case+copy+discard+let_pair+part+walk.Lts-let_pair as let-pair-lts
-use Rattle.term_walk.proofs.part.Reads as part
-use Rattle.term_walk.proofs.part.Kinds as part-kinds
-use Rattle.term_walk.proofs.+case+copy+discard+let_pair+part+walk.Lts-part as part-lts
+use Rattle.term_walk.proofs.+case+copy+discard+let_pair+walk+whole.Lts-let_pair as let-pair-lts
 use Rattle.term_walk.proofs.walk.Reads as walk
 use Rattle.term_walk.proofs.walk.Kinds as walk-kinds
-use Rattle.term_walk.proofs.+case+copy+discard+let_pair+part+walk.Lts-walk as walk-lts
+use Rattle.term_walk.proofs.+case+copy+discard+let_pair+walk+whole.Lts-walk as walk-lts
+use Rattle.term_walk.proofs.whole.Reads as whole
+use Rattle.term_walk.proofs.whole.Kinds as whole-kinds
+use Rattle.term_walk.proofs.+case+copy+discard+let_pair+walk+whole.Lts-whole as whole-lts
+use Rattle.phrases.proofs.between.Reads as between-reads
 use Rattle.phrases.proofs.bound_name.Reads as bound-name-reads
-use Rattle.words.proofs.byte.Reads as byte-reads
-use Rattle.words.proofs.closed.Reads as closed-reads
+use Rattle.phrases.proofs.first_name.Reads as first-name-reads
+use Rattle.phrases.proofs.last_name.Reads as last-name-reads
 use Rattle.phrases.proofs.leaf.Reads as leaf-reads
 use Rattle.phrases.proofs.left_name.Reads as left-name-reads
-use Rattle.words.proofs.past.Reads as past-reads
+use Rattle.phrases.proofs.one_part.Reads as one-part-reads
 use Rattle.phrases.proofs.past_names.Reads as past-names-reads
-use Rattle.words.proofs.places.Reads as places-reads
 use Rattle.phrases.proofs.right_name.Reads as right-name-reads
 use Rattle.phrases.proofs.sign.Reads as sign-reads
-use Rattle.walk.proofs.skip.Reads as skip-reads
 use Rattle.phrases.proofs.two_names.Reads as two-names-reads
-use Rattle.phrases.proofs.var.Reads as var-reads
+use Rattle.walk.proofs.skip.Reads as skip-reads
+use Rattle.words.proofs.byte.Reads as byte-reads
+use Rattle.words.proofs.closed.Reads as closed-reads
+use Rattle.words.proofs.past.Reads as past-reads
+use Rattle.words.proofs.places.Reads as places-reads
 use Rattle.words.proofs.word.Reads as word-reads
-use Rattle.term_walk.proofs.+case+copy+discard+let_pair+part+walk.{statement}
-use Rattle.term_walk.proofs.+case+copy+discard+let_pair+part+walk.Tie.{close}
+use Rattle.term_walk.proofs.+case+copy+discard+let_pair+walk+whole.{statement}
+use Rattle.term_walk.proofs.+case+copy+discard+let_pair+walk+whole.Tie.{close}
 
 abbrev μ-case : Measures 2 case-kinds.ps ℕ
 μ-case κs a = 3 * (length (a .0 .now) - a .1 .0)
@@ -60,11 +63,11 @@ abbrev μ-discard : Measures 2 discard-kinds.ps ℕ
 abbrev μ-let-pair : Measures 2 let-pair-kinds.ps ℕ
 μ-let-pair κs a = 3 * (length (a .0 .now) - a .1 .0)
 
-abbrev μ-part : Measures 2 part-kinds.ps ℕ
-μ-part κs a = 3 * (length (a .0 .now) - a .1 .0) + 2
-
 abbrev μ-walk : Measures 2 walk-kinds.ps ℕ
-μ-walk κs a = 3 * (length (a .0 .now) - a .1 .0) + 1
+μ-walk κs a = 3 * (length (a .0 .now) - a .1 .0) + 2
+
+abbrev μ-whole : Measures 2 whole-kinds.ps ℕ
+μ-whole κs a = 3 * (length (a .0 .now) - a .1 .0) + 1
 
 abbrev case-at : ℕ → In 2 case-kinds.ps
 case-at t = and 2 case-kinds.ps (is 2 case-kinds.ps μ-case t) case.Pre
@@ -88,19 +91,20 @@ abbrev let-pair-at : ℕ → In 2 let-pair-kinds.ps
 let-pair-at t = and 2 let-pair-kinds.ps (is 2 let-pair-kinds.ps μ-let-pair t) let-pair.Pre
 
 abbrev let-pair-below : ℕ → In 2 let-pair-kinds.ps
-let-pair-below t = and 2 let-pair-kinds.ps (falls 2 let-pair-kinds.ps _<_ μ-let-pair t) let-pair.Pre
-
-abbrev part-at : ℕ → In 2 part-kinds.ps
-part-at t = and 2 part-kinds.ps (is 2 part-kinds.ps μ-part t) part.Pre
-
-abbrev part-below : ℕ → In 2 part-kinds.ps
-part-below t = and 2 part-kinds.ps (falls 2 part-kinds.ps _<_ μ-part t) part.Pre
+let-pair-below t =
+    and 2 let-pair-kinds.ps (falls 2 let-pair-kinds.ps _<_ μ-let-pair t) let-pair.Pre
 
 abbrev walk-at : ℕ → In 2 walk-kinds.ps
 walk-at t = and 2 walk-kinds.ps (is 2 walk-kinds.ps μ-walk t) walk.Pre
 
 abbrev walk-below : ℕ → In 2 walk-kinds.ps
 walk-below t = and 2 walk-kinds.ps (falls 2 walk-kinds.ps _<_ μ-walk t) walk.Pre
+
+abbrev whole-at : ℕ → In 2 whole-kinds.ps
+whole-at t = and 2 whole-kinds.ps (is 2 whole-kinds.ps μ-whole t) whole.Pre
+
+abbrev whole-below : ℕ → In 2 whole-kinds.ps
+whole-below t = and 2 whole-kinds.ps (falls 2 whole-kinds.ps _<_ μ-whole t) whole.Pre
 
 abbrev case-claims : ℕ → case-lts.Claims
 case-claims t = (past-reads.Asked, past-reads.Learnt, word-reads.Asked, word-reads.Learnt, past-names-reads.Asked, past-names-reads.Learnt, walk-below t, walk.Post, left-name-reads.Asked, left-name-reads.Learnt, right-name-reads.Asked, right-name-reads.Learnt, places-reads.Asked, places-reads.Learnt)
@@ -114,11 +118,11 @@ discard-claims t = (word-reads.Asked, word-reads.Learnt, skip-reads.Asked, skip-
 abbrev let-pair-claims : ℕ → let-pair-lts.Claims
 let-pair-claims t = (two-names-reads.Asked, two-names-reads.Learnt, past-names-reads.Asked, past-names-reads.Learnt, walk-below t, walk.Post, word-reads.Asked, word-reads.Learnt)
 
-abbrev part-claims : ℕ → part-lts.Claims
-part-claims t = (var-reads.Asked, var-reads.Learnt, walk-below t, walk.Post)
-
 abbrev walk-claims : ℕ → walk-lts.Claims
-walk-claims t = (var-reads.Asked, var-reads.Learnt, closed-reads.Asked, closed-reads.Learnt, leaf-reads.Asked, leaf-reads.Learnt, byte-reads.Asked, byte-reads.Learnt, part-below t, part.Post, sign-reads.Asked, sign-reads.Learnt, let-pair-below t, let-pair.Post, bound-name-reads.Asked, bound-name-reads.Learnt, past-reads.Asked, past-reads.Learnt, case-below t, case.Post, discard-below t, discard.Post, copy-below t, copy.Post)
+walk-claims t = (last-name-reads.Asked, last-name-reads.Learnt, past-reads.Asked, past-reads.Learnt, first-name-reads.Asked, first-name-reads.Learnt, byte-reads.Asked, byte-reads.Learnt, walk-below t, walk.Post, between-reads.Asked, between-reads.Learnt, bound-name-reads.Asked, bound-name-reads.Learnt, one-part-reads.Asked, one-part-reads.Learnt, sign-reads.Asked, sign-reads.Learnt, whole-below t, whole.Post, closed-reads.Asked, closed-reads.Learnt)
+
+abbrev whole-claims : ℕ → whole-lts.Claims
+whole-claims t = (leaf-reads.Asked, leaf-reads.Learnt, let-pair-below t, let-pair.Post, case-below t, case.Post, discard-below t, discard.Post, copy-below t, copy.Post)
 
 case-add-x : (t : ℕ) → case-lts.Need-add-x (case-claims t) (case-at t) case.Post
 case-add-x t c = let w = c .before .before .pre .1 in omega (arith, begun (branchOf (w .0) (w .1) (w .2) (w .3) (w .4)) (w .5))
@@ -144,7 +148,7 @@ case-left-name-requires t c κs =
     let a = c .before .before .before .before .before .before .before .before .word .ensures in
     let h = c .before .before .before .before .before .past-names .ensures in
     let d = c .before .before .before .walk .ensures (w .2) (case-part (w .0) (w .1) (w .2) (w .3) (w .4) (w .5) a h) in
-    (case-in (w .0) (w .1) (w .2) (w .3) (w .4) (w .5) .0, left-room (w .0) (w .1) (w .2) (w .3) (w .4) (w .5) a h d)
+    (case-in (w .0) (w .1) (w .2) (w .3) (w .4) (w .5) .0, case-left-room (w .0) (w .1) (w .2) (w .3) (w .4) (w .5) a h d)
 
 case-walk-requires-2 : (t : ℕ) → case-lts.Need-walk-requires-2 (case-claims t) (case-at t) case.Post
 case-walk-requires-2 t c κs =
@@ -152,7 +156,7 @@ case-walk-requires-2 t c κs =
     let a = c .before .before .before .before .before .before .before .before .before .before .before .before .word .ensures in
     let h = c .before .before .before .before .before .before .before .before .before .past-names .ensures in
     let d = c .before .before .before .before .before .before .before .walk .ensures (w .2) (case-part (w .0) (w .1) (w .2) (w .3) (w .4) (w .5) a h) in
-    (omega (arith, c .before .before .before .before .before .before .before .before .before .before .before .before .before .before .before .before .before .before .pre .0, begun (branchOf (w .0) (w .1) (w .2) (w .3) (w .4)) (w .5), left-further (w .0) (w .1) (w .2) (w .3) (w .4) (w .5) a h d), (w .3, left-branch (w .0) (w .1) (w .2) (w .3) (w .4) (w .5) a h d (c .before .before .before .left-name .ensures)))
+    (omega (arith, c .before .before .before .before .before .before .before .before .before .before .before .before .before .before .before .before .before .before .pre .0, begun (branchOf (w .0) (w .1) (w .2) (w .3) (w .4)) (w .5), case-left-further (w .0) (w .1) (w .2) (w .3) (w .4) (w .5) a h d), (w .3, left-branch (w .0) (w .1) (w .2) (w .3) (w .4) (w .5) a h d (c .before .before .before .left-name .ensures)))
 
 case-right-name-requires : (t : ℕ) → case-lts.Need-right-name-requires (case-claims t) (case-at t) case.Post
 case-right-name-requires t c κs =
@@ -328,30 +332,6 @@ let-pair-returns t c x y f g w =
     let b = c .before .before .before .before .before .before .word .ensures in
     let-done x y f g w a h d b (c .before .before .walk2 .ensures g (let-body x y f g w a h d b))
 
-part-shared-slice-read-if1 : (t : ℕ) → part-lts.Need-shared-slice-read-if1 (part-claims t) (part-at t) part.Post
-part-shared-slice-read-if1 t c = let w = c .before .before .before .pre .1 in begun (w .0) (w .1)
-
-part-var-requires : (t : ℕ) → part-lts.Need-var-requires (part-claims t) (part-at t) part.Post
-part-var-requires t c κs =
-    let w = c .before .before .before .before .before .pre .1 in
-    let v = made-of a-var (w .0) (w .1) (ap (λ (k : ℕ). shapeOf k) (c .before .if1 .taken)) in
-    (v .0, rw (v .1) at (w .1))
-
-part-same-length : (t : ℕ) → part-lts.Need-same-length (part-claims t) (part-at t) part.Post
-part-same-length t c = c .before .before .var .kept .1 .1 .0
-
-part-returns : (t : ℕ) → part-lts.Need-returns (part-claims t) (part-at t) part.Post
-part-returns t c f w = let v = made-of a-var f w (ap (λ (k : ℕ). shapeOf k) (c .before .before .before .before .if1 .taken)) in rw (v .1) (c .before .before .var .ensures (v .0) (rw (v .1) at w))
-
-part-walk-requires : (t : ℕ) → part-lts.Need-walk-requires (part-claims t) (part-at t) part.Post
-part-walk-requires t c κs = (omega (arith, c .before .before .before .before .before .pre .0), c .before .before .before .before .before .pre .1)
-
-part-same-length-2 : (t : ℕ) → part-lts.Need-same-length-2 (part-claims t) (part-at t) part.Post
-part-same-length-2 t c = c .before .before .walk .kept .1 .1 .0
-
-part-returns-2 : (t : ℕ) → part-lts.Need-returns-2 (part-claims t) (part-at t) part.Post
-part-returns-2 t c = c .before .before .walk .ensures
-
 abbrev walk-Inv-loop : walk-lts.InvT-loop
 walk-Inv-loop s at out₀ to i₀ o₀ brackets₀ out i o brackets = Going s at out₀ to out i o brackets
 
@@ -363,304 +343,205 @@ walk-loop-holds t c = begin _ _ _ _
 
 walk-shared-slice-read-tag : (t : ℕ) → walk-lts.Need-shared-slice-read-tag (walk-claims t) (walk-at t) walk.Post walk-Inv-loop walk-μ-loop
 walk-shared-slice-read-tag t c =
-    let g = c .before .loop .inv in
     let w = c .before .before .before .before .pre .1 in
-    let n = g .on (w .0) (w .1) in
-    begun (n .t) (here n)
-
-walk-var-requires : (t : ℕ) → walk-lts.Need-var-requires (walk-claims t) (walk-at t) walk.Post walk-Inv-loop walk-μ-loop
-walk-var-requires t c κs =
-    let g = c .before .before .before .loop .inv in
-    let w = c .before .before .before .before .before .before .pre .1 in
-    let n = g .on (w .0) (w .1) in
-    var-here n (c .before .match .keys1)
-
-walk-closed-requires : (t : ℕ) → walk-lts.Need-closed-requires (walk-claims t) (walk-at t) walk.Post walk-Inv-loop walk-μ-loop
-walk-closed-requires t c κs =
-    let g = c .before .before .before .before .before .before .before .loop .inv in
-    let w = c .before .before .before .before .before .before .before .before .before .before .pre .1 in
-    let n = g .on (w .0) (w .1) in
-    brackets-room n (var-called n (c .before .before .before .before .before .match .keys1) (c .before .before .before .var .ensures))
-
-walk-same-length : (t : ℕ) → walk-lts.Need-same-length (walk-claims t) (walk-at t) walk.Post walk-Inv-loop walk-μ-loop
-walk-same-length t c = c .before .before .closed .ensures .prints .long ∙ c .before .before .before .before .before .before .var .kept .1 .1 .0 ∙ c .before .before .before .before .before .before .before .before .before .before .loop .inv .same
-
-walk-returns : (t : ℕ) → walk-lts.Need-returns (walk-claims t) (walk-at t) walk.Post walk-Inv-loop walk-μ-loop
-walk-returns t c T w =
-    let g = c .before .before .before .before .before .before .before .before .before .before .loop .inv in
-    let n = g .on T w in
-    ends n (var-called n (c .before .before .before .before .before .before .before .before .match .keys1) (c .before .before .before .before .before .before .var .ensures)) (c .before .before .closed .ensures)
-
-walk-leaf-requires : (t : ℕ) → walk-lts.Need-leaf-requires (walk-claims t) (walk-at t) walk.Post walk-Inv-loop walk-μ-loop
-walk-leaf-requires t c κs =
-    let g = c .before .before .before .loop .inv in
-    let w = c .before .before .before .before .before .before .pre .1 in
-    let n = g .on (w .0) (w .1) in
-    leaf-here n (c .before .match .keys2)
-
-walk-closed-requires-2 : (t : ℕ) → walk-lts.Need-closed-requires-2 (walk-claims t) (walk-at t) walk.Post walk-Inv-loop walk-μ-loop
-walk-closed-requires-2 t c κs =
-    let g = c .before .before .before .before .before .before .before .loop .inv in
-    let w = c .before .before .before .before .before .before .before .before .before .before .pre .1 in
-    let n = g .on (w .0) (w .1) in
-    brackets-room n (leaf-called n (c .before .before .before .before .before .match .keys2) (c .before .before .before .leaf .ensures))
-
-walk-same-length-2 : (t : ℕ) → walk-lts.Need-same-length-2 (walk-claims t) (walk-at t) walk.Post walk-Inv-loop walk-μ-loop
-walk-same-length-2 t c = c .before .before .closed2 .ensures .prints .long ∙ c .before .before .before .before .before .before .leaf .kept .1 .1 .0 ∙ c .before .before .before .before .before .before .before .before .before .before .loop .inv .same
-
-walk-returns-2 : (t : ℕ) → walk-lts.Need-returns-2 (walk-claims t) (walk-at t) walk.Post walk-Inv-loop walk-μ-loop
-walk-returns-2 t c T w =
-    let g = c .before .before .before .before .before .before .before .before .before .before .loop .inv in
-    let n = g .on T w in
-    ends n (leaf-called n (c .before .before .before .before .before .before .before .before .match .keys2) (c .before .before .before .before .before .before .leaf .ensures)) (c .before .before .closed2 .ensures)
-
-walk-byte-requires : (t : ℕ) → walk-lts.Need-byte-requires (walk-claims t) (walk-at t) walk.Post walk-Inv-loop walk-μ-loop
-walk-byte-requires t c κs =
-    let g = c .before .before .before .loop .inv in
-    let w = c .before .before .before .before .before .before .pre .1 in
-    let n = g .on (w .0) (w .1) in
-    let v = made-of a-two (n .t) (here n) (two-key (c .before .match .keys3)) in
-    let a = rw (v .4) at (n .stands) in
-    two-room (v .0) (v .1) (v .2) (v .3) a
-
-walk-add-part : (t : ℕ) → walk-lts.Need-add-part (walk-claims t) (walk-at t) walk.Post walk-Inv-loop walk-μ-loop
-walk-add-part t c =
-    let g = c .before .before .before .before .before .before .loop .inv in
-    let w = c .before .before .before .before .before .before .before .before .before .pre .1 in
-    let n = g .on (w .0) (w .1) in
-    omega (arith, begun (n .t) (here n))
-
-walk-part-requires : (t : ℕ) → walk-lts.Need-part-requires (walk-claims t) (walk-at t) walk.Post walk-Inv-loop walk-μ-loop
-walk-part-requires t c κs =
-    let g = c .before .before .before .before .before .before .before .loop .inv in
-    let w = c .before .before .before .before .before .before .before .before .before .before .pre .1 in
-    let n = g .on (w .0) (w .1) in
-    let v = made-of a-two (n .t) (here n) (two-key (c .before .before .before .before .before .match .keys3)) in
-    let a = rw (v .4) at (n .stands) in
-    (omega (arith, c .before .before .before .before .before .before .before .before .before .before .pre .0, g .past, begun (n .t) (here n)), (v .2, left-part (v .0) (v .1) (v .2) (v .3) a (c .before .before .before .byte .ensures)))
-
-walk-sign-requires : (t : ℕ) → walk-lts.Need-sign-requires (walk-claims t) (walk-at t) walk.Post walk-Inv-loop walk-μ-loop
-walk-sign-requires t c κs =
-    let g = c .before .before .before .before .before .before .before .before .before .before .before .loop .inv in
-    let w = c .before .before .before .before .before .before .before .before .before .before .before .before .before .before .pre .1 in
-    let n = g .on (w .0) (w .1) in
-    let v = made-of a-two (n .t) (here n) (two-key (c .before .before .before .before .before .before .before .before .before .match .keys3)) in
-    let a = rw (v .4) at (n .stands) in
-    let b = c .before .before .before .before .before .before .before .byte .ensures in
-    let d = c .before .before .before .part .ensures (v .2) (left-part (v .0) (v .1) (v .2) (v .3) a b) in
-    between-asked (v .0) (v .1) (v .2) (v .3) a b d
-
-walk-add-brackets : (t : ℕ) → walk-lts.Need-add-brackets (walk-claims t) (walk-at t) walk.Post walk-Inv-loop walk-μ-loop
-walk-add-brackets t c =
-    let g = c .before .before .before .before .before .before .before .before .before .before .before .before .before .before .loop .inv in
-    let w = c .before .before .before .before .before .before .before .before .before .before .before .before .before .before .before .before .before .pre .1 in
-    let n = g .on (w .0) (w .1) in
-    omega (arith, few-brackets n)
-
-walk-loop-less : (t : ℕ) → walk-lts.Need-loop-less (walk-claims t) (walk-at t) walk.Post walk-Inv-loop walk-μ-loop
-walk-loop-less t c =
-    let g = c .before .before .before .before .before .before .before .before .before .before .before .before .before .before .loop .inv in
-    let w = c .before .before .before .before .before .before .before .before .before .before .before .before .before .before .before .before .before .pre .1 in
-    let n = g .on (w .0) (w .1) in
-    let v = made-of a-two (n .t) (here n) (two-key (c .before .before .before .before .before .before .before .before .before .before .before .before .match .keys3)) in
-    let a = rw (v .4) at (n .stands) in
-    let b = c .before .before .before .before .before .before .before .before .before .before .byte .ensures in
-    let d = c .before .before .before .before .before .before .part .ensures (v .2) (left-part (v .0) (v .1) (v .2) (v .3) a b) in
-    omega (arith, begun (n .t) (here n), two-further (v .0) (v .1) (v .2) (v .3) a b d)
-
-walk-loop-again : (t : ℕ) → walk-lts.Need-loop-again (walk-claims t) (walk-at t) walk.Post walk-Inv-loop walk-μ-loop
-walk-loop-again t c =
-    let g = c .before .before .before .before .before .before .before .before .before .before .before .before .before .before .loop .inv in
-    let w = c .before .before .before .before .before .before .before .before .before .before .before .before .before .before .before .before .before .pre .1 in
-    let n = g .on (w .0) (w .1) in
-    let v = made-of a-two (n .t) (here n) (two-key (c .before .before .before .before .before .before .before .before .before .before .before .before .match .keys3)) in
-    let a = rw (v .4) at (n .stands) in
-    let b = c .before .before .before .before .before .before .before .before .before .before .byte .ensures in
-    let d = c .before .before .before .before .before .before .part .ensures (v .2) (left-part (v .0) (v .1) (v .2) (v .3) a b) in
-    record {
-      same = c .before .before .sign .ensures .long ∙ c .before .before .before .before .before .before .part .kept .1 .1 .0 ∙ b .long ∙ g .same;
-      past = omega (arith, g .past, two-further (v .0) (v .1) (v .2) (v .3) a b d);
-      on = λ T y. (let m = g .on T y in let u = made-of a-two (m .t) (here m) (two-key (c .before .before .before .before .before .before .before .before .before .before .before .before .match .keys3)) in let z = rw (u .4) at (m .stands) in
-          record { t = u .3; stands = two-turn (u .0) (u .1) (u .2) (u .3) z b (c .before .before .before .before .before .before .part .ensures (u .2) (left-part (u .0) (u .1) (u .2) (u .3) z b)) (c .before .before .sign .ensures) });
-    }
-
-walk-let-pair-requires : (t : ℕ) → walk-lts.Need-let-pair-requires (walk-claims t) (walk-at t) walk.Post walk-Inv-loop walk-μ-loop
-walk-let-pair-requires t c κs =
-    let g = c .before .before .before .loop .inv in
-    let w = c .before .before .before .before .before .before .pre .1 in
-    let n = g .on (w .0) (w .1) in
-    (omega (arith, c .before .before .before .before .before .before .pre .0, g .past), let-here n (c .before .match .keys4))
-
-walk-closed-requires-3 : (t : ℕ) → walk-lts.Need-closed-requires-3 (walk-claims t) (walk-at t) walk.Post walk-Inv-loop walk-μ-loop
-walk-closed-requires-3 t c κs =
-    let g = c .before .before .before .before .before .before .before .loop .inv in
-    let w = c .before .before .before .before .before .before .before .before .before .before .pre .1 in
-    let n = g .on (w .0) (w .1) in
-    brackets-room n (let-called n (c .before .before .before .before .before .match .keys4) (c .before .before .before .let-pair .ensures))
-
-walk-same-length-3 : (t : ℕ) → walk-lts.Need-same-length-3 (walk-claims t) (walk-at t) walk.Post walk-Inv-loop walk-μ-loop
-walk-same-length-3 t c = c .before .before .closed3 .ensures .prints .long ∙ c .before .before .before .before .before .before .let-pair .kept .1 .1 .0 ∙ c .before .before .before .before .before .before .before .before .before .before .loop .inv .same
-
-walk-returns-3 : (t : ℕ) → walk-lts.Need-returns-3 (walk-claims t) (walk-at t) walk.Post walk-Inv-loop walk-μ-loop
-walk-returns-3 t c T w =
-    let g = c .before .before .before .before .before .before .before .before .before .before .loop .inv in
-    let n = g .on T w in
-    ends n (let-called n (c .before .before .before .before .before .before .before .before .match .keys4) (c .before .before .before .before .before .before .let-pair .ensures)) (c .before .before .closed3 .ensures)
+    let n = c .before .loop .inv .on (w .0) (w .1) in
+    on-begun n
 
 walk-add-x : (t : ℕ) → walk-lts.Need-add-x (walk-claims t) (walk-at t) walk.Post walk-Inv-loop walk-μ-loop
 walk-add-x t c =
-    let g = c .before .before .loop .inv in
-    let w = c .before .before .before .before .before .pre .1 in
-    let n = g .on (w .0) (w .1) in
-    omega (arith, begun (n .t) (here n))
+    let w = c .before .before .before .before .pre .1 in
+    let n = c .before .loop .inv .on (w .0) (w .1) in
+    omega (arith, on-begun n)
 
-walk-bound-name-requires : (t : ℕ) → walk-lts.Need-bound-name-requires (walk-claims t) (walk-at t) walk.Post walk-Inv-loop walk-μ-loop
-walk-bound-name-requires t c κs =
-    let g = c .before .before .before .loop .inv in
+walk-last-name-requires : (t : ℕ) → walk-lts.Need-last-name-requires (walk-claims t) (walk-at t) walk.Post walk-Inv-loop walk-μ-loop
+walk-last-name-requires t c κs =
     let w = c .before .before .before .before .before .before .pre .1 in
-    let n = g .on (w .0) (w .1) in
-    let v = made-of an-abs (n .t) (here n) (ap (λ (k : ℕ). shapeOf k) (c .before .match .keys5)) in
-    let a = rw (v .2) at (n .stands) in
-    (abs-in (v .0) (v .1) a, abs-room (v .0) (v .1) a)
+    let n = c .before .before .before .loop .inv .on (w .0) (w .1) in
+    name-here n (c .before .match .keys1)
+
+walk-same-length : (t : ℕ) → walk-lts.Need-same-length (walk-claims t) (walk-at t) walk.Post walk-Inv-loop walk-μ-loop
+walk-same-length t c = c .before .before .last-name .kept .1 .1 .0 ∙ c .before .before .before .before .before .before .loop .inv .same
+
+walk-returns : (t : ℕ) → walk-lts.Need-returns (walk-claims t) (walk-at t) walk.Post walk-Inv-loop walk-μ-loop
+walk-returns t c = λ T w. name-ends (c .before .before .before .before .before .before .loop .inv .on T w) (c .before .before .before .before .match .keys1) (c .before .before .last-name .ensures)
+
+walk-add-brackets : (t : ℕ) → walk-lts.Need-add-brackets (walk-claims t) (walk-at t) walk.Post walk-Inv-loop walk-μ-loop
+walk-add-brackets t c =
+    let w = c .before .before .before .before .before .pre .1 in
+    let n = c .before .before .loop .inv .on (w .0) (w .1) in
+    omega (arith, few-brackets n)
+
+walk-shared-slice-read-if1 : (t : ℕ) → walk-lts.Need-shared-slice-read-if1 (walk-claims t) (walk-at t) walk.Post walk-Inv-loop walk-μ-loop
+walk-shared-slice-read-if1 t c =
+    let w = c .before .before .before .before .before .before .pre .1 in
+    let n = c .before .before .before .loop .inv .on (w .0) (w .1) in
+    first-begun n (c .before .match .keys2)
+
+walk-add-y : (t : ℕ) → walk-lts.Need-add-y (walk-claims t) (walk-at t) walk.Post walk-Inv-loop walk-μ-loop
+walk-add-y t c =
+    let w = c .before .before .before .before .before .before .before .pre .1 in
+    let n = c .before .before .before .before .loop .inv .on (w .0) (w .1) in
+    omega (arith, first-begun n (c .before .before .match .keys2))
 
 walk-past-requires : (t : ℕ) → walk-lts.Need-past-requires (walk-claims t) (walk-at t) walk.Post walk-Inv-loop walk-μ-loop
 walk-past-requires t c κs =
-    let g = c .before .before .before .before .before .before .loop .inv in
+    let w = c .before .before .before .before .before .before .before .pre .1 in
+    let n = c .before .before .before .before .loop .inv .on (w .0) (w .1) in
+    first-here n (c .before .before .match .keys2) (c .if1 .taken) .0 .fits
+
+walk-first-name-requires : (t : ℕ) → walk-lts.Need-first-name-requires (walk-claims t) (walk-at t) walk.Post walk-Inv-loop walk-μ-loop
+walk-first-name-requires t c κs =
     let w = c .before .before .before .before .before .before .before .before .before .pre .1 in
-    let n = g .on (w .0) (w .1) in
-    let v = made-of an-abs (n .t) (here n) (ap (λ (k : ℕ). shapeOf k) (c .before .before .before .before .match .keys5)) in
-    let a = rw (v .2) at (n .stands) in
-    abs-in (v .0) (v .1) a .fits
+    let n = c .before .before .before .before .before .before .loop .inv .on (w .0) (w .1) in
+    first-here n (c .before .before .before .before .match .keys2) (c .before .before .if1 .taken)
+
+walk-loop-less : (t : ℕ) → walk-lts.Need-loop-less (walk-claims t) (walk-at t) walk.Post walk-Inv-loop walk-μ-loop
+walk-loop-less t c =
+    let w = c .before .before .before .before .before .before .before .before .before .before .before .before .pre .1 in
+    let n = c .before .before .before .before .before .before .before .before .before .loop .inv .on (w .0) (w .1) in
+    omega (arith, on-begun n, c .before .before .before .before .past .ensures)
+
+walk-loop-again : (t : ℕ) → walk-lts.Need-loop-again (walk-claims t) (walk-at t) walk.Post walk-Inv-loop walk-μ-loop
+walk-loop-again t c = record { same = c .before .before .first-name .ensures .long ∙ c .before .before .before .before .before .before .before .before .before .loop .inv .same; past = omega (arith, c .before .before .before .before .before .before .before .before .before .loop .inv .past, c .before .before .before .before .past .ensures); on = λ T w. first-next (c .before .before .before .before .before .before .before .before .before .loop .inv .on T w) (c .before .before .before .before .before .before .before .match .keys2) (c .before .before .before .before .before .if1 .taken) (c .before .before .first-name .ensures) (c .before .before .before .before .past .ensures) }
+
+walk-byte-requires : (t : ℕ) → walk-lts.Need-byte-requires (walk-claims t) (walk-at t) walk.Post walk-Inv-loop walk-μ-loop
+walk-byte-requires t c κs =
+    let w = c .before .before .before .before .before .before .before .before .pre .1 in
+    let n = c .before .before .before .before .before .loop .inv .on (w .0) (w .1) in
+    open-room n (c .before .before .before .match .keys2)
+
+walk-walk-requires : (t : ℕ) → walk-lts.Need-walk-requires (walk-claims t) (walk-at t) walk.Post walk-Inv-loop walk-μ-loop
+walk-walk-requires t c κs =
+    let w = c .before .before .before .before .before .before .before .before .before .before .before .before .pre .1 in
+    let n = c .before .before .before .before .before .before .before .before .before .loop .inv .on (w .0) (w .1) in
+    (omega (arith, c .before .before .before .before .before .before .before .before .before .before .before .before .pre .0, c .before .before .before .before .before .before .before .before .before .loop .inv .past, on-begun n), left-here n (c .before .before .before .before .before .before .before .match .keys2) (c .before .before .before .byte .ensures))
+
+walk-between-requires : (t : ℕ) → walk-lts.Need-between-requires (walk-claims t) (walk-at t) walk.Post walk-Inv-loop walk-μ-loop
+walk-between-requires t c κs =
+    let w = c .before .before .before .before .before .before .before .before .before .before .before .before .before .before .before .before .pre .1 in
+    let n = c .before .before .before .before .before .before .before .before .before .before .before .before .before .loop .inv .on (w .0) (w .1) in
+    left-room n (c .before .before .before .before .before .before .before .before .before .before .before .match .keys2) (c .before .before .before .before .before .before .before .byte .ensures) (c .before .before .before .walk .ensures)
 
 walk-loop-less-2 : (t : ℕ) → walk-lts.Need-loop-less-2 (walk-claims t) (walk-at t) walk.Post walk-Inv-loop walk-μ-loop
 walk-loop-less-2 t c =
-    let g = c .before .before .before .before .before .before .before .loop .inv in
-    let w = c .before .before .before .before .before .before .before .before .before .before .pre .1 in
-    let n = g .on (w .0) (w .1) in
-    let v = made-of an-abs (n .t) (here n) (ap (λ (k : ℕ). shapeOf k) (c .before .before .before .before .before .match .keys5)) in
-    let a = rw (v .2) at (n .stands) in
-    omega (arith, begun (n .t) (here n), c .past .ensures)
+    let w = c .before .before .before .before .before .before .before .before .before .before .before .before .before .before .before .before .before .before .before .pre .1 in
+    let n = c .before .before .before .before .before .before .before .before .before .before .before .before .before .before .before .before .loop .inv .on (w .0) (w .1) in
+    omega (arith, on-begun n, left-further n (c .before .before .before .before .before .before .before .before .before .before .before .before .before .before .match .keys2) (c .before .before .before .before .before .before .before .before .before .before .byte .ensures) (c .before .before .before .before .before .before .walk .ensures))
 
 walk-loop-again-2 : (t : ℕ) → walk-lts.Need-loop-again-2 (walk-claims t) (walk-at t) walk.Post walk-Inv-loop walk-μ-loop
 walk-loop-again-2 t c =
-    let g = c .before .before .before .before .before .before .before .loop .inv in
-    let w = c .before .before .before .before .before .before .before .before .before .before .pre .1 in
-    let n = g .on (w .0) (w .1) in
-    record {
-      same = c .before .before .before .bound-name .ensures .long ∙ g .same;
-      past = omega (arith, g .past, c .past .ensures);
-      on = λ T y. (let m = g .on T y in let u = made-of an-abs (m .t) (here m) (ap (λ (k : ℕ). shapeOf k) (c .before .before .before .before .before .match .keys5)) in
-          record { t = u .1; stands = abs-turn (u .0) (u .1) (rw (u .2) at (m .stands)) (c .before .before .before .bound-name .ensures) (c .past .ensures) });
-    }
+    let w = c .before .before .before .before .before .before .before .before .before .before .before .before .before .before .before .before .before .before .before .pre .1 in
+    let n = c .before .before .before .before .before .before .before .before .before .before .before .before .before .before .before .before .loop .inv .on (w .0) (w .1) in
+    record { same = c .before .before .between .ensures .long ∙ c .before .before .before .before .before .before .walk .kept .1 .1 .0 ∙ c .before .before .before .before .before .before .before .before .before .before .byte .ensures .long ∙ c .before .before .before .before .before .before .before .before .before .before .before .before .before .before .before .before .loop .inv .same; past = omega (arith, c .before .before .before .before .before .before .before .before .before .before .before .before .before .before .before .before .loop .inv .past, left-further n (c .before .before .before .before .before .before .before .before .before .before .before .before .before .before .match .keys2) (c .before .before .before .before .before .before .before .before .before .before .byte .ensures) (c .before .before .before .before .before .before .walk .ensures)); on = λ T y. left-next (c .before .before .before .before .before .before .before .before .before .before .before .before .before .before .before .before .loop .inv .on T y) (c .before .before .before .before .before .before .before .before .before .before .before .before .before .before .match .keys2) (c .before .before .before .before .before .before .before .before .before .before .byte .ensures) (c .before .before .before .before .before .before .walk .ensures) (c .before .before .between .ensures) }
 
-walk-case-requires : (t : ℕ) → walk-lts.Need-case-requires (walk-claims t) (walk-at t) walk.Post walk-Inv-loop walk-μ-loop
-walk-case-requires t c κs =
-    let g = c .before .before .before .loop .inv in
-    let w = c .before .before .before .before .before .before .pre .1 in
-    let n = g .on (w .0) (w .1) in
-    (omega (arith, c .before .before .before .before .before .before .pre .0, g .past), case-here n (c .before .match .keys6))
+walk-past-requires-2 : (t : ℕ) → walk-lts.Need-past-requires-2 (walk-claims t) (walk-at t) walk.Post walk-Inv-loop walk-μ-loop
+walk-past-requires-2 t c κs =
+    let w = c .before .before .before .before .before .pre .1 in
+    let n = c .before .before .loop .inv .on (w .0) (w .1) in
+    bound-here n (c .match .keys3) .0 .fits
 
-walk-closed-requires-4 : (t : ℕ) → walk-lts.Need-closed-requires-4 (walk-claims t) (walk-at t) walk.Post walk-Inv-loop walk-μ-loop
-walk-closed-requires-4 t c κs =
-    let g = c .before .before .before .before .before .before .before .loop .inv in
-    let w = c .before .before .before .before .before .before .before .before .before .before .pre .1 in
-    let n = g .on (w .0) (w .1) in
-    brackets-room n (case-called n (c .before .before .before .before .before .match .keys6) (c .before .before .before .case .ensures))
-
-walk-same-length-4 : (t : ℕ) → walk-lts.Need-same-length-4 (walk-claims t) (walk-at t) walk.Post walk-Inv-loop walk-μ-loop
-walk-same-length-4 t c = c .before .before .closed4 .ensures .prints .long ∙ c .before .before .before .before .before .before .case .kept .1 .1 .0 ∙ c .before .before .before .before .before .before .before .before .before .before .loop .inv .same
-
-walk-returns-4 : (t : ℕ) → walk-lts.Need-returns-4 (walk-claims t) (walk-at t) walk.Post walk-Inv-loop walk-μ-loop
-walk-returns-4 t c T w =
-    let g = c .before .before .before .before .before .before .before .before .before .before .loop .inv in
-    let n = g .on T w in
-    ends n (case-called n (c .before .before .before .before .before .before .before .before .match .keys6) (c .before .before .before .before .before .before .case .ensures)) (c .before .before .closed4 .ensures)
-
-walk-discard-requires : (t : ℕ) → walk-lts.Need-discard-requires (walk-claims t) (walk-at t) walk.Post walk-Inv-loop walk-μ-loop
-walk-discard-requires t c κs =
-    let g = c .before .before .before .loop .inv in
-    let w = c .before .before .before .before .before .before .pre .1 in
-    let n = g .on (w .0) (w .1) in
-    (omega (arith, c .before .before .before .before .before .before .pre .0, g .past), discard-here n (c .before .match .keys7))
-
-walk-closed-requires-5 : (t : ℕ) → walk-lts.Need-closed-requires-5 (walk-claims t) (walk-at t) walk.Post walk-Inv-loop walk-μ-loop
-walk-closed-requires-5 t c κs =
-    let g = c .before .before .before .before .before .before .before .loop .inv in
-    let w = c .before .before .before .before .before .before .before .before .before .before .pre .1 in
-    let n = g .on (w .0) (w .1) in
-    brackets-room n (discard-called n (c .before .before .before .before .before .match .keys7) (c .before .before .before .discard .ensures))
-
-walk-same-length-5 : (t : ℕ) → walk-lts.Need-same-length-5 (walk-claims t) (walk-at t) walk.Post walk-Inv-loop walk-μ-loop
-walk-same-length-5 t c = c .before .before .closed5 .ensures .prints .long ∙ c .before .before .before .before .before .before .discard .kept .1 .1 .0 ∙ c .before .before .before .before .before .before .before .before .before .before .loop .inv .same
-
-walk-returns-5 : (t : ℕ) → walk-lts.Need-returns-5 (walk-claims t) (walk-at t) walk.Post walk-Inv-loop walk-μ-loop
-walk-returns-5 t c T w =
-    let g = c .before .before .before .before .before .before .before .before .before .before .loop .inv in
-    let n = g .on T w in
-    ends n (discard-called n (c .before .before .before .before .before .before .before .before .match .keys7) (c .before .before .before .before .before .before .discard .ensures)) (c .before .before .closed5 .ensures)
-
-walk-copy-requires : (t : ℕ) → walk-lts.Need-copy-requires (walk-claims t) (walk-at t) walk.Post walk-Inv-loop walk-μ-loop
-walk-copy-requires t c κs =
-    let g = c .before .before .before .loop .inv in
-    let w = c .before .before .before .before .before .before .pre .1 in
-    let n = g .on (w .0) (w .1) in
-    (omega (arith, c .before .before .before .before .before .before .pre .0, g .past), copy-here n (c .before .match .keys8))
-
-walk-closed-requires-6 : (t : ℕ) → walk-lts.Need-closed-requires-6 (walk-claims t) (walk-at t) walk.Post walk-Inv-loop walk-μ-loop
-walk-closed-requires-6 t c κs =
-    let g = c .before .before .before .before .before .before .before .loop .inv in
-    let w = c .before .before .before .before .before .before .before .before .before .before .pre .1 in
-    let n = g .on (w .0) (w .1) in
-    brackets-room n (copy-called n (c .before .before .before .before .before .match .keys8) (c .before .before .before .copy .ensures))
-
-walk-same-length-6 : (t : ℕ) → walk-lts.Need-same-length-6 (walk-claims t) (walk-at t) walk.Post walk-Inv-loop walk-μ-loop
-walk-same-length-6 t c = c .before .before .closed6 .ensures .prints .long ∙ c .before .before .before .before .before .before .copy .kept .1 .1 .0 ∙ c .before .before .before .before .before .before .before .before .before .before .loop .inv .same
-
-walk-returns-6 : (t : ℕ) → walk-lts.Need-returns-6 (walk-claims t) (walk-at t) walk.Post walk-Inv-loop walk-μ-loop
-walk-returns-6 t c T w =
-    let g = c .before .before .before .before .before .before .before .before .before .before .loop .inv in
-    let n = g .on T w in
-    ends n (copy-called n (c .before .before .before .before .before .before .before .before .match .keys8) (c .before .before .before .before .before .before .copy .ensures)) (c .before .before .closed6 .ensures)
-
-walk-sign-requires-2 : (t : ℕ) → walk-lts.Need-sign-requires-2 (walk-claims t) (walk-at t) walk.Post walk-Inv-loop walk-μ-loop
-walk-sign-requires-2 t c κs =
-    let g = c .before .before .before .loop .inv in
-    let w = c .before .before .before .before .before .before .pre .1 in
-    let n = g .on (w .0) (w .1) in
-    let v = made-one (n .t) (here n) (c .before .match .rest) in
-    let a = rw (v .2) at (n .stands) in
-    one-asked (v .0) (v .1) a
-
-walk-add-i : (t : ℕ) → walk-lts.Need-add-i (walk-claims t) (walk-at t) walk.Post walk-Inv-loop walk-μ-loop
-walk-add-i t c =
-    let g = c .before .before .before .before .before .before .loop .inv in
-    let w = c .before .before .before .before .before .before .before .before .before .pre .1 in
-    let n = g .on (w .0) (w .1) in
-    omega (arith, begun (n .t) (here n))
+walk-bound-name-requires : (t : ℕ) → walk-lts.Need-bound-name-requires (walk-claims t) (walk-at t) walk.Post walk-Inv-loop walk-μ-loop
+walk-bound-name-requires t c κs =
+    let w = c .before .before .before .before .before .before .before .pre .1 in
+    let n = c .before .before .before .before .loop .inv .on (w .0) (w .1) in
+    bound-here n (c .before .before .match .keys3)
 
 walk-loop-less-3 : (t : ℕ) → walk-lts.Need-loop-less-3 (walk-claims t) (walk-at t) walk.Post walk-Inv-loop walk-μ-loop
 walk-loop-less-3 t c =
-    let g = c .before .before .before .before .before .before .loop .inv in
-    let w = c .before .before .before .before .before .before .before .before .before .pre .1 in
-    let n = g .on (w .0) (w .1) in
-    omega (arith, begun (n .t) (here n))
+    let w = c .before .before .before .before .before .before .before .before .before .before .pre .1 in
+    let n = c .before .before .before .before .before .before .before .loop .inv .on (w .0) (w .1) in
+    omega (arith, on-begun n, c .before .before .before .before .past2 .ensures)
 
 walk-loop-again-3 : (t : ℕ) → walk-lts.Need-loop-again-3 (walk-claims t) (walk-at t) walk.Post walk-Inv-loop walk-μ-loop
-walk-loop-again-3 t c =
-    let g = c .before .before .before .before .before .before .loop .inv in
-    let w = c .before .before .before .before .before .before .before .before .before .pre .1 in
-    let n = g .on (w .0) (w .1) in
-    record {
-      same = c .before .before .sign2 .ensures .long ∙ g .same;
-      past = omega (arith, g .past);
-      on = λ T y. (let m = g .on T y in let u = made-one (m .t) (here m) (c .before .before .before .before .match .rest) in
-          record { t = u .1; stands = one-turn (u .0) (u .1) (rw (u .2) at (m .stands)) (c .before .before .sign2 .ensures) });
-    }
+walk-loop-again-3 t c = record { same = c .before .before .bound-name .ensures .long ∙ c .before .before .before .before .before .before .before .loop .inv .same; past = omega (arith, c .before .before .before .before .before .before .before .loop .inv .past, c .before .before .before .before .past2 .ensures); on = λ T w. bound-next (c .before .before .before .before .before .before .before .loop .inv .on T w) (c .before .before .before .before .before .match .keys3) (c .before .before .bound-name .ensures) (c .before .before .before .before .past2 .ensures) }
 
-pub +case+copy+discard+let-pair+part+walk-spec : {M : Type 1} → statement M
-+case+copy+discard+let-pair+part+walk-spec =
-    close μ-case μ-copy μ-discard μ-let-pair μ-part μ-walk
-    (λ t. case-lts.spec (case-claims t) (case-at t)
+walk-one-part-requires : (t : ℕ) → walk-lts.Need-one-part-requires (walk-claims t) (walk-at t) walk.Post walk-Inv-loop walk-μ-loop
+walk-one-part-requires t c κs = tt
+
+walk-sign-requires : (t : ℕ) → walk-lts.Need-sign-requires (walk-claims t) (walk-at t) walk.Post walk-Inv-loop walk-μ-loop
+walk-sign-requires t c κs =
+    let w = c .before .before .before .before .before .before .before .before .pre .1 in
+    let n = c .before .before .before .before .before .loop .inv .on (w .0) (w .1) in
+    one-here n (sym (c .before .before .one-part .ensures) ∙ c .before .if2 .taken)
+
+walk-loop-less-4 : (t : ℕ) → walk-lts.Need-loop-less-4 (walk-claims t) (walk-at t) walk.Post walk-Inv-loop walk-μ-loop
+walk-loop-less-4 t c =
+    let w = c .before .before .before .before .before .before .before .before .before .before .before .pre .1 in
+    let n = c .before .before .before .before .before .before .before .before .loop .inv .on (w .0) (w .1) in
+    omega (arith, on-begun n)
+
+walk-loop-again-4 : (t : ℕ) → walk-lts.Need-loop-again-4 (walk-claims t) (walk-at t) walk.Post walk-Inv-loop walk-μ-loop
+walk-loop-again-4 t c = record { same = c .before .before .sign .ensures .long ∙ c .before .before .before .before .before .before .before .before .loop .inv .same; past = omega (arith, c .before .before .before .before .before .before .before .before .loop .inv .past); on = λ T w. one-next (c .before .before .before .before .before .before .before .before .loop .inv .on T w) (sym (c .before .before .before .before .before .one-part .ensures) ∙ c .before .before .before .before .if2 .taken) (c .before .before .sign .ensures) }
+
+walk-whole-requires : (t : ℕ) → walk-lts.Need-whole-requires (walk-claims t) (walk-at t) walk.Post walk-Inv-loop walk-μ-loop
+walk-whole-requires t c κs =
+    let w = c .before .before .before .before .before .before .before .before .pre .1 in
+    let n = c .before .before .before .before .before .loop .inv .on (w .0) (w .1) in
+    (omega (arith, c .before .before .before .before .before .before .before .before .pre .0, c .before .before .before .before .before .loop .inv .past), whole-here n (c .before .before .before .match .rest, λ q. c .before .if2 .left (c .before .before .one-part .ensures ∙ q)))
+
+walk-closed-requires : (t : ℕ) → walk-lts.Need-closed-requires (walk-claims t) (walk-at t) walk.Post walk-Inv-loop walk-μ-loop
+walk-closed-requires t c κs =
+    let w = c .before .before .before .before .before .before .before .before .before .before .before .before .pre .1 in
+    let n = c .before .before .before .before .before .before .before .before .before .loop .inv .on (w .0) (w .1) in
+    whole-room n (c .before .before .before .before .before .before .before .match .rest, λ q. c .before .before .before .before .before .if2 .left (c .before .before .before .before .before .before .one-part .ensures ∙ q)) (c .before .before .before .whole .ensures)
+
+walk-same-length-2 : (t : ℕ) → walk-lts.Need-same-length-2 (walk-claims t) (walk-at t) walk.Post walk-Inv-loop walk-μ-loop
+walk-same-length-2 t c = c .before .before .closed .ensures .prints .long ∙ c .before .before .before .before .before .before .whole .kept .1 .1 .0 ∙ c .before .before .before .before .before .before .before .before .before .before .before .before .loop .inv .same
+
+walk-returns-2 : (t : ℕ) → walk-lts.Need-returns-2 (walk-claims t) (walk-at t) walk.Post walk-Inv-loop walk-μ-loop
+walk-returns-2 t c = λ T w. whole-ends (c .before .before .before .before .before .before .before .before .before .before .before .before .loop .inv .on T w) (c .before .before .before .before .before .before .before .before .before .before .match .rest, λ q. c .before .before .before .before .before .before .before .before .if2 .left (c .before .before .before .before .before .before .before .before .before .one-part .ensures ∙ q)) (c .before .before .before .before .before .before .whole .ensures) (c .before .before .closed .ensures)
+
+whole-shared-slice-read-match : (t : ℕ) → whole-lts.Need-shared-slice-read-match (whole-claims t) (whole-at t) whole.Post
+whole-shared-slice-read-match t c = let w = c .before .before .before .pre .1 in begun (w .0) (w .2)
+
+whole-leaf-requires : (t : ℕ) → whole-lts.Need-leaf-requires (whole-claims t) (whole-at t) whole.Post
+whole-leaf-requires t c κs = let w = c .before .before .before .before .before .pre .1 in leaf-here (w .0) (w .2) (c .before .match .keys1)
+
+whole-let-pair-requires : (t : ℕ) → whole-lts.Need-let-pair-requires (whole-claims t) (whole-at t) whole.Post
+whole-let-pair-requires t c κs = let w = c .before .before .before .before .before .pre .1 in (omega (arith, c .before .before .before .before .before .pre .0), let-here (w .0) (w .2) (c .before .match .keys2))
+
+whole-case-requires : (t : ℕ) → whole-lts.Need-case-requires (whole-claims t) (whole-at t) whole.Post
+whole-case-requires t c κs = let w = c .before .before .before .before .before .pre .1 in (omega (arith, c .before .before .before .before .before .pre .0), case-here (w .0) (w .2) (c .before .match .keys3))
+
+whole-discard-requires : (t : ℕ) → whole-lts.Need-discard-requires (whole-claims t) (whole-at t) whole.Post
+whole-discard-requires t c κs = let w = c .before .before .before .before .before .pre .1 in (omega (arith, c .before .before .before .before .before .pre .0), discard-here (w .0) (w .2) (c .before .match .keys4))
+
+whole-copy-requires : (t : ℕ) → whole-lts.Need-copy-requires (whole-claims t) (whole-at t) whole.Post
+whole-copy-requires t c κs = let w = c .before .before .before .before .before .pre .1 in (omega (arith, c .before .before .before .before .before .pre .0), copy-here (w .0) (w .2) (w .1) (c .before .match .rest))
+
+whole-same-length : (t : ℕ) → whole-lts.Need-same-length (whole-claims t) (whole-at t) whole.Post
+whole-same-length t c = c .before .before .leaf .kept .1 .1 .0
+
+whole-returns : (t : ℕ) → whole-lts.Need-returns (whole-claims t) (whole-at t) whole.Post
+whole-returns t c = λ T z w. leaf-called T w (c .before .before .before .before .match .keys1) (c .before .before .leaf .ensures)
+
+whole-same-length-2 : (t : ℕ) → whole-lts.Need-same-length-2 (whole-claims t) (whole-at t) whole.Post
+whole-same-length-2 t c = c .before .before .let-pair .kept .1 .1 .0
+
+whole-returns-2 : (t : ℕ) → whole-lts.Need-returns-2 (whole-claims t) (whole-at t) whole.Post
+whole-returns-2 t c = λ T z w. let-called T w (c .before .before .before .before .match .keys2) (c .before .before .let-pair .ensures)
+
+whole-same-length-3 : (t : ℕ) → whole-lts.Need-same-length-3 (whole-claims t) (whole-at t) whole.Post
+whole-same-length-3 t c = c .before .before .case .kept .1 .1 .0
+
+whole-returns-3 : (t : ℕ) → whole-lts.Need-returns-3 (whole-claims t) (whole-at t) whole.Post
+whole-returns-3 t c = λ T z w. case-called T w (c .before .before .before .before .match .keys3) (c .before .before .case .ensures)
+
+whole-same-length-4 : (t : ℕ) → whole-lts.Need-same-length-4 (whole-claims t) (whole-at t) whole.Post
+whole-same-length-4 t c = c .before .before .discard .kept .1 .1 .0
+
+whole-returns-4 : (t : ℕ) → whole-lts.Need-returns-4 (whole-claims t) (whole-at t) whole.Post
+whole-returns-4 t c = λ T z w. discard-called T w (c .before .before .before .before .match .keys4) (c .before .before .discard .ensures)
+
+whole-same-length-5 : (t : ℕ) → whole-lts.Need-same-length-5 (whole-claims t) (whole-at t) whole.Post
+whole-same-length-5 t c = c .before .before .copy .kept .1 .1 .0
+
+whole-returns-5 : (t : ℕ) → whole-lts.Need-returns-5 (whole-claims t) (whole-at t) whole.Post
+whole-returns-5 t c = λ T z w. copy-called T w z (c .before .before .before .before .match .rest) (c .before .before .copy .ensures)
+
+pub +case+copy+discard+let-pair+walk+whole-spec : {M : Type 1} → statement M
++case+copy+discard+let-pair+walk+whole-spec =
+    close μ-case μ-copy μ-discard μ-let-pair μ-walk μ-whole (λ t. case-lts.spec (case-claims t) (case-at t)
     case.Post
     (case-add-x t)
     (case-past-requires t)
@@ -704,58 +585,55 @@ pub +case+copy+discard+let-pair+part+walk-spec : {M : Type 1} → statement M
     (let-pair-walk-requires-2 t)
     (let-pair-same-length t)
     (let-pair-returns t))
-    (λ t. part-lts.spec (part-claims t) (part-at t)
-    part.Post
-    (part-shared-slice-read-if1 t)
-    (part-var-requires t)
-    (part-same-length t)
-    (part-returns t)
-    (part-walk-requires t)
-    (part-same-length-2 t)
-    (part-returns-2 t))
-    λ t. walk-lts.spec (walk-claims t) (walk-at t)
+    (λ t. walk-lts.spec (walk-claims t) (walk-at t)
     walk.Post
     walk-Inv-loop
     walk-μ-loop
     (walk-loop-holds t)
     (walk-shared-slice-read-tag t)
-    (walk-var-requires t)
-    (walk-closed-requires t)
+    (walk-add-x t)
+    (walk-last-name-requires t)
     (walk-same-length t)
     (walk-returns t)
-    (walk-leaf-requires t)
-    (walk-closed-requires-2 t)
-    (walk-same-length-2 t)
-    (walk-returns-2 t)
-    (walk-byte-requires t)
-    (walk-add-part t)
-    (walk-part-requires t)
-    (walk-sign-requires t)
     (walk-add-brackets t)
+    (walk-shared-slice-read-if1 t)
+    (walk-add-y t)
+    (walk-past-requires t)
+    (walk-first-name-requires t)
     (walk-loop-less t)
     (walk-loop-again t)
-    (walk-let-pair-requires t)
-    (walk-closed-requires-3 t)
-    (walk-same-length-3 t)
-    (walk-returns-3 t)
-    (walk-add-x t)
-    (walk-bound-name-requires t)
-    (walk-past-requires t)
+    (walk-byte-requires t)
+    (walk-walk-requires t)
+    (walk-between-requires t)
     (walk-loop-less-2 t)
     (walk-loop-again-2 t)
-    (walk-case-requires t)
-    (walk-closed-requires-4 t)
-    (walk-same-length-4 t)
-    (walk-returns-4 t)
-    (walk-discard-requires t)
-    (walk-closed-requires-5 t)
-    (walk-same-length-5 t)
-    (walk-returns-5 t)
-    (walk-copy-requires t)
-    (walk-closed-requires-6 t)
-    (walk-same-length-6 t)
-    (walk-returns-6 t)
-    (walk-sign-requires-2 t)
-    (walk-add-i t)
+    (walk-past-requires-2 t)
+    (walk-bound-name-requires t)
     (walk-loop-less-3 t)
     (walk-loop-again-3 t)
+    (walk-one-part-requires t)
+    (walk-sign-requires t)
+    (walk-loop-less-4 t)
+    (walk-loop-again-4 t)
+    (walk-whole-requires t)
+    (walk-closed-requires t)
+    (walk-same-length-2 t)
+    (walk-returns-2 t))
+    λ t. whole-lts.spec (whole-claims t) (whole-at t)
+    whole.Post
+    (whole-shared-slice-read-match t)
+    (whole-leaf-requires t)
+    (whole-let-pair-requires t)
+    (whole-case-requires t)
+    (whole-discard-requires t)
+    (whole-copy-requires t)
+    (whole-same-length t)
+    (whole-returns t)
+    (whole-same-length-2 t)
+    (whole-returns-2 t)
+    (whole-same-length-3 t)
+    (whole-returns-3 t)
+    (whole-same-length-4 t)
+    (whole-returns-4 t)
+    (whole-same-length-5 t)
+    (whole-returns-5 t)
