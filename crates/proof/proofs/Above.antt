@@ -13,8 +13,9 @@ use Rattle.rules.specs.Reading.{Got, got, bad, Reader, Met, andThen, pure, many
 use Rattle.laws.specs.Holds.{told}
 use Rattle.laws.specs.Steady.{steady-got}
 use Rattle.laws.specs.SteadyProof.{steady-proof}
-use Rattle.proof.specs.Seen.{Reached, Reading, To, Fault, Before, NoCount, metBy, seen, found, countSeen}
-use Rattle.proof.specs.Stages.{formulaOf, rowOf, tagOf, ownOf, linearOf, countOf, Top, topOf}
+use Rattle.proof.proofs.Answers.{Reached, Reading, To, Fault, Before, NoCount}
+use Rattle.rule_bytes.specs.Seen.{metBy, seen, found, countSeen}
+use Rattle.rule_bytes.specs.Stages.{formulaOf, rowOf, tagOf, ownOf, linearOf, countOf, Top, topOf}
 use Rattle.proof.proofs.Views.{seen-made, seen-bad, Came, came, many-none, many-off, many-on}
 use Rattle.proof.proofs.Ways.{steady-top, Ruled, top-ruled, proof-onward}
 

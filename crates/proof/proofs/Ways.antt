@@ -14,8 +14,8 @@ use Rattle.laws.specs.Holds.{Holds, and-then, weaker}
 use Rattle.laws.specs.Keeps.{Kept, Keeps, keeps-byte, keeps-byteFor, keeps-then, keeps-many}
 use Rattle.laws.specs.Steady.{Steady, Along, along, to-steady, stands-next}
 use Rattle.laws.specs.SteadyProof.{OnFormulas, keeps-part, keeps-rule, keeps-proof}
-use Rattle.proof.specs.Stages.{formulaOf, rowOf, tagOf, ownOf, linearOf, countOf, topOf}
-use Rattle.proof.proofs.Tags.{Tagged, tag-holds}
+use Rattle.rule_bytes.specs.Stages.{formulaOf, rowOf, tagOf, ownOf, linearOf, countOf, topOf}
+use Rattle.rule_bytes.proofs.Tags.{Tagged, tag-holds}
 
 -- a tag makes T, and what keeps R keeps it
 record Begins (L : Limits) (T R : Met → ℕ → Bytes → Met → ℕ → Bytes → Type 0) : Type 0 where

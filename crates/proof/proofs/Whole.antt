@@ -3,9 +3,10 @@
 use Prim.Native.Nat.{ℕ, zero, suc, _<_, _≤_}
 use native.Mathlib.Omega.{arith}
 use mathlib.Core.Path.{_≡_, refl, ap, _∙_}
+use mathlib.Core.Bool.{Bool, true, false}
 use lib.ListN.{length}
-use borrow.Author.Tests.{lt-ltb, le-ltb}
-use Rattle.rules.specs.Basic.{Bytes}
+use borrow.Author.Tests.{lt-ltb, le-ltb, ltb-true, ltb-false}
+use Rattle.rules.specs.Basic.{Bytes, if_then_else_, _<?_}
 use Rattle.rules.specs.Limits.{Limits}
 use Rattle.rules.specs.Refusal.{refuse, mapped, answered}
 use Rattle.rules.specs.Proof.{Proof, rules}
@@ -16,8 +17,9 @@ use Rattle.laws.specs.Holds.{told}
 use Rattle.laws.specs.Octets.{Octets}
 use Rattle.laws.specs.SteadyProof.{steady-proof}
 use Rattle.laws.specs.SoundProof.{proof-reads}
-use Rattle.proof.specs.Seen.{Reached, Most, To, Fault, metBy, seen, found, within}
-use Rattle.proof.proofs.Places.{rest-in, rest-out}
+use Rattle.proof.proofs.Answers.{Reached, Most, To, Fault}
+use Rattle.rule_bytes.specs.Seen.{metBy, seen, found, within, endOf}
+use Rattle.rule_bytes.proofs.Places.{rest-in, rest-out}
 use Rattle.proof.proofs.Views.{seen-bad, Came, came}
 
 -- the limits on bytes and on nodes of a term are not asked for
@@ -54,11 +56,18 @@ module _ (i : ℕ) (s : Bytes) (L : Limits) {bytes : ℕ} {most : Most} (b : L .
       w : Came s first q
       w = came (proofAt (within most) (most .rules)) (steady-proof (within most) (most .rules)) s start (omega arith) e
 
-      pub whole-more : q .next < length s → answer ≡ answered (refuse 7 (q .next) i)
+      whole-more : q .next < length s → answer ≡ answered (refuse 7 (q .next) i)
       whole-more h = ends ∙ rw (w .is, rest-in s (q .next) h)
 
-      pub whole-good : Octets s → length s ≤ q .next → answer ≡ Good (q .rules)
+      whole-good : Octets s → length s ≤ q .next → answer ≡ Good (q .rules)
       whole-good o h =
           let t = told _ first (proof-reads (within most) (most .rules) (metBy start) 0 s o) (w .is) in
           let z : rules (w .value) ≡ q .rules = omega (arith, t .rules) in
           ends ∙ rw (w .is, rest-out s (q .next) h) (ap Good z)
+
+      pub whole-end : Octets s → answer ≡ endOf q (length s) i
+      whole-end o = go (q .next <? length s) refl
+        where
+          go : (b : Bool) → (q .next <? length s) ≡ b → answer ≡ (if b then answered (refuse 7 (q .next) i) else Good (q .rules))
+          go true h = whole-more (ltb-true (q .next) (length s) h)
+          go false h = whole-good o (ltb-false (q .next) (length s) h)

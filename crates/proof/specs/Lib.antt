@@ -1,3 +1,1 @@
-pub mod Seen
-pub mod Stages
 pub mod Accepted

@@ -1,49 +1,23 @@
 // Reads what stands before a rule's premises: its tag, what it carries, the formulas of `linear`, and the count of premises.
 ghost use mathlib.Core.Path.{_≡_};
-ghost use Prim.Native.Nat.{_+_, _^_, _≤_, _<_};
+ghost use Prim.Native.Nat.{_≤_};
 ghost use lib.ListN.{length};
 ghost use Rattle.rules.specs.Formula.{formulas as formulaLayout};
 ghost use Rattle.letters.specs.Classes.{Classes};
-ghost use Rattle.proof.specs.Seen.{pastByte, pastTag, seen, found, countSeen, within};
-ghost use Rattle.proof.specs.Stages.{rowOf, indexOf, ownOf, linearOf, countOf, topOf};
-use crate::Most;
-use crate::Reached;
-use crate::Reading;
-use crate::tag::Tag;
-use crate::tag::read_tag;
+ghost use Rattle.rule_bytes.specs.Seen.{seen, found, countSeen, within};
+ghost use Rattle.rule_bytes.specs.Stages.{rowOf, indexOf, ownOf, linearOf, topOf};
 use letters::Form;
 use letters::Read;
 use nodes::read_row;
-
-// Where the premises begin, and how many there are.
-pub enum Conclusion {
-    Before { reached: Reached, premises: usize },
-    Fault { number: u8, place: usize },
-}
-
-// The place after a byte.
-fn past_byte(from: Reached) -> Reached
-    requires { ⌜ from .next + 1 < 2 ^ 64 ⌝ }
-    ensures { λ r. ⌜ r ≡ pastByte from ⌝ }
-{
-    Reached {
-        next: from.next + 1,
-        rules: from.rules,
-        formulas: from.formulas,
-    }
-}
-
-// The place after a rule's tag, where one rule more was met.
-fn past_tag(from: Reached) -> Reached
-    requires { ⌜ (from .next + 1 < 2 ^ 64) × (from .rules + 1 < 2 ^ 64) ⌝ }
-    ensures { λ r. ⌜ r ≡ pastTag from ⌝ }
-{
-    Reached {
-        next: from.next + 1,
-        rules: from.rules + 1,
-        formulas: from.formulas,
-    }
-}
+use rule_bytes::Most;
+use rule_bytes::Reached;
+use rule_bytes::Reading;
+use rule_bytes::count::Conclusion;
+use rule_bytes::count::read_count;
+use rule_bytes::past_byte;
+use rule_bytes::past_tag;
+use rule_bytes::tag::Tag;
+use rule_bytes::tag::read_tag;
 
 // n formulas, one after the other.
 fn read_formulas(s: &[u8], t: &[u8; 256], most: Most, from: Reached, n: usize) -> Reading
@@ -120,28 +94,6 @@ fn read_linear(s: &[u8], t: &[u8; 256], most: Most, from: Reached) -> Reading
     }
     let at = from.next;
     read_formulas(s, t, most, past_byte(from), s[at] as usize)
-}
-
-// The count of premises.
-fn read_count(s: &[u8], from: Reached) -> Conclusion
-    ensures { λ r. ⌜ r ≡ countSeen (λ n. n) (found countOf (now (s .entry)) from) ⌝ }
-{
-    if s.len() <= from.next {
-        return Conclusion::Fault {
-            number: 3,
-            place: from.next,
-        };
-    }
-    let at = from.next;
-    let premises = s[at] as usize;
-    let reached = past_byte(from);
-    if 3 < premises {
-        return Conclusion::Fault {
-            number: 4,
-            place: at,
-        };
-    }
-    Conclusion::Before { reached, premises }
 }
 
 // All that stands before the premises.

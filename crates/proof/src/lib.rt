@@ -9,6 +9,9 @@ ghost use Rattle.rules.specs.Calls.{checkProofCall};
 use letters::Form;
 use letters::classes::table_of;
 use premises::read_rule;
+use rule_bytes::Most;
+use rule_bytes::Reading;
+use rule_bytes::at_end;
 use rules::Answer;
 use rules::MOST_BYTES;
 use rules::MOST_FORMULA_NODES;
@@ -17,26 +20,6 @@ use rules::Refusal;
 
 mod conclusion;
 mod premises;
-mod tag;
-
-// How far a reading has come: the next place, and the rules and formula nodes met so far.
-pub struct Reached {
-    pub next: usize,
-    pub rules: usize,
-    pub formulas: usize,
-}
-
-// How far it has come, or a fault.
-pub enum Reading {
-    To(Reached),
-    Fault { number: u8, place: usize },
-}
-
-// How many rules and formula nodes a proof may have.
-pub struct Most {
-    pub rules: usize,
-    pub formulas: usize,
-}
 
 // Whether s is a proof of at most so many bytes, rules and formula nodes; with its count of rules.
 fn check_within(s: &[u8], bytes: usize, most: Most, input: u8) -> Answer
@@ -53,17 +36,7 @@ fn check_within(s: &[u8], bytes: usize, most: Most, input: u8) -> Answer
     }
     let t = table_of(Form::Formula);
     match read_rule(s, &t, most, 0, 0, 0) {
-        Reading::To(end) => {
-            if end.next < s.len() {
-                Answer::Refused(Refusal {
-                    number: 7,
-                    place: end.next,
-                    input,
-                })
-            } else {
-                Answer::Good(end.rules)
-            }
-        }
+        Reading::To(end) => at_end(end, s.len(), input),
         Reading::Fault { number, place } => Answer::Refused(Refusal {
             number,
             place,

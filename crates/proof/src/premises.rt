@@ -5,12 +5,12 @@ ghost use lib.ListN.{length};
 ghost use Rattle.rules.specs.Formula.{formulas as formulaLayout};
 ghost use Rattle.rules.specs.Reading.{many, proofAt};
 ghost use Rattle.letters.specs.Classes.{Classes};
-ghost use Rattle.proof.specs.Seen.{seen, found, reachedAt, within};
-use crate::Most;
-use crate::Reached;
-use crate::Reading;
-use crate::conclusion::Conclusion;
+ghost use Rattle.rule_bytes.specs.Seen.{seen, found, reachedAt, within};
 use crate::conclusion::read_conclusion;
+use rule_bytes::Most;
+use rule_bytes::Reached;
+use rule_bytes::Reading;
+use rule_bytes::count::Conclusion;
 
 // A rule and all its premises, where so many rules and formula nodes were met before it: numbers, which need no room in memory.
 pub fn read_rule(

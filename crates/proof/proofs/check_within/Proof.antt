@@ -2,7 +2,7 @@
 use native.Mathlib.Omega.{arith}
 use mathlib.Core.Path.{sym, _∙_}
 use Rattle.laws.specs.Octets.{octets}
-use Rattle.proof.proofs.Whole.{whole-long, whole-bad, whole-more, whole-good}
+use Rattle.proof.proofs.Whole.{whole-long, whole-bad, whole-end}
 use borrow.Author.Needs.{needs}
 use Rattle.proof.proofs.check_within.Statement.{statement}
 use Rattle.proof.proofs.check_within.Tie as tie
@@ -19,22 +19,20 @@ read-rule-requires c κs = (c .before .table-of .ensures, (c .before .before .be
 enum-known-end : tie.Need-enum-known-end
 enum-known-end c = search needs
 
+at-end-requires : tie.Need-at-end-requires
+at-end-requires c κs = search needs
+
 enum-known-number : tie.Need-enum-known-number
 enum-known-number c = search needs
 
 returns-2 : tie.Need-returns-2
-returns-2 c = let a = c .before .before .before .before .before .before .before .before .before .before .args in
-    λ L b m f. sym (whole-more (a .input) (a .s .now) L b m f (omega arith)
-    (sym (c .before .before .before .before .before .read-rule .ensures (a .most .rules) (omega arith)) ∙ c .before .before .before .end .given .1) (omega arith))
+returns-2 c = let a = c .before .before .before .before .before .before .before .before .before .args in
+    λ L b m f. c .at-end .ensures ∙ sym (whole-end (a .input) (a .s .now) L b m f (omega arith)
+    (sym (c .before .before .before .before .read-rule .ensures (a .most .rules) (omega arith)) ∙ c .before .before .end .given .1)
+    (octets (a .s .now) (λ i. c .before .before .before .before .before .before .before .before .shared-slice-known .given i .fits)))
 
 returns-3 : tie.Need-returns-3
-returns-3 c = let a = c .before .before .before .before .before .before .before .before .before .before .args in
-    λ L b m f. sym (whole-good (a .input) (a .s .now) L b m f (omega arith)
-    (sym (c .before .before .before .before .before .read-rule .ensures (a .most .rules) (omega arith)) ∙ c .before .before .before .end .given .1)
-    (octets (a .s .now) (λ i. c .before .before .before .before .before .before .before .before .before .shared-slice-known .given i .fits)) (omega arith))
-
-returns-4 : tie.Need-returns-4
-returns-4 c = let a = c .before .before .before .before .before .before .before .before .args in
+returns-3 c = let a = c .before .before .before .before .before .before .before .before .args in
     λ L b m f. sym (whole-bad (a .input) (a .s .now) L b m f (omega arith)
     (sym (c .before .before .before .read-rule .ensures (a .most .rules) (omega arith)) ∙ c .before .number .given .1))
 
@@ -46,7 +44,7 @@ check-within-spec =
     table-of-requires
     read-rule-requires
     enum-known-end
+    at-end-requires
     enum-known-number
     returns-2
-    returns-3
-    returns-4)
+    returns-3)

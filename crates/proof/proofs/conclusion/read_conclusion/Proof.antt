@@ -1,7 +1,7 @@
 -- `conclusion::read_conclusion` meets its contract: its stages, one after the other. Assumes nothing.
 use mathlib.Core.Path.{sym, _∙_}
-use Rattle.proof.specs.Seen.{within}
-use Rattle.proof.specs.Stages.{ownOf, linearOf}
+use Rattle.rule_bytes.specs.Seen.{within}
+use Rattle.rule_bytes.specs.Stages.{ownOf, linearOf}
 use Rattle.proof.proofs.Views.{came}
 use Rattle.proof.proofs.Ways.{steady-own, steady-linear}
 use Rattle.proof.proofs.Tops.{top-no-rule, top-no-linear, top-on}

@@ -2,9 +2,9 @@
 use native.Mathlib.Omega.{arith}
 use mathlib.Core.Path.{sym, ap, _∙_}
 use lib.ListN.{getD}
-use Rattle.proof.specs.Seen.{seen, found, within}
-use Rattle.proof.specs.Stages.{rowOf}
-use Rattle.proof.proofs.Bytes.{linear-out, linear-in}
+use Rattle.rule_bytes.specs.Seen.{seen, found, within}
+use Rattle.rule_bytes.specs.Stages.{rowOf}
+use Rattle.rule_bytes.proofs.Bytes.{linear-out, linear-in}
 use borrow.Author.Needs.{needs}
 use Rattle.proof.proofs.conclusion.read_linear.Statement.{statement}
 use Rattle.proof.proofs.conclusion.read_linear.Tie as tie

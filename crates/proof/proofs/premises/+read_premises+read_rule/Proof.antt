@@ -5,7 +5,7 @@ use native.Mathlib.Omega.{arith}
 use borrow.Author.Needs.{needs}
 use mathlib.Core.Path.{sym, _∙_}
 use lib.ListN.{length}
-use Rattle.proof.specs.Seen.{reachedAt, within}
+use Rattle.rule_bytes.specs.Seen.{reachedAt, within}
 use Rattle.proof.proofs.Above.{topped, rule-off, rule-on, Going, going-start, going-done, going-off, going-on}
 use borrow.Fn.Kinds.{In}
 use borrow.Fn.PlainCycle.{Measures, is, falls, and}

@@ -7,9 +7,9 @@ use borrow.Author.Tests.{le-leb, lt-leb}
 use Rattle.rules.specs.Basic.{Bytes}
 use Rattle.rules.specs.Limits.{Limits}
 use Rattle.rules.specs.Reading.{got, bad, byte, byteFor}
-use Rattle.proof.specs.Seen.{Reached, To, Fault, Before, NoCount, metBy, pastByte, seen, found, countSeen}
-use Rattle.proof.specs.Stages.{rowOf, indexOf, linearOf, countOf}
-use Rattle.proof.proofs.Places.{rest-in, rest-out}
+use Rattle.rule_bytes.specs.Seen.{Reached, To, Fault, Before, NoCount, metBy, pastByte, seen, found, countSeen}
+use Rattle.rule_bytes.specs.Stages.{rowOf, indexOf, linearOf, countOf}
+use Rattle.rule_bytes.proofs.Places.{rest-in, rest-out}
 
 module _ (s : Bytes) (q : Reached) where
   pub byte-out : length s ≤ q .next → found byte s q ≡ bad 3 (q .next)

@@ -2,10 +2,10 @@
 use native.Mathlib.Omega.{arith}
 use mathlib.Core.Path.{sym, ap, _∙_}
 use borrow.Author.Tests.{ne-eqb}
-use Rattle.proof.proofs.Tags.{shown, tag-out, tag-full, tag-is}
+use Rattle.rule_bytes.proofs.Tags.{shown, tag-out, tag-full, tag-is}
 use borrow.Author.Needs.{needs}
-use Rattle.proof.proofs.tag.read_tag.Statement.{statement}
-use Rattle.proof.proofs.tag.read_tag.Tie as tie
+use Rattle.rule_bytes.proofs.tag.read_tag.Statement.{statement}
+use Rattle.rule_bytes.proofs.tag.read_tag.Tie as tie
 
 returns : tie.Need-returns
 returns c = let a = c .before .before .args in sym (tag-out (a .s .now) (a .at) (a .used) (a .most) (omega arith))

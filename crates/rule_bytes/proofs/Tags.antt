@@ -15,8 +15,8 @@ use Rattle.rules.specs.Reading.{Got, got, bad, byte, listed, tag}
 use Rattle.laws.specs.Same.{both-true}
 use Rattle.laws.specs.Holds.{Holds, chosen, told as read}
 use Rattle.laws.specs.Steady.{steady-got, steady-tag}
-use Rattle.proof.specs.Seen.{Tag, Plain, Cut, Focus, NoTag, carries, kindAt, tagSeen}
-use Rattle.proof.proofs.Places.{rest-in, rest-out}
+use Rattle.rule_bytes.specs.Seen.{Tag, Plain, Cut, Focus, NoTag, carries, kindAt, tagSeen}
+use Rattle.rule_bytes.proofs.Places.{rest-in, rest-out}
 
 module _ (f : ℕ → Bool) where
   abbrev allBelow : ℕ → Bool

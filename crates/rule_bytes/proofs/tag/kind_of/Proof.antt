@@ -1,9 +1,9 @@
 -- `tag::kind_of` meets its contract: its tests are those that were compared with the list of heads at each byte. Assumes nothing.
 use mathlib.Core.Path.{sym, _∙_}
 use borrow.Author.Tests.{lt-ltb, le-ltb, ne-eqb}
-use Rattle.proof.proofs.Tags.{kind-is}
-use Rattle.proof.proofs.tag.kind_of.Statement.{statement}
-use Rattle.proof.proofs.tag.kind_of.Tie as tie
+use Rattle.rule_bytes.proofs.Tags.{kind-is}
+use Rattle.rule_bytes.proofs.tag.kind_of.Statement.{statement}
+use Rattle.rule_bytes.proofs.tag.kind_of.Tie as tie
 
 returns : tie.Need-returns
 returns c = let b = c .before .args .tag in sym (kind-is b (c .before .fits .tag .fits) ∙ simp (lt-ltb b 1 (c .if1 .taken)))

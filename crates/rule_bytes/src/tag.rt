@@ -4,7 +4,7 @@ ghost use lib.ListN.{drop};
 ghost use Rattle.rules.specs.Layout.{headAt};
 ghost use Rattle.rules.specs.Proof.{ruleHeads};
 ghost use Rattle.rules.specs.Reading.{tag as tagOf};
-ghost use Rattle.proof.specs.Seen.{kindAt, tagSeen};
+ghost use Rattle.rule_bytes.specs.Seen.{kindAt, tagSeen};
 
 // Nothing, a formula, or an index; or a fault.
 pub enum Tag {

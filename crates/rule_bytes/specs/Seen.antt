@@ -3,18 +3,21 @@
 use Prim.Native.Nat.{ℕ, _+_}
 use mathlib.Core.Option.{Option, none, some}
 use lib.ListN.{drop}
-use Rattle.rules.specs.Basic.{Bytes}
+use Rattle.rules.specs.Basic.{Bytes, if_then_else_, _<?_}
 use Rattle.rules.specs.Limits.{Limits}
+use Rattle.rules.specs.Refusal.{refuse, answered}
+use Rattle.rules.specs.declared.Answer.{Answer}
+use Rattle.rules.specs.declared.Answer.the-variants.{Good}
 use Rattle.rules.specs.Proof.{RuleHead, aPlain, aCut, aFocus}
 use Rattle.rules.specs.Reading.{Got, got, bad, Reader, Met}
-pub use Rattle.proof.specs.declared.Reached.{Reached}
-pub use Rattle.proof.specs.declared.Most.{Most}
-pub use Rattle.proof.specs.declared.Reading.{Reading}
-pub use Rattle.proof.specs.declared.Reading.the-variants.{To, Fault}
-pub use Rattle.proof.specs.declared.tag.Tag.{Tag}
-pub use Rattle.proof.specs.declared.tag.Tag.the-variants.{Plain, Cut, Focus, Fault as NoTag}
-pub use Rattle.proof.specs.declared.conclusion.Conclusion.{Conclusion}
-pub use Rattle.proof.specs.declared.conclusion.Conclusion.the-variants.{Before, Fault as NoCount}
+pub use Rattle.rule_bytes.specs.declared.Reached.{Reached}
+pub use Rattle.rule_bytes.specs.declared.Most.{Most}
+pub use Rattle.rule_bytes.specs.declared.Reading.{Reading}
+pub use Rattle.rule_bytes.specs.declared.Reading.the-variants.{To, Fault}
+pub use Rattle.rule_bytes.specs.declared.tag.Tag.{Tag}
+pub use Rattle.rule_bytes.specs.declared.tag.Tag.the-variants.{Plain, Cut, Focus, Fault as NoTag}
+pub use Rattle.rule_bytes.specs.declared.count.Conclusion.{Conclusion}
+pub use Rattle.rule_bytes.specs.declared.count.Conclusion.the-variants.{Before, Fault as NoCount}
 
 -- what was met on the way to a place, and that place
 abbrev pub metBy : Reached → Met
@@ -66,3 +69,7 @@ countSeen count (bad n p) = NoCount n p
 -- limits on rules and formula nodes alone: the reader of a proof asks for no others
 abbrev pub within : Most → Limits
 within m = record { bytes = 0; nodes = 0; rules = m .rules; formulas = m .formulas }
+
+-- an input of so many bytes, whose first rule ends there
+abbrev pub endOf : Reached → (length input : ℕ) → Answer
+endOf q l i = if q .next <? l then answered (refuse 7 (q .next) i) else Good (q .rules)
