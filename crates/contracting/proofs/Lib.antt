@@ -1,5 +1,4 @@
 -- What the proofs of several functions use.
 mod Staying
-mod Tail
 mod Jobs
 mod Answers

@@ -1,7 +1,6 @@
 -- A part that stays is smaller than its redex, so it fits; at the end of the redex it is not touched. Assumes nothing.
 use Prim.Native.Nat.{ℕ, _+_, _-_, _≤_}
 use mathlib.Core.Path.{_≡_, ap, _∙_}
-use mathlib.Core.Bool.{true}
 use mathlib.Core.Option.{none}
 use mathlib.Core.List.{[], _∷_}
 use native.Mathlib.Omega.{arith}
@@ -13,26 +12,22 @@ use Rattle.rules.specs.declared.Rule.{Rule}
 use Rattle.runs.specs.Wrote.{Wrote}
 use Rattle.walk.specs.Place.{TermAt}
 use Rattle.walk.proofs.Terms.{at-end, first, others}
-use Rattle.places.proofs.Writes.{slice-is}
+use Rattle.runs.specs.Writing.{slice-is}
 use Rattle.spans.specs.Measured.{Measured, MeasuredTwo}
 use Rattle.spans.specs.declared.Extent.{Extent}
 use Rattle.spans.specs.declared.Two.{Two as Spans}
 use Rattle.spans.proofs.Rows.{size-one, InTwo, a-at, of-pair, of-two, of-one}
-use Rattle.putting.proofs.Puts.{beside-yes}
-use Rattle.parts.specs.Beside.{fitsAround}
 use Rattle.parts.specs.Contracts.{Redex, Contracts, becomes}
 use Rattle.parts.specs.declared.Contracted.the-variants.{Made}
 use Rattle.parts.proofs.Standing.{inside, all-written}
+use Rattle.parts.proofs.Smaller.{smaller-fits}
 
 module _ {s : Bytes} {at n l : ℕ} {t : Term} (j : Redex s at n l t) where
-  pub smaller-fits : (u : Term) → nodes u ≤ nodes t → size u ≤ size t → fitsAround n l t u ≡ true
-  smaller-fits u le ls = beside-yes (n - nodes t) (l - size t) u (omega (arith, j .nodes-in, j .few)) (omega (arith, j .bytes-in, j .short))
-
   -- at the end of the redex
   pub stays : {p m : ℕ} {u : Term} → TermAt s p u → at + size t ≡ p + size u → at ≤ p → nodes u ≤ nodes t → m ≡ n - nodes t + nodes u
       → (rule : Rule) (made : Bytes) → Contracts s at n l t rule none u made (Made rule 0 p m)
   stays {p} {m} {u} w e h le em rule made =
-      becomes 0 p (smaller-fits u le (omega arith)) (ap (λ (k : ℕ). Made rule 0 p k) em)
+      becomes 0 p (smaller-fits j u le (omega arith)) (ap (λ (k : ℕ). Made rule 0 p k) em)
       (record {
         inside = omega arith;
         written = omega arith;
@@ -69,7 +64,7 @@ module _ {s : Bytes} {at n l : ℕ} {t : Term} (j : Redex s at n l t) where
           let y : Wrote made 0 (encode a) made′ z = rw e at x in
           let d : n - heads - r .b ≡ n - nodes t + nodes a = omega (arith, m .b-nodes, i .count, j .nodes-in) in
           let g : r .end ≡ at + size t = omega (arith, m .second, m .end, i .ends) in
-          becomes z (r .end) (smaller-fits a (omega (arith, i .count)) (omega (arith, i .ends, i .past))) (ap (λ (k : ℕ). Made rule z (r .end) k) d)
+          becomes z (r .end) (smaller-fits j a (omega (arith, i .count)) (omega (arith, i .ends, i .past))) (ap (λ (k : ℕ). Made rule z (r .end) k) d)
           (all-written j a y (omega (arith, y .ends, i .ends, i .past, j .bytes-in, j .short)) g)
 
 module _ {s : Bytes} {at n l : ℕ} where

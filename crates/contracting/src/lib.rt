@@ -24,13 +24,13 @@ pub fn contract(
 {
     let tag = s[at];
     if tag == 6 {
-        return redexes::apply(s, at, nodes, length, places, made);
+        return applying::apply(s, at, nodes, length, places, made);
     }
     if tag == 4 {
         return redexes::let_pair(s, at, nodes, length, places, half, made);
     }
     if tag == 9 {
-        return redexes::branch(s, at, nodes, length, places, made);
+        return branching::branch(s, at, nodes, length, places, made);
     }
     if tag == 11 {
         return redexes::first(s, at, nodes, made);

@@ -1,4 +1,5 @@
--- What the proofs of several functions use, here and in the crate above.
+-- What the proofs of several functions use, here and in the crates above.
 pub mod Standing
+pub mod Smaller
 mod Finding
 mod Placed

@@ -1,13 +1,13 @@
--- `contracting::redexes::ends_body` meets its contract: two bytes are one place. Assumes nothing.
+-- `applying::ends_body` meets its contract: two bytes are one place. Assumes nothing.
 use mathlib.Core.Path.{_≡_, ap, _∙_}
 use mathlib.Core.List.{List, [], _∷_}
 use Prim.Native.Nat.{ℕ}
 use native.Mathlib.Omega.{arith}
 use borrow.Author.Tests.{eqb-true}
-use Rattle.contracting.proofs.Tail.{one-place, place-ends}
+use Rattle.applying.proofs.Tail.{one-place, place-ends}
 use borrow.Author.Needs.{needs}
-use Rattle.contracting.proofs.redexes.ends_body.Statement.{statement}
-use Rattle.contracting.proofs.redexes.ends_body.Tie as tie
+use Rattle.applying.proofs.ends_body.Statement.{statement}
+use Rattle.applying.proofs.ends_body.Tie as tie
 
 shared-slice-read-low : tie.Need-shared-slice-read-low
 shared-slice-read-low c = search needs

@@ -16,7 +16,7 @@ use Rattle.places.specs.Places.{places, kept}
 use Rattle.splice.specs.Spliced.{spliced}
 use Rattle.places.proofs.Shapes.{places-many}
 use Rattle.splice.proofs.Splices.{spliced-term}
-use Rattle.places.proofs.Writes.{slice-is}
+use Rattle.runs.specs.Writing.{slice-is}
 use Rattle.walk.specs.Place.{TermAt}
 
 -- ---- the one place that is kept

@@ -1,12 +1,12 @@
--- `contracting::redexes::apply` meets its contract: the argument goes into the body, which stands in front of it, or stays where it is.
+-- `applying::apply` meets its contract: the argument goes into the body, which stands in front of it, or stays where it is.
 -- Assumes nothing.
 use native.Mathlib.Omega.{arith}
 use Rattle.spans.proofs.Rows.{app-name}
 use Rattle.parts.proofs.Standing.{inside}
-use Rattle.contracting.proofs.Jobs.{app-body, app-bounds, app-argument, app-numbers, app-placing, tail-room, tail-few, tail-stays}
+use Rattle.applying.proofs.Jobs.{app-body, app-bounds, app-argument, app-numbers, app-placing, tail-room, tail-few, tail-stays}
 use borrow.Author.Needs.{needs}
-use Rattle.contracting.proofs.redexes.apply.Statement.{statement}
-use Rattle.contracting.proofs.redexes.apply.Tie as tie
+use Rattle.applying.proofs.apply.Statement.{statement}
+use Rattle.applying.proofs.apply.Tie as tie
 
 add-after-names : tie.Need-add-after-names
 add-after-names c = omega (arith, inside (c .before .before .before .pre .0 .3))

@@ -1,0 +1,141 @@
+-- What App of Abs hands on: the body, and the argument that goes into it or stays, where they stand. Assumes nothing.
+use Prim.Native.Nat.{ℕ, _+_, _-_, _≤_}
+use mathlib.Core.Path.{_≡_, sym, ap, _∙_}
+use mathlib.Core.Option.{none}
+use mathlib.Core.List.{List, [], _∷_, _++_}
+use native.Mathlib.Omega.{arith}
+use lib.ListN.{length, take, drop, length-take, length-drop}
+use lib.Seq.{slice}
+use Rattle.rules.specs.Basic.{Bytes}
+use Rattle.rules.specs.Name.{Name}
+use Rattle.rules.specs.Term.{Term, two, abs, app, encode, nodes, size}
+use Rattle.rules.specs.Substitution.{subst}
+use Rattle.rules.specs.declared.Rule.{Rule}
+use Rattle.runs.specs.Wrote.{Wrote}
+use Rattle.walk.specs.Place.{TermAt}
+use Rattle.walk.proofs.Names.{AfterIs}
+use Rattle.walk.proofs.Terms.{at-end, first, others}
+use Rattle.places.specs.Places.{places, kept}
+use Rattle.places.specs.declared.Found.{Found}
+use Rattle.runs.specs.Writing.{slice-is, wrote-length}
+use Rattle.spans.specs.Measured.{Measured}
+use Rattle.spans.specs.declared.Extent.{Extent}
+use Rattle.spans.proofs.Rows.{in-app, past-name, name-is}
+use Rattle.parts.specs.Contracts.{Redex, Contracts, becomes}
+use Rattle.parts.specs.Parts.{Kept, Placing}
+use Rattle.parts.specs.declared.Contracted.the-variants.{Made}
+use Rattle.parts.proofs.Standing.{inside, written-at}
+use Rattle.applying.proofs.Tail.{tail-bytes, tail-nodes, tail-some, tail-long, front-long, front-at}
+use Rattle.parts.proofs.Smaller.{part-is, smaller-fits}
+
+module _ {s : Bytes} {at n l : ℕ} where
+  -- App of Abs
+  module _ {x : Name} {e a : Term} (j : Redex s at n l (two app (abs x e) a)) {body : ℕ} (g : AfterIs s (at + 2) 1 body) where
+    abbrev t : Term
+    t = two app (abs x e) a
+
+    pub app-body : TermAt s body e
+    app-body = first s body 2 e (a ∷ []) (in-app (j .stands) g .row)
+
+    pub app-bounds : (at + 3 ≤ body) × (body ≤ length s) × (length s ≤ body + 4096) × (at + 3 ≤ length s)
+    app-bounds =
+        let h = past-name (j .stands) g in
+        let b = at-end s body e app-body in
+        (h, omega arith, omega (arith, h, j .behind, j .short), omega (arith, h))
+
+    module _ {held : Bytes} {f : Found} (k : Kept body (take (body - (at + 3)) (drop (at + 3) s)) e held f) where
+      found : Kept body x e held f
+      found = rw (name-is (j .stands) g) at k
+
+      pub app-argument : TermAt s (f .next) a
+      app-argument = let i = in-app (j .stands) g in first s (f .next) 1 a [] (others s body 2 e (a ∷ []) (i .row) (f .next) (k .next))
+
+      pub record Bounds : Type 0 where
+        pub name : at + 3 ≤ body
+        pub gap-is : body - at - 1 ≡ 2 + length x
+        pub gap-small : body - at - 1 ≤ 65536
+        pub past : body ≤ f .next
+        pub next : f .next ≡ body + size e
+        pub ends : f .next + size a ≡ at + size t
+        pub inside : f .next + size a ≤ length s
+        pub count : nodes t ≡ 2 + (nodes e + nodes a)
+        pub held-in : f .to ≤ length held
+
+      pub app-numbers : Bounds
+      app-numbers =
+          let i = in-app (j .stands) g in
+          let h = past-name (j .stands) g in
+          let b = inside j in
+          let q : length x ≡ body - (at + 3) = sym (ap (λ (z : Bytes). length z) (name-is (j .stands) g)) ∙ simp (length-take, length-drop) (omega (arith, app-bounds)) in
+          record {
+            name = h;
+            gap-is = omega (arith, q);
+            gap-small = omega (arith, k .next, i .ends, j .bytes-in, j .short);
+            past = omega (arith, k .next);
+            next = k .next;
+            ends = omega (arith, k .next, i .ends);
+            inside = omega (arith, k .next, i .ends);
+            count = i .count;
+            held-in = k .inside;
+          }
+
+      -- the argument goes in
+      pub app-placing : {r : Extent} (m : Measured (f .next) a r)
+          → Placing s at (r .next) body f (body - at - 1) (record { from = f .next; end = r .next; nodes = r .nodes }) (n - 2 - r .nodes) l held n t x e a
+      app-placing m =
+          let i = in-app (j .stands) g in
+          let b = app-numbers in
+          record {
+            redex = j;
+            ends = omega (arith, m .next, b .ends);
+            body-at = app-body;
+            body-in = omega (arith, i .ends, i .past);
+            found = found;
+            gap-is = b .gap-is;
+            value = part-is j app-argument m (omega (arith, i .count)) (omega (arith, i .ends, i .past));
+            nodes-in = omega (arith, i .count);
+            count = omega (arith, m .nodes, i .count, j .nodes-in);
+          }
+
+      -- the argument stays
+      module _ (ends-so : (ps : List ℕ) → take (f .to) held ≡ kept ps → (ps ≡ (f .next - body - (body - at - 1)) ∷ []) × (body - at - 1 ≤ f .next - body)) where
+        last : (places x e 0 ≡ (size e - (2 + length x)) ∷ []) × (2 + length x ≤ size e)
+        last =
+            let b = app-numbers in
+            let q = ends-so (places x e 0) (found .are) in
+            let d : f .next - body - (body - at - 1) ≡ size e - (2 + length x) = omega (arith, b .next, b .gap-is) in
+            (q .0 ∙ ap (λ (p : ℕ). p ∷ []) d, omega (arith, q .1, b .next, b .gap-is))
+
+        pub tail-room : {room : ℕ} → 4096 ≤ room → (body - at - 1 ≤ f .next) × (body ≤ f .next - (body - at - 1)) × (f .next - (body - at - 1) ≤ length s) × (0 + (f .next - (body - at - 1) - body) ≤ room)
+        tail-room h =
+            let b = app-numbers in
+            let y = last .1 in
+            (omega (arith, b), omega (arith, b), omega (arith, b), omega (arith, b, j .bytes-in, j .short))
+
+        pub tail-few : 3 ≤ n
+        tail-few = omega (arith, tail-some x a e last, app-numbers .count, j .nodes-in)
+
+        pub tail-stays : {made made′ : Bytes} {z : ℕ} → 4096 ≤ length made → Wrote made 0 (slice body (f .next - (body - at - 1)) s) made′ z
+            → {rule : Rule} → Contracts s at n l t rule none (subst x a e) made′ (Made rule z (f .next) (n - 3))
+        tail-stays {made} {made′} {z} h w {rule} =
+            let b = app-numbers in
+            let y = last in
+            let u : Term = subst x a e in
+            let i : f .next - (body - at - 1) ≡ body + (size e - (2 + length x)) = omega (arith, b, y .1) in
+            let d : slice body (f .next - (body - at - 1)) s ≡ take (size e - (2 + length x)) (encode e) =
+            ap (λ (k : ℕ). slice body k s) i ∙ front-at x a e y app-body in
+            let o : Wrote made 0 (take (size e - (2 + length x)) (encode e)) made′ z = rw d at w in
+            let c : n - 3 ≡ n - nodes t + nodes u = omega (arith, tail-nodes x a e y, b .count, j .nodes-in) in
+            let r = tail-room h in
+            let v = app-argument in
+            let g : slice (f .next) (at + size t) s ≡ encode a = ap (λ (k : ℕ). slice (f .next) k s) (sym (b .ends)) ∙ slice-is (f .next) s (encode a) (v .rest) (v .bytes) in
+            becomes z (f .next) (smaller-fits j u (omega (arith, tail-nodes x a e y, b .count)) (omega (arith, tail-long x a e y, b, y .1)))
+            (ap (λ (k : ℕ). Made rule z (f .next) k) c)
+            (record {
+              inside = omega (arith, b);
+              written = omega (arith, wrote-length o, o .ends, front-long x a e y, r, i);
+              bytes =
+                  ap (λ (q : Bytes). q ++ slice (f .next) (at + size t) s) (written-at o (omega (arith, o .ends, front-long x a e y, r, i)))
+                  ∙ ap (λ (q : Bytes). take (size e - (2 + length x)) (encode e) ++ q) g
+                  ∙ sym (tail-bytes x a e y);
+            })

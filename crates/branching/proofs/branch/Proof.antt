@@ -1,0 +1,67 @@
+-- `branching::branch` meets its contract: the scrutinee's tag says which branch the injected part goes into. Assumes nothing.
+use native.Mathlib.Omega.{arith}
+use Rattle.spans.proofs.Rows.{branch-names, scrutinee-inside, scrutinee-tag}
+use Rattle.search.specs.Side.{side}
+use Rattle.search.proofs.Forms.{is-left, is-right}
+use Rattle.parts.proofs.Standing.{inside}
+use Rattle.branching.proofs.Jobs.{case-value, case-inside}
+use borrow.Author.Needs.{needs}
+use Rattle.branching.proofs.branch.Statement.{statement}
+use Rattle.branching.proofs.branch.Tie as tie
+
+add-span-names : tie.Need-add-span-names
+add-span-names c = omega (arith, inside (c .before .before .before .pre .0 .6))
+
+span-names-requires : tie.Need-span-names-requires
+span-names-requires c κs = (_, _, branch-names _ _ _ _ _ (c .before .before .before .pre .0 .6 .stands))
+
+add-span : tie.Need-add-span
+add-span c = let j = c .before .before .before .before .pre .0 .6 in omega (arith, case-inside j (c .span-names .ensures _ _ (branch-names _ _ _ _ _ (j .stands))))
+
+span-requires : tie.Need-span-requires
+span-requires c κs = let j = c .before .before .before .before .pre .0 .6 in (_, case-value j (c .span-names .ensures _ _ (branch-names _ _ _ _ _ (j .stands))))
+
+shared-slice-read-if1 : tie.Need-shared-slice-read-if1
+shared-slice-read-if1 c = let j = c .before .before .before .before .before .before .pre .0 .6 in scrutinee-inside (j .stands) (c .before .before .span-names .ensures _ _ (branch-names _ _ _ _ _ (j .stands)))
+
+left-requires : tie.Need-left-requires
+left-requires c κs = let j = c .before .before .before .before .before .before .before .before .before .pre .0 .6 in let m = c .before .before .before .before .before .span-names .ensures _ _ (branch-names _ _ _ _ _ (j .stands)) in ((_, _, _, _, _, _, j, m, c .before .before .before .before .span .ensures _ (case-value j m)), c .before .before .before .before .before .before .before .before .before .pre .1)
+
+same-length : tie.Need-same-length
+same-length c = search needs
+
+same-length-2 : tie.Need-same-length-2
+same-length-2 c = search needs
+
+returns : tie.Need-returns
+returns c = λ x y d v l r j. let m = c .before .before .before .before .before .before .before .before .before .before .span-names .ensures _ _ (branch-names _ _ _ _ _ (j .stands)) in let is = is-left d _ (scrutinee-tag (j .stands) m) (c .before .before .before .before .before .before .before .if1 .taken) in let c′ = c .before .before .before .before .left .ensures x y (side d) v l r j m (c .before .before .before .before .before .before .before .before .before .span .ensures _ (case-value j m)) in rw is (rw is at c′)
+
+right-requires : tie.Need-right-requires
+right-requires c κs = let j = c .before .before .before .before .before .before .before .before .before .pre .0 .6 in let m = c .before .before .before .before .before .span-names .ensures _ _ (branch-names _ _ _ _ _ (j .stands)) in ((_, _, _, _, _, _, j, m, c .before .before .before .before .span .ensures _ (case-value j m)), c .before .before .before .before .before .before .before .before .before .pre .1)
+
+same-length-3 : tie.Need-same-length-3
+same-length-3 c = search needs
+
+same-length-4 : tie.Need-same-length-4
+same-length-4 c = search needs
+
+returns-2 : tie.Need-returns-2
+returns-2 c = λ x y d v l r j. let m = c .before .before .before .before .before .before .before .before .before .before .span-names .ensures _ _ (branch-names _ _ _ _ _ (j .stands)) in let is = is-right d _ (scrutinee-tag (j .stands) m) (c .before .before .before .before .before .before .before .if1 .left) in let c′ = c .before .before .before .before .right .ensures x y (side d) v l r j m (c .before .before .before .before .before .before .before .before .before .span .ensures _ (case-value j m)) in rw is (rw is at c′)
+
+pub branch-spec : {M : Type 1} → statement M
+branch-spec =
+    tie.close
+    (tie.spec
+    add-span-names
+    span-names-requires
+    add-span
+    span-requires
+    shared-slice-read-if1
+    left-requires
+    same-length
+    same-length-2
+    returns
+    right-requires
+    same-length-3
+    same-length-4
+    returns-2)

@@ -1,0 +1,29 @@
+-- A part of a redex is smaller than the redex: so it fits by itself, and in the redex's place. Assumes nothing.
+use Prim.Native.Nat.{ℕ, _-_, _≤_}
+use mathlib.Core.Path.{_≡_}
+use native.Mathlib.Omega.{arith}
+use Rattle.rules.specs.Basic.{Bytes}
+use Rattle.rules.specs.Term.{Term, nodes, size}
+use Rattle.walk.specs.Place.{TermAt}
+use Rattle.spans.specs.Measured.{Measured}
+use Rattle.spans.specs.declared.Extent.{Extent}
+use Rattle.putting.proofs.Puts.{fits-yes, beside-yes}
+use Rattle.parts.specs.Contracts.{Redex}
+use Rattle.parts.specs.Parts.{PartIs}
+use mathlib.Core.Bool.{true}
+use Rattle.parts.specs.Beside.{fitsAround}
+
+-- a part of the redex that goes in
+pub part-is : {s : Bytes} {at n l : ℕ} {t : Term} → Redex s at n l t → {p : ℕ} {u : Term} {r : Extent} → TermAt s p u → Measured p u r → nodes u ≤ nodes t → size u ≤ size t
+    → PartIs s (record { from = p; end = r .next; nodes = r .nodes }) u
+part-is j {u = u} w m le ls =
+    record {
+      stands = w;
+      ends = m .next;
+      count = m .nodes;
+      fits = fits-yes u (omega (arith, j .nodes-in, j .few)) (omega (arith, j .bytes-in, j .short));
+    }
+
+-- what is no larger than the redex, in its place
+pub smaller-fits : {s : Bytes} {at n l : ℕ} {t : Term} → Redex s at n l t → (u : Term) → nodes u ≤ nodes t → size u ≤ size t → fitsAround n l t u ≡ true
+smaller-fits {n = n} {l = l} {t = t} j u le ls = beside-yes (n - nodes t) (l - size t) u (omega (arith, j .nodes-in, j .few)) (omega (arith, j .bytes-in, j .short))
