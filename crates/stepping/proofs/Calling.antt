@@ -13,6 +13,7 @@ use Rattle.rules.specs.declared.Refusal.{Refusal}
 use Rattle.rules.specs.Refusal.{good, refuse, mapped, answered}
 use Rattle.rules.specs.declared.Answer.the-variants.{Good, Refused}
 use Rattle.rules.specs.Term.{Term, encode, nodes}
+use Rattle.rules.specs.Legal.{Legal}
 use Rattle.rules.specs.Reading.{readTerm}
 use Rattle.rules.specs.Step as rules
 use Rattle.rules.specs.Buffers.{cleared}
@@ -142,8 +143,11 @@ module _ (term : Bytes) where
   untold r e = rw (refuses nodes (readTerm limits 1 term) e)
 
   module _ (n : ℕ) (e : answered (mapped nodes (readTerm limits 1 term)) ≡ Good n) where
-    pub is-term : (t : Term) × (readTerm limits 1 term ≡ good t) × (term ≡ encode t)
-    is-term = let a = accepts nodes (readTerm limits 1 term) e in (a .value, a .is, term-sound limits 1 term (a .value) (a .is) .bytes)
+    pub is-term : (t : Term) × (readTerm limits 1 term ≡ good t) × Legal t × (term ≡ encode t)
+    is-term =
+        let a = accepts nodes (readTerm limits 1 term) e in
+        let w = term-sound limits 1 term (a .value) (a .is) in
+        (a .value, a .is, w .legal, w .bytes)
 
   pub told : (t : Term) → readTerm limits 1 term ≡ good t → (b : Bool) → b ≡ rules.isNormal (rules.step t) → Known b ≡ normalAnswered (isNormalCall limits term)
   unfolding isNormalCall

@@ -1,0 +1,24 @@
+-- `plain::names_two` meets its contract: it chooses as the definition does. Assumes nothing.
+use Prim.Native.Nat.{ℕ}
+use mathlib.Core.Path.{_≡_, ap, _∙_}
+use Rattle.sweep.specs.Pairs.{chosen}
+use borrow.Author.Needs.{needs}
+use Rattle.sweep.proofs.plain.names_two.Statement.{statement}
+use Rattle.sweep.proofs.plain.names_two.Tie as tie
+
+choose-requires : tie.Need-choose-requires
+choose-requires c κs = search needs
+
+choose-requires-2 : tie.Need-choose-requires-2
+choose-requires-2 c κs = search needs
+
+choose-requires-3 : tie.Need-choose-requires-3
+choose-requires-3 c κs = search needs
+
+returns : tie.Need-returns
+returns c = let a = c .before .before .before .args .a in
+    let from : (k v x y : ℕ) → x ≡ y → chosen a k v x ≡ chosen a k v y = λ k v x y e. ap (λ (z : ℕ). chosen a k v z) e in
+    c .choose3 .ensures ∙ from 17 1 _ _ (c .before .choose2 .ensures ∙ from 9 1 _ _ (c .before .before .choose .ensures))
+
+pub names-two-spec : {M : Type 1} → statement M
+names-two-spec = tie.close (tie.spec choose-requires choose-requires-2 choose-requires-3 returns)

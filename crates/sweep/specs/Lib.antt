@@ -1,0 +1,2 @@
+pub mod Calm
+pub mod Pairs
