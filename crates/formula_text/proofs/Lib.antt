@@ -1,6 +1,2 @@
--- What the proofs of several functions use.
-mod Shapes
-mod Leaves
-mod Pending
-mod Walking
+-- What the proof of the call uses.
 mod Whole

@@ -1,9 +1,8 @@
--- The call as a whole: each way out ends as the rules say, and a formula that was read can be printed.
+-- The call as a whole: each way out ends as the rules say.
 -- Assumes nothing.
-use Prim.Native.Nat.{ℕ, _+_, _-_, _<_, _≤_}
-use mathlib.Core.Path.{_≡_, ap}
+use Prim.Native.Nat.{ℕ, _-_, _<_, _≤_}
+use mathlib.Core.Path.{_≡_}
 use mathlib.Core.List.{List, _++_}
-use native.Mathlib.Omega.{arith}
 use lib.ListN.{length, replicate}
 use Rattle.rules.specs.Limits.{limits}
 use Rattle.rules.specs.Refusal.{good, answered}
@@ -13,12 +12,9 @@ use Rattle.rules.specs.Formula.{Formula, formulaNodes}
 use Rattle.rules.specs.Reading.{readFormula}
 use Rattle.rules.specs.Text.{formulaText}
 use Rattle.rules.specs.Calls.{checkFormulaCall, formulaTextCall}
-use Rattle.laws.specs.Decoding.{FormulaIn, formula-sound}
-use Rattle.laws.specs.TextSize.{formula-text-size}
 use Rattle.reader.specs.Accepted.{Accepts, accepts, refuses}
-use Rattle.words.specs.Call.{Ends, start}
+use Rattle.words.specs.Call.{Ends}
 use Rattle.words.specs.Call as call
-use Rattle.formula_text.specs.Task.{FormulaTask}
 
 module _ (s o : List ℕ) where
   pub short : length o < 11264 → Ends (Refused (record { number = 1; place = 0; input = 0 })) o (formulaTextCall limits s o)
@@ -37,13 +33,3 @@ module _ (s o : List ℕ) where
     pub read : {n : ℕ} → answered (checkFormulaCall limits s) ≡ Good n → Accepts formulaNodes (readFormula limits 1 s) n
     unfolding checkFormulaCall
     read e = accepts formulaNodes (readFormula limits 1 s) e
-
-    module _ (x : Formula) (e : readFormula limits 1 s ≡ good x) where
-      accepted : FormulaIn limits s x
-      accepted = formula-sound limits 1 s x e
-
-      pub few : length (formulaText x) + 24 ≤ 11264
-      few = let a = accepted in omega (arith, formula-text-size x, ap length (a .bytes), a .short, a .few)
-
-      pub task : FormulaTask s 0 o 0 x
-      task = let a = accepted in record { legal = a .legal; task = start (a .bytes) (omega (arith, a .short)) (omega (arith, few)) (omega (arith, few)) }

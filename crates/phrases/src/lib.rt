@@ -9,12 +9,13 @@ ghost use Rattle.words.specs.Prints.{Prints, brackets};
 ghost use Rattle.words.specs.Task.{Task, Done};
 ghost use Rattle.phrases.specs.Task.{TermTask, TermDone, nameAt, afterName, NameIn};
 ghost use Rattle.phrases.specs.Words.{wordOf, longOf, signOf, onePart, betweenOf};
+use names::name;
+use names::named;
+use names::past;
 use words::byte;
+use words::chosen;
 use words::closes;
-use words::name;
-use words::named;
 use words::number;
-use words::past;
 use words::places;
 use words::spaced;
 use words::word;
@@ -23,24 +24,25 @@ use words::word;
 fn word_of(tag: u8) -> u64
     ensures { λ r. ⌜ r ≡ wordOf tag ⌝ }
 {
-    match tag % 16 {
-        1 => 0,
-        2 => 0x2928,
-        3 => 0x202c,
-        4 => 0,
-        5 => 0,
-        6 => 0x20,
-        7 => 0x206c6e69,
-        8 => 0x20726e69,
-        9 => 0,
-        10 => 0xa99fe2a89fe2,
-        11 => 0x20747366,
-        12 => 0x20646e73,
-        13 => 0x20647275736261,
-        14 => 0x21,
-        15 => 0x7463696c65726564,
-        _ => 0,
-    }
+    chosen(
+        tag,
+        0,
+        0,
+        0x2928,
+        0x202c,
+        0,
+        0,
+        0x20,
+        0x206c6e69,
+        0x20726e69,
+        0,
+        0xa99fe2a89fe2,
+        0x20747366,
+        0x20646e73,
+        0x20647275736261,
+        0x21,
+        0x7463696c65726564,
+    )
 }
 
 // How long it is: four bits a tag.

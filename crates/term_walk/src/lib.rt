@@ -3,6 +3,7 @@ ghost use mathlib.Core.Path.{_≡_};
 ghost use Rattle.rules.specs.Name.{Name};
 ghost use Rattle.rules.specs.Term.{Term, two as twoOf, both as bothOf, branch as branchOf, discard as discardOf, letPair as letPairOf, copy as copyOf};
 ghost use Rattle.phrases.specs.Task.{TermTask, TermDone, Whole};
+use names::past;
 use phrases::between;
 use phrases::bound_name;
 use phrases::first_name;
@@ -16,7 +17,6 @@ use phrases::sign;
 use phrases::two_names;
 use words::byte;
 use words::closed;
-use words::past;
 use words::places;
 use words::word;
 

@@ -3,3 +3,4 @@ pub mod Task
 pub mod Steps
 pub mod Ends
 pub mod Call
+pub mod Written

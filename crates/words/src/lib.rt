@@ -1,4 +1,4 @@
-// Bytes written to the output: words and names, eight bytes at a time. What is written too much is written over by what follows.
+// Bytes written to the output: words and brackets, eight bytes at a time. What is written too much is written over by what follows.
 ghost use mathlib.Core.Path.{_≡_};
 ghost use mathlib.Core.List.{[], _∷_, _++_};
 ghost use Prim.Native.Nat.{_+_, _/_, _%_, _≤_, _<_};
@@ -25,15 +25,6 @@ fn store(out: &mut [u8], to: usize, a: u8, b: u8, c: u8, d: u8, e: u8, f: u8, g:
     out[to + 7] = h;
 }
 
-// The first n bytes of a word.
-pub fn word(out: &mut [u8], to: usize, w: &[u8; 8], n: usize) -> usize
-    requires { ⌜ (n ≤ 8) × (to + 8 ≤ length (now out)) × (length (now w) ≡ 8) ⌝ }
-    ensures { λ r. ⌜ Prints (now (out .entry)) to (take n (now (w .entry))) (now (out .exit)) r ⌝ }
-{
-    store(out, to, w[0], w[1], w[2], w[3], w[4], w[5], w[6], w[7]);
-    to + n
-}
-
 // The first n of the eight bytes of a number.
 pub fn number(out: &mut [u8], to: usize, w: u64, n: usize) -> usize
     requires { ⌜ (n ≤ 8) × (to + 8 ≤ length (now out)) ⌝ }
@@ -54,8 +45,50 @@ pub fn number(out: &mut [u8], to: usize, w: u64, n: usize) -> usize
     to + n
 }
 
+// The word that a tag chooses among sixteen.
+pub fn chosen(
+    tag: u8,
+    w0: u64,
+    w1: u64,
+    w2: u64,
+    w3: u64,
+    w4: u64,
+    w5: u64,
+    w6: u64,
+    w7: u64,
+    w8: u64,
+    w9: u64,
+    w10: u64,
+    w11: u64,
+    w12: u64,
+    w13: u64,
+    w14: u64,
+    w15: u64,
+) -> u64
+    ensures { λ r. ⌜ r ≡ getD (w0 ∷ w1 ∷ w2 ∷ w3 ∷ w4 ∷ w5 ∷ w6 ∷ w7 ∷ w8 ∷ w9 ∷ w10 ∷ w11 ∷ w12 ∷ w13 ∷ w14 ∷ w15 ∷ []) (tag % 16) 0 ⌝ }
+{
+    match tag % 16 {
+        1 => w1,
+        2 => w2,
+        3 => w3,
+        4 => w4,
+        5 => w5,
+        6 => w6,
+        7 => w7,
+        8 => w8,
+        9 => w9,
+        10 => w10,
+        11 => w11,
+        12 => w12,
+        13 => w13,
+        14 => w14,
+        15 => w15,
+        _ => w0,
+    }
+}
+
 // Eight bytes from src at `from`.
-fn copy_eight(src: &[u8], from: usize, out: &mut [u8], to: usize)
+pub fn copy_eight(src: &[u8], from: usize, out: &mut [u8], to: usize)
     requires { ⌜ (from + 8 ≤ length (now src)) × (to + 8 ≤ length (now out)) ⌝ }
     ensures { λ _. ⌜ now (out .exit) ≡ sets (now (out .entry)) to (take 8 (drop from (now (src .entry)))) ⌝ }
 {
@@ -70,68 +103,13 @@ fn copy_eight(src: &[u8], from: usize, out: &mut [u8], to: usize)
     store(out, to, a, b, c, d, e, f, g, h);
 }
 
-// A name of at most 24 bytes, whose length stands at `at`.
-fn long_name(s: &[u8], at: usize, out: &mut [u8], to: usize) -> usize
-    requires { ⌜ (getD (now s) at 0 ≤ 24) × (at + 1 + getD (now s) at 0 ≤ length (now s)) × (to + 24 ≤ length (now out)) ⌝ }
-    ensures { λ r. ⌜ Prints (now (out .entry)) to (take (getD (now (s .entry)) at 0) (drop (at + 1) (now (s .entry)))) (now (out .exit)) r ⌝ }
+// The first n bytes of a word.
+pub fn word(out: &mut [u8], to: usize, w: &[u8; 8], n: usize) -> usize
+    requires { ⌜ (n ≤ 8) × (to + 8 ≤ length (now out)) × (length (now w) ≡ 8) ⌝ }
+    ensures { λ r. ⌜ Prints (now (out .entry)) to (take n (now (w .entry))) (now (out .exit)) r ⌝ }
 {
-    let n = s[at] as usize;
-    let from = at + 1;
-    if from + 24 <= s.len() {
-        copy_eight(s, from, out, to);
-        copy_eight(s, from + 8, out, to + 8);
-        copy_eight(s, from + 16, out, to + 16);
-        return to + n;
-    }
-    runs::copy(s, from, from + n, out, to)
-}
-
-// The same. Most names have at most eight bytes, and this much is put in where it is called.
-pub fn name(s: &[u8], at: usize, out: &mut [u8], to: usize) -> usize
-    requires { ⌜ (getD (now s) at 0 ≤ 24) × (at + 1 + getD (now s) at 0 ≤ length (now s)) × (to + 24 ≤ length (now out)) ⌝ }
-    ensures { λ r. ⌜ Prints (now (out .entry)) to (take (getD (now (s .entry)) at 0) (drop (at + 1) (now (s .entry)))) (now (out .exit)) r ⌝ }
-{
-    let n = s[at] as usize;
-    if 8 < n {
-        return long_name(s, at, out, to);
-    }
-    if s.len() < at + 9 {
-        return long_name(s, at, out, to);
-    }
-    copy_eight(s, at + 1, out, to);
+    copy_eight(w, 0, out, to);
     to + n
-}
-
-// At most 16 bytes of s, from `from` on.
-pub fn few(s: &[u8], from: usize, n: usize, out: &mut [u8], to: usize) -> usize
-    requires { ⌜ (n ≤ 16) × (from + n ≤ length (now s)) × (to + 16 ≤ length (now out)) ⌝ }
-    ensures { λ r. ⌜ Prints (now (out .entry)) to (take n (drop from (now (s .entry)))) (now (out .exit)) r ⌝ }
-{
-    if from + 16 <= s.len() {
-        copy_eight(s, from, out, to);
-        copy_eight(s, from + 8, out, to + 8);
-        return to + n;
-    }
-    runs::copy(s, from, from + n, out, to)
-}
-
-// A name, then the first n bytes of a word.
-pub fn named(s: &[u8], at: usize, out: &mut [u8], to: usize, w: &[u8; 8], n: usize) -> usize
-    requires { ⌜ (getD (now s) at 0 ≤ 24) × (at + 1 + getD (now s) at 0 ≤ length (now s)) × (to + 24 ≤ length (now out)) ⌝ }
-    requires { ⌜ (n ≤ 8) × (to + getD (now s) at 0 + 8 ≤ length (now out)) × (length (now w) ≡ 8) ⌝ }
-    ensures { λ r. ⌜ Prints (now (out .entry)) to (take (getD (now (s .entry)) at 0) (drop (at + 1) (now (s .entry))) ++ take n (now (w .entry))) (now (out .exit)) r ⌝ }
-{
-    let o = name(s, at, out, to);
-    word(out, o, w, n)
-}
-
-// The place after a name.
-pub fn past(s: &[u8], at: usize) -> usize
-    requires { ⌜ at + 1 + getD (now s) at 0 ≤ length (now s) ⌝ }
-    ensures { λ r. ⌜ r ≡ at + 1 + getD (now (s .entry)) at 0 ⌝ }
-{
-    let n = s[at] as usize;
-    at + 1 + n
 }
 
 // The first n of the eight bytes of a number and a space.

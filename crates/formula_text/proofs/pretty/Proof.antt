@@ -6,8 +6,9 @@ use Rattle.rules.specs.Formula.{Formula}
 use Rattle.rules.specs.Refusal.{Outcome}
 use Rattle.rules.specs.declared.Answer.the-variants.{Good}
 use Rattle.words.specs.Ends.{whole-long, whole-room, whole}
-use Rattle.formula_text.specs.Task.{textOf}
-use Rattle.formula_text.proofs.Whole.{short, not-read, was-read, read, few}
+use Rattle.formula_walk.specs.Task.{textOf}
+use Rattle.formula_text.proofs.Whole.{short, not-read, was-read, read}
+use Rattle.formula_walk.specs.Read.{few}
 use borrow.Author.Needs.{needs}
 use Rattle.formula_text.proofs.pretty.Statement.{statement}
 use Rattle.formula_text.proofs.pretty.Tie as tie

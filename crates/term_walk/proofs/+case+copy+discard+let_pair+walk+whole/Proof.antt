@@ -45,7 +45,7 @@ use Rattle.phrases.proofs.two_names.Reads as two-names-reads
 use Rattle.walk.proofs.skip.Reads as skip-reads
 use Rattle.words.proofs.byte.Reads as byte-reads
 use Rattle.words.proofs.closed.Reads as closed-reads
-use Rattle.words.proofs.past.Reads as past-reads
+use Rattle.names.proofs.past.Reads as past-reads
 use Rattle.words.proofs.places.Reads as places-reads
 use Rattle.words.proofs.word.Reads as word-reads
 use Rattle.term_walk.proofs.+case+copy+discard+let_pair+walk+whole.{statement}

@@ -3,7 +3,7 @@ use mathlib.Core.Path.{refl}
 use mathlib.Core.List.{[], _∷_}
 use native.Mathlib.Omega.{arith}
 use denote.Ref.{now}
-use Rattle.words.proofs.Written.{prints}
+use Rattle.words.specs.Written.{prints}
 use borrow.Author.Needs.{needs}
 use Rattle.words.proofs.byte.Statement.{statement}
 use Rattle.words.proofs.byte.Tie as tie

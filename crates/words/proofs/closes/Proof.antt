@@ -1,7 +1,7 @@
 -- `words::closes` meets its contract: of the brackets all but those left are printed. Assumes nothing.
 use mathlib.Core.Path.{refl, _∙_}
 use native.Mathlib.Omega.{arith}
-use Rattle.words.proofs.Written.{Closing, none-yet, still-room, some-more, all-closed}
+use Rattle.words.specs.Written.{Closing, none-yet, still-room, some-more, all-closed}
 use Rattle.words.proofs.closes.Statement.{statement}
 use Rattle.words.proofs.closes.Tie as tie
 

@@ -1,7 +1,7 @@
 -- `words::copy_eight` meets its contract. Assumes nothing.
 use mathlib.Core.Path.{ap, _∙_}
 use lib.Seq.{sets}
-use Rattle.words.proofs.Written.{run}
+use Rattle.words.specs.Written.{run}
 use borrow.Author.Needs.{needs}
 use Rattle.words.proofs.copy_eight.Statement.{statement}
 use Rattle.words.proofs.copy_eight.Tie as tie

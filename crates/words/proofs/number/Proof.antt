@@ -1,6 +1,6 @@
 -- `words::number` meets its contract. Assumes nothing.
 use Rattle.words.specs.Prints.{eight}
-use Rattle.words.proofs.Written.{prints}
+use Rattle.words.specs.Written.{prints}
 use borrow.Author.Needs.{needs}
 use Rattle.words.proofs.number.Statement.{statement}
 use Rattle.words.proofs.number.Tie as tie

@@ -2,7 +2,7 @@
 use mathlib.Core.Path.{refl}
 use denote.Ref.{now}
 use Rattle.words.specs.Prints.{eight}
-use Rattle.words.proofs.Written.{with-space}
+use Rattle.words.specs.Written.{with-space}
 use borrow.Author.Needs.{needs}
 use Rattle.words.proofs.spaced.Statement.{statement}
 use Rattle.words.proofs.spaced.Tie as tie

@@ -1,7 +1,7 @@
 -- `words::store` meets its contract: each store is one turn of `sets`. Assumes nothing.
 use native.Mathlib.Omega.{arith}
 use lib.ListN.{length-set}
-use Rattle.words.proofs.Written.{stores}
+use Rattle.words.specs.Written.{stores}
 use borrow.Author.Needs.{needs}
 use Rattle.words.proofs.store.Statement.{statement}
 use Rattle.words.proofs.store.Tie as tie

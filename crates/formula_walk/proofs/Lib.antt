@@ -1,0 +1,5 @@
+-- What the proofs of several functions use.
+mod Shapes
+mod Leaves
+mod Pending
+mod Walking
