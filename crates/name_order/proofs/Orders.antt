@@ -11,9 +11,9 @@ use Rattle.rules.specs.Basic.{Bytes, if_then_else_, _<?_}
 use Rattle.rules.specs.Name.{Name}
 use Rattle.walk.specs.Place.{NameAt}
 use Rattle.walk.proofs.Names.{name-part}
-use Rattle.name_row.specs.declared.order.Stands.{Stands}
-use Rattle.name_row.specs.declared.order.Stands.the-variants.{Before, Same, After}
-use Rattle.name_row.specs.Order.{orderOf}
+use Rattle.name_order.specs.declared.order.Stands.{Stands}
+use Rattle.name_order.specs.declared.order.Stands.the-variants.{Before, Same, After}
+use Rattle.name_order.specs.Order.{orderOf}
 
 module _ (a b : List ℕ) (i : ℕ) (h : i < length a) where
   pub order-longer : length b ≤ i → orderOf a b ≡ orderOf (drop i a) (drop i b) → After ≡ orderOf a b

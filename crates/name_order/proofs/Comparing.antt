@@ -10,7 +10,7 @@ use Rattle.rules.specs.Basic.{Bytes}
 use Rattle.rules.specs.Name.{Name, same, encodeName}
 use Rattle.walk.specs.Place.{NameAt}
 use Rattle.walk.proofs.Names.{head-byte, name-part}
-use Rattle.name_row.specs.Ordered.{same-eq}
+use Rattle.name_order.specs.Ordered.{same-eq}
 
 pub name-length : (s : Bytes) (i : ℕ) (x : Name) → NameAt s i x → getD s i 0 ≡ length x
 name-length s i x w = head-byte s _ i (length x) (w .bytes)

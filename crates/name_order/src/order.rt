@@ -2,7 +2,7 @@
 ghost use mathlib.Core.Path.{_≡_};
 ghost use Rattle.rules.specs.Name.{Name, same as sameName};
 ghost use Rattle.walk.specs.Place.{NameAt};
-ghost use Rattle.name_row.specs.Order.{orderOf};
+ghost use Rattle.name_order.specs.Order.{orderOf};
 
 // How one name stands to another: before it, the same, or after it.
 pub enum Stands {

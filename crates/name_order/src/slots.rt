@@ -4,7 +4,7 @@ ghost use Prim.Native.Nat.{_≤_, _<_};
 ghost use lib.ListN.{length};
 ghost use Rattle.rules.specs.Name.{Name};
 ghost use Rattle.walk.specs.Place.{NameAt};
-ghost use Rattle.name_row.specs.Rows.{Passed, Scanned, Sought, Goes, Opened};
+ghost use Rattle.name_order.specs.Rows.{Passed, Scanned, Sought, Goes, Opened};
 use crate::BINDERS;
 use crate::order::Stands;
 use crate::order::order_at;
