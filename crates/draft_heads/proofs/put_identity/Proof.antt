@@ -1,10 +1,10 @@
--- `draft::heads::put_identity` meets its contract: a name, then its variable. Assumes nothing.
+-- `draft_heads::put_identity` meets its contract: a name, then its variable. Assumes nothing.
 use native.Mathlib.Omega.{arith}
 use Rattle.runs.specs.Writing.{chain}
-use Rattle.draft.proofs.Sorts.{identity-length}
+use Rattle.draft_heads.proofs.Sorts.{identity-length}
 use borrow.Author.Needs.{needs}
-use Rattle.draft.proofs.heads.put_identity.Statement.{statement}
-use Rattle.draft.proofs.heads.put_identity.Tie as tie
+use Rattle.draft_heads.proofs.put_identity.Statement.{statement}
+use Rattle.draft_heads.proofs.put_identity.Tie as tie
 
 put-x-requires : tie.Need-put-x-requires
 put-x-requires c κs = omega (arith, c .before .before .pre, identity-length (c .before .before .args .number))

@@ -1,4 +1,4 @@
--- `draft::heads::put_middle` meets its contract: by the kind, a name, a name and its variable, nothing, Unit, or two names and a variable.
+-- `draft_heads::put_middle` meets its contract: by the kind, a name, a name and its variable, nothing, Unit, or two names and a variable.
 -- Assumes nothing.
 use mathlib.Core.Path.{sym, ap}
 use native.Mathlib.Omega.{arith}
@@ -6,10 +6,10 @@ use lib.ListN.{length}
 use denote.Ref.{now}
 use Rattle.runs.specs.Writing.{chain, wrote-none}
 use Rattle.report.specs.Digits.{wrote-one, wrote-as}
-use Rattle.draft.proofs.Sorts.{middle-named, middle-identity, middle-none, middle-discarding, middle-two, middle-copying, middle-room, copying-length, two-length}
+use Rattle.draft_heads.proofs.Sorts.{middle-named, middle-identity, middle-none, middle-discarding, middle-two, middle-copying, middle-room, copying-length, two-length}
 use borrow.Author.Needs.{needs}
-use Rattle.draft.proofs.heads.put_middle.Statement.{statement}
-use Rattle.draft.proofs.heads.put_middle.Tie as tie
+use Rattle.draft_heads.proofs.put_middle.Statement.{statement}
+use Rattle.draft_heads.proofs.put_middle.Tie as tie
 
 put-name-requires : tie.Need-put-name-requires
 put-name-requires c κs =

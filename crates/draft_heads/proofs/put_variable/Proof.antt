@@ -1,12 +1,12 @@
--- `draft::heads::put_variable` meets its contract: the tag of a variable, then its name. Assumes nothing.
+-- `draft_heads::put_variable` meets its contract: the tag of a variable, then its name. Assumes nothing.
 use mathlib.Core.Path.{_∙_}
 use native.Mathlib.Omega.{arith}
 use lib.ListN.{length-set}
 use denote.Ref.{now}
 use Rattle.draft.proofs.Numbering.{then-byte}
 use borrow.Author.Needs.{needs}
-use Rattle.draft.proofs.heads.put_variable.Statement.{statement}
-use Rattle.draft.proofs.heads.put_variable.Tie as tie
+use Rattle.draft_heads.proofs.put_variable.Statement.{statement}
+use Rattle.draft_heads.proofs.put_variable.Tie as tie
 
 slice-write-out : tie.Need-slice-write-out
 slice-write-out c = search needs

@@ -1,12 +1,12 @@
--- `draft::heads::head_len` meets its contract: a tag, and by the kind the lengths of the names and of the variable. Assumes nothing.
+-- `draft_heads::head_len` meets its contract: a tag, and by the kind the lengths of the names and of the variable. Assumes nothing.
 use mathlib.Core.Path.{ap}
 use native.Mathlib.Omega.{arith}
 use lib.ListN.{length}
 use denote.Ref.{now}
-use Rattle.draft.proofs.Sorts.{middle-named, middle-identity, middle-none, middle-discarding, middle-two, middle-copying, identity-length, copying-length, two-length}
+use Rattle.draft_heads.proofs.Sorts.{middle-named, middle-identity, middle-none, middle-discarding, middle-two, middle-copying, identity-length, copying-length, two-length}
 use borrow.Author.Needs.{needs}
-use Rattle.draft.proofs.heads.head_len.Statement.{statement}
-use Rattle.draft.proofs.heads.head_len.Tie as tie
+use Rattle.draft_heads.proofs.head_len.Statement.{statement}
+use Rattle.draft_heads.proofs.head_len.Tie as tie
 
 name-len-requires : tie.Need-name-len-requires
 name-len-requires c κs = search needs

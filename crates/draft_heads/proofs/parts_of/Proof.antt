@@ -1,10 +1,10 @@
--- `draft::heads::parts_of` meets its contract: how many parts follow, read off the packed numbers, and the last kind by itself. Assumes nothing.
+-- `draft_heads::parts_of` meets its contract: how many parts follow, read off the packed numbers, and the last kind by itself. Assumes nothing.
 use mathlib.Core.Path.{sym, ap}
-use Rattle.draft.specs.Heads.{partsOf}
-use Rattle.draft.proofs.Sorts.{parts-packed, shape-last}
+use Rattle.draft_heads.specs.Heads.{partsOf}
+use Rattle.draft_heads.proofs.Sorts.{parts-packed, shape-last}
 use borrow.Author.Needs.{needs}
-use Rattle.draft.proofs.heads.parts_of.Statement.{statement}
-use Rattle.draft.proofs.heads.parts_of.Tie as tie
+use Rattle.draft_heads.proofs.parts_of.Statement.{statement}
+use Rattle.draft_heads.proofs.parts_of.Tie as tie
 
 returns : tie.Need-returns
 returns c = sym (ap partsOf (shape-last _ (c .if1 .taken)))

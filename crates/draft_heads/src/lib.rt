@@ -1,8 +1,8 @@
 // The head of a row's term: its tag, and what stands between it and the parts.
-use crate::names::name_len;
-use crate::names::put_name;
-use crate::names::put_x;
-use crate::names::x_len;
+use draft::names::name_len;
+use draft::names::put_name;
+use draft::names::put_x;
+use draft::names::x_len;
 ghost use mathlib.Core.Path.{_≡_};
 ghost use Prim.Native.Nat.{_+_, _<_, _≤_};
 ghost use mathlib.Core.List.{[]};
@@ -10,9 +10,9 @@ ghost use lib.ListN.{length};
 ghost use Rattle.rules.specs.Basic.{_‥_};
 ghost use Rattle.rules.specs.Name.{encodeName};
 ghost use Rattle.runs.specs.Wrote.{Wrote};
 ghost use Rattle.draft.specs.Draft.{xName, shapeOf, identity};
 ghost use Rattle.draft.specs.Made.{mostNumber};
-ghost use Rattle.draft.specs.Heads.{tagOf, partsOf, nodesOf, variable, middle, head, Middleroom};
+ghost use Rattle.draft_heads.specs.Heads.{tagOf, partsOf, nodesOf, variable, middle, head, Middleroom};
 
 // For each kind but the last: its tag in five bits, how many parts follow and how many nodes the head has in two.
 const TAGS: usize = 10291638733905057;

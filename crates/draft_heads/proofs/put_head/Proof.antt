@@ -1,16 +1,16 @@
--- `draft::heads::put_head` meets its contract: the tag, then what stands behind it. Assumes nothing.
+-- `draft_heads::put_head` meets its contract: the tag, then what stands behind it. Assumes nothing.
 use Prim.Native.Nat.{ℕ}
 use mathlib.Core.Path.{ap, _∙_}
 use mathlib.Core.List.{_∷_}
 use lib.ListN.{length-set}
 use denote.Ref.{now}
 use Rattle.report.specs.Digits.{wrote-as}
 use Rattle.draft.specs.Draft.{shapeOf}
-use Rattle.draft.specs.Heads.{middle}
+use Rattle.draft_heads.specs.Heads.{middle}
 use Rattle.draft.proofs.Numbering.{then-byte}
 use borrow.Author.Needs.{needs}
-use Rattle.draft.proofs.heads.put_head.Statement.{statement}
-use Rattle.draft.proofs.heads.put_head.Tie as tie
+use Rattle.draft_heads.proofs.put_head.Statement.{statement}
+use Rattle.draft_heads.proofs.put_head.Tie as tie
 
 tag-of-requires : tie.Need-tag-of-requires
 tag-of-requires c κs = search needs

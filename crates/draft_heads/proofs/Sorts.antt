@@ -9,8 +9,8 @@ use lib.ListN.{length, length-append}
 use borrow.Author.Tests.{ltb-true, ltb-false}
 use Rattle.rules.specs.Basic.{Bytes}
 use Rattle.rules.specs.Name.{encodeName}
 use Rattle.draft.specs.Draft.{nameOf, xName, shapeOf, identity, copying}
-use Rattle.draft.specs.Heads.{tagOf, variable, twoNames, middle, partsOf, nodesOf}
+use Rattle.draft_heads.specs.Heads.{tagOf, variable, twoNames, middle, partsOf, nodesOf}
 
 pub tag-packed : (k : ℕ) → k ≤ 10 → 10291638733905057 / 2 ^ (k * 5) % 32 ≡ tagOf (shapeOf k)
 tag-packed zero h = refl

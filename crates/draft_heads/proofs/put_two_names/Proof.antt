@@ -1,9 +1,9 @@
--- `draft::heads::put_two_names` meets its contract: a name, then the other. Assumes nothing.
+-- `draft_heads::put_two_names` meets its contract: a name, then the other. Assumes nothing.
 use native.Mathlib.Omega.{arith}
 use Rattle.runs.specs.Writing.{chain}
 use borrow.Author.Needs.{needs}
-use Rattle.draft.proofs.heads.put_two_names.Statement.{statement}
-use Rattle.draft.proofs.heads.put_two_names.Tie as tie
+use Rattle.draft_heads.proofs.put_two_names.Statement.{statement}
+use Rattle.draft_heads.proofs.put_two_names.Tie as tie
 
 put-x-requires : tie.Need-put-x-requires
 put-x-requires c κs = omega (arith, c .before .before .pre)

@@ -1,10 +1,10 @@
--- `draft::heads::tag_of` meets its contract: the tag, read off the packed numbers, and the last kind by itself. Assumes nothing.
+-- `draft_heads::tag_of` meets its contract: the tag, read off the packed numbers, and the last kind by itself. Assumes nothing.
 use mathlib.Core.Path.{sym, ap}
-use Rattle.draft.specs.Heads.{tagOf}
-use Rattle.draft.proofs.Sorts.{tag-packed, shape-last}
+use Rattle.draft_heads.specs.Heads.{tagOf}
+use Rattle.draft_heads.proofs.Sorts.{tag-packed, shape-last}
 use borrow.Author.Needs.{needs}
-use Rattle.draft.proofs.heads.tag_of.Statement.{statement}
-use Rattle.draft.proofs.heads.tag_of.Tie as tie
+use Rattle.draft_heads.proofs.tag_of.Statement.{statement}
+use Rattle.draft_heads.proofs.tag_of.Tie as tie
 
 returns : tie.Need-returns
 returns c = sym (ap tagOf (shape-last _ (c .if1 .taken)))

@@ -1,10 +1,10 @@
--- `draft::heads::nodes_of` meets its contract: how many nodes the head has, read off the packed numbers, and the last kind by itself. Assumes nothing.
+-- `draft_heads::nodes_of` meets its contract: how many nodes the head has, read off the packed numbers, and the last kind by itself. Assumes nothing.
 use mathlib.Core.Path.{sym, ap}
-use Rattle.draft.specs.Heads.{nodesOf}
-use Rattle.draft.proofs.Sorts.{nodes-packed, shape-last}
+use Rattle.draft_heads.specs.Heads.{nodesOf}
+use Rattle.draft_heads.proofs.Sorts.{nodes-packed, shape-last}
 use borrow.Author.Needs.{needs}
-use Rattle.draft.proofs.heads.nodes_of.Statement.{statement}
-use Rattle.draft.proofs.heads.nodes_of.Tie as tie
+use Rattle.draft_heads.proofs.nodes_of.Statement.{statement}
+use Rattle.draft_heads.proofs.nodes_of.Tie as tie
 
 returns : tie.Need-returns
 returns c = sym (ap nodesOf (shape-last _ (c .if1 .taken)))
