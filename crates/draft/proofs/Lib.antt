@@ -1,4 +1,3 @@
 pub mod Putting
 pub mod Numbering
 pub mod Stems
-pub mod Sorts

@@ -2,4 +2,3 @@ pub mod Draft
 pub mod Made
 pub mod Steady
 pub mod Adding
-pub mod Heads

@@ -1,5 +1,4 @@
-// A draft of a term: its rows, and the heads that they write.
-pub mod heads;
+// A draft of a term: its rows, and the names that they write.
 pub mod names;
 
 ghost use Prim.Native.Nat.{_+_, _*_, _<_, _≤_};

@@ -10,7 +10,7 @@ use Rattle.runs.specs.Writing.{chain}
 use Rattle.report.specs.Digits.{wrote-as, wrote-one}
 use Rattle.draft.specs.Draft.{Row, rowAt, shapeOf, Drafts}
 use Rattle.draft.specs.Steady.{drafts-unit, drafts-trivial, drafts-one}
-use Rattle.draft.specs.Heads.{front, partsOf, written}
+use Rattle.draft_heads.specs.Heads.{front, partsOf, written}
 use Rattle.draft_term.specs.Writing.{Puts}
 use Rattle.draft_term.proofs.Shapes.{shaped-bytes}
 use Rattle.draft_term.proofs.Opening.{Opened, opened}

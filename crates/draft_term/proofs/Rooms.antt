@@ -12,7 +12,7 @@ use Rattle.runs.specs.Wrote.{Wrote}
 use Rattle.runs.specs.Writing.{wrote-length}
 use Rattle.draft.specs.Draft.{Row, rowAt, nameOf, Shape, shapeOf, named, identity, discarding, letting, branching, copying, wrapping, joining, shaped}
 use Rattle.draft.specs.Made.{Small}
-use Rattle.draft.specs.Heads.{head, partsOf, summed, Middleroom}
+use Rattle.draft_heads.specs.Heads.{head, partsOf, summed, Middleroom}
 use Rattle.draft_term.specs.Writing.{Writable, Puts}
 use Rattle.draft_term.proofs.Shapes.{shaped-size}
 use Rattle.draft_term.proofs.Opening.{Opened, opened}

@@ -9,7 +9,7 @@ use Rattle.rules.specs.Basic.{Bytes}
 use Rattle.rules.specs.Name.{encodeName}
 use Rattle.rules.specs.Term.{Term, encode, nodes, size}
 use Rattle.draft.specs.Draft.{Row, xName, shaped, Shape, named, identity, discarding, letting, branching, copying, wrapping, joining}
-use Rattle.draft.specs.Heads.{variable, twoNames, head, partsOf, written, nodesOf, summed}
+use Rattle.draft_heads.specs.Heads.{variable, twoNames, head, partsOf, written, nodesOf, summed}
 
 -- two names, and what follows them
 two-names : (t n : ℕ) (l : Bytes) → t ∷ (encodeName (xName n) ++ (encodeName (xName (suc n)) ++ l)) ≡ (t ∷ twoNames n) ++ l

@@ -13,7 +13,7 @@ use Rattle.rules.specs.Limits.{limits}
 use Rattle.rules.specs.Term.{Term, encode, nodes, size, fits}
 use Rattle.draft.specs.Draft.{rowAt, Shape, shapeOf, named, identity, discarding, letting, branching, copying, wrapping, joining, drafted, Rows, Drafts}
 use Rattle.draft.specs.Steady.{drafts, drafts-one, drafts-unit, drafts-trivial}
-use Rattle.draft.specs.Heads.{head, partsOf, nodesOf, summed}
+use Rattle.draft_heads.specs.Heads.{head, partsOf, nodesOf, summed}
 use Rattle.draft_term.specs.Measured.{cap, capped, Sized, Countable, Measured}
 use Rattle.draft_term.proofs.Shapes.{shaped-size, shaped-nodes}
 use Rattle.draft_term.proofs.Opening.{row-opened}

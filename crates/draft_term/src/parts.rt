@@ -1,6 +1,6 @@
 // The term of a part, written from its rows.
-use draft::heads::parts_of;
-use draft::heads::put_head;
+use draft_heads::parts_of;
+use draft_heads::put_head;
 ghost use Rattle.rules.specs.Term.{Term};
 ghost use Rattle.draft.specs.Made.{Small};
 ghost use Rattle.draft_term.specs.Writing.{Writable, Puts};

@@ -1,7 +1,7 @@
 // The sizes of the parts of a draft, held at a cap: a branching writes a part twice, so that a term can be far larger than its draft.
-use draft::heads::head_len;
-use draft::heads::nodes_of;
-use draft::heads::parts_of;
+use draft_heads::head_len;
+use draft_heads::nodes_of;
+use draft_heads::parts_of;
 use rules::MOST_BYTES;
 use rules::MOST_NODES;
 ghost use mathlib.Core.Path.{_≡_};
@@ -9,7 +9,7 @@ ghost use Prim.Native.Nat.{_+_, _≤_, _<_};
 ghost use Rattle.rules.specs.Limits.{limits};
 ghost use Rattle.rules.specs.Term.{Term, fits as fitsLimits};
 ghost use Rattle.draft.specs.Draft.{Drafts};
-ghost use Rattle.draft.specs.Heads.{summed};
+ghost use Rattle.draft_heads.specs.Heads.{summed};
 ghost use Rattle.draft_term.specs.Measured.{cap, capped as cappedAt, Countable, Measured};
 
 const CAP: usize = 65535;

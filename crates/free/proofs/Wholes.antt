@@ -16,7 +16,7 @@ use Rattle.runs.specs.Writing.{filled-up, wrote-length}
 use Rattle.walk.proofs.Terms.{whole}
 use Rattle.free.specs.declared.gathering.Gathered.{Gathered}
 use Rattle.free.specs.Gather.{gather-free}
-use Rattle.name_row.specs.Rows.{Held, Passed, Writes}
+use Rattle.name_order.specs.Rows.{Held, Passed, Writes}
 use Rattle.free.specs.Walk.{Task, Done}
 use Rattle.free.specs.Whole.{Lists, Listed}
 

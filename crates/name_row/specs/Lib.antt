@@ -1,6 +1,1 @@
-pub mod Ordered
-pub mod Members
-pub mod Search
-pub mod Order
-pub mod Rows
 pub mod State

@@ -9,18 +9,13 @@ ghost use Rattle.rules.specs.Basic.{if_then_else_};
 ghost use Rattle.rules.specs.Name.{Name};
 ghost use Rattle.rules.specs.Free.{insert};
 ghost use Rattle.walk.specs.Place.{NameAt};
-ghost use Rattle.name_row.specs.Ordered.{elem};
+ghost use Rattle.name_order.specs.Ordered.{elem};
 ghost use Rattle.name_row.specs.State.{Live, Meets, Met};
-use order::same_at;
-use slots::passed;
-use slots::put_in;
-use slots::slot_for;
-
-mod order;
-mod slots;
-
-// Where the places of the binders end in the row.
-pub const BINDERS: usize = 1024;
+use name_order::BINDERS;
+use name_order::order::same_at;
+use name_order::slots::passed;
+use name_order::slots::put_in;
+use name_order::slots::slot_for;
 
 // Whether an entry of the row is a name found or a binder passed.
 fn live(g: usize, low: usize, n: usize) -> bool

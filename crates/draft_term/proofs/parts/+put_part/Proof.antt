@@ -12,8 +12,8 @@ use borrow.Fn.PlainCycle.{Measures, is, falls, and}
 use Rattle.draft_term.proofs.parts.put_part.Reads as put-part
 use Rattle.draft_term.proofs.parts.put_part.Kinds as put-part-kinds
 use Rattle.draft_term.proofs.parts.+put_part.Lts-put_part as put-part-lts
-use Rattle.draft.proofs.heads.parts_of.Reads as parts-of-reads
-use Rattle.draft.proofs.heads.put_head.Reads as put-head-reads
+use Rattle.draft_heads.proofs.parts_of.Reads as parts-of-reads
+use Rattle.draft_heads.proofs.put_head.Reads as put-head-reads
 use Rattle.draft_term.proofs.parts.+put_part.{statement}
 use Rattle.draft_term.proofs.parts.+put_part.Tie.{close}
 

@@ -1,0 +1,5 @@
+pub mod Ordered
+pub mod Members
+pub mod Search
+pub mod Order
+pub mod Rows
