@@ -1,36 +1,23 @@
 // From a checked proof to a draft of its term: one walk over its rules, with the row of cut entries that is lent and a counter.
 ghost use mathlib.Core.Path.{_≡_};
 ghost use mathlib.Core.List.{List};
-ghost use Prim.Native.Nat.{ℕ, _^_, _<_};
-ghost use Rattle.drafting.specs.Walk.{Starts, Ends};
-ghost use Rattle.drafting.specs.Planning.{Planned, Began};
-ghost use Rattle.drafting.specs.declared.plan.Plan.{Plan};
+ghost use Prim.Native.Nat.{ℕ, _<_};
+ghost use Rattle.planning.specs.Walk.{Starts, Ends};
+ghost use Rattle.planning.specs.Planning.{Planned, Began};
+ghost use Rattle.planning.specs.declared.plan.Plan.{Plan};
 use entries::CutEntry;
 use entries::entry_at;
 use entries::put_entry;
 use one_rule::Drafted;
 use one_rule::puts::put_pair;
-use plan::Plan;
-use plan::plan_at;
-use put::put_alone;
-use put::put_axiom;
-use put::put_cut;
-use put::put_first;
+use planning::entry_of;
+use planning::plan::Plan;
+use planning::plan::plan_at;
+use planning::put::put_alone;
+use planning::put::put_axiom;
+use planning::put::put_cut;
+use planning::put::put_first;
 use seeking::axiom_name;
-
-mod plan;
-mod put;
-
-// The entry of a Cut on the formula at `place`.
-fn entry_of(place: usize, counter: usize) -> CutEntry
-    requires { ⌜ counter < 2 ^ 32 ⌝ }
-    ensures { λ r. ⌜ r ≡ record { place = place; counter = counter } ⌝ }
-{
-    CutEntry {
-        place,
-        counter: counter as u32,
-    }
-}
 
 // A rule that reads no premise, by its plan.
 fn draft_alone(

@@ -15,7 +15,7 @@ use Rattle.rules.specs.Extraction.{terms, extract}
 use Rattle.rules.specs.Buffers.{filled, cleared}
 use Rattle.rules.specs.Calls.{extractEnding}
 use Rattle.one_rule.specs.declared.Drafted.{Drafted}
-use Rattle.drafting.specs.Walk.{Done}
+use Rattle.planning.specs.Walk.{Done}
 use Rattle.own_row.specs.Whole.{Whole}
 use Rattle.extract.specs.Legals.{extract-fine}
 use Rattle.extract.specs.Whole.{decided, outcome, told, Finishes, Finished, Checked}

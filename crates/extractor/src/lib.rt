@@ -1,28 +1,23 @@
 // The named form of extraction: an extractor that is lent and changed where it stands, and the cut entries a lent row.
 ghost use mathlib.Core.Path.{_≡_};
-ghost use mathlib.Core.List.{List, []};
-ghost use Prim.Native.Nat.{ℕ, _≤_};
+ghost use mathlib.Core.List.{[]};
+ghost use Prim.Native.Nat.{_≤_};
 ghost use lib.ListN.{length};
 ghost use Rattle.rules.specs.Limits.{limits};
 ghost use Rattle.rules.specs.Proof.{Proof};
 ghost use Rattle.rules.specs.Extraction.{terms, extract as extractOf};
 ghost use Rattle.rules.specs.Calls.{startCall, extractCall};
-ghost use Rattle.entries.specs.Entries.{pairs};
-ghost use Rattle.drafting.specs.Walk.{Done};
+ghost use Rattle.entries.specs.Entries.{none, zeroed, pairs};
 ghost use Rattle.extract.specs.Whole.{Checked};
-ghost use Rattle.extract.specs.declared.Extraction.the-variants.{Refused};
-ghost use Rattle.extractor.specs.Ending.{clearsOf, endedOf, Extracts, Begins, Closes};
+ghost use Rattle.ending.specs.Ending.{Extracts, Closes};
 use drafting::draft_rule;
+use ending::Ended;
+use ending::begin;
+use ending::close;
+use ending::start_of;
 use entries::CutEntry;
 use entries::clear_rows;
-use extract::Extraction;
-use extract::finish;
-use one_rule::Drafted;
 use rules::Answer;
-use rules::ENTRY_ROOM;
-use rules::OUTPUT_ROOM;
-use rules::Refusal;
-use rules::SCRATCH_ROOM;
 
 pub struct Extractor {
     pub counter: u32,
@@ -52,117 +47,7 @@ impl Extractor {
     }
 }
 
-// How an extraction ends: its answer, the counter after it, and how many entries of the row are set to zeros; or that it goes on.
-struct Ended {
-    pub answer: Answer,
-    pub counter: u32,
-    pub clears: usize,
-    pub goes: bool,
-}
-
-// How many entries a refusal sets to zeros: none by 1 to 7 and 9, else all.
-fn clears(number: u8, room: usize) -> usize
-    ensures { λ r. ⌜ r ≡ clearsOf number room ⌝ }
-{
-    if number < 8 {
-        return 0;
-    }
-    if number == 9 {
-        return 0;
-    }
-    room
-}
-
-// How an extraction ends, beside a row of so many entries.
-fn end_of(made: Extraction, before: u32, room: usize) -> Ended
-    ensures { λ r. ⌜ r ≡ endedOf made before room ⌝ }
-{
-    match made {
-        Extraction::Made { bytes, counter } => Ended {
-            answer: Answer::Good(bytes),
-            counter,
-            clears: room,
-            goes: false,
-        },
-        Extraction::Refused(r) => Ended {
-            answer: Answer::Refused(r),
-            counter: before,
-            clears: clears(r.number, room),
-            goes: false,
-        },
-    }
-}
-
-// A refusal that is about no place of an input.
-fn stopped(number: u8, before: u32, room: usize) -> Ended
-    ensures { λ r. ⌜ r ≡ endedOf (Refused (record { number = number; place = 0; input = 0 })) before room ⌝ }
-{
-    end_of(
-        Extraction::Refused(Refusal {
-            number,
-            place: 0,
-            input: 0,
-        }),
-        before,
-        room,
-    )
-}
-
-// What is refused before anything is walked. A counter that is over the most stays so.
-fn begin(counter: u32, room: usize, proof: &[u8], out: &[u8], scratch: &[u8]) -> Ended
-    ensures { λ r. ⌜ Begins counter room (now (proof .entry)) (now (out .entry)) (now (scratch .entry)) r ⌝ }
-{
-    if room < ENTRY_ROOM {
-        return stopped(1, counter, room);
-    }
-    if out.len() < OUTPUT_ROOM {
-        return stopped(1, counter, room);
-    }
-    if scratch.len() < SCRATCH_ROOM {
-        return stopped(1, counter, room);
-    }
-    match proof::proof_input(proof, 1) {
-        Answer::Refused(r) => end_of(Extraction::Refused(r), counter, room),
-        Answer::Good(rules) => {
-            if 100_000_000 < counter {
-                return stopped(9, counter, room);
-            }
-            Ended {
-                answer: Answer::Good(rules),
-                counter,
-                clears: 0,
-                goes: true,
-            }
-        }
-    }
-}
-
-// The term of a draft is measured and written.
-fn close(
-    counter: u32,
-    room: usize,
-    proof: &[u8],
-    rows: &[usize],
-    draft: Drafted,
-    out: &mut [u8],
-    scratch: &mut [u8],
-) -> Ended
-    requires { ⌜ ((p : Proof) × (ws : List ℕ) × Checked (now proof) (now out) 512 p × Done (now proof) 0 ws (now rows) 0 counter p [] draft) ⌝ }
-    ensures { λ r. ⌜ ((p : Proof) → (ws : List ℕ) → Checked (now (proof .entry)) (now (out .entry)) 512 p → Done (now (proof .entry)) 0 ws (now (rows .entry)) 0 counter p [] draft
-        → Closes counter room (extractOf terms p [] counter) (now (out .entry)) (now (scratch .entry)) r (now (out .exit)) (now (scratch .exit))) ⌝ }
-{
-    let mut sizes = [0usize; 1028];
-    let made = finish(proof, rows, draft, &mut sizes, out, scratch);
-    end_of(made, counter, room)
-}
-
-fn start_of(counter: u32) -> usize
-    ensures { λ r. ⌜ r ≡ counter ⌝ }
-{
-    counter as usize
-}
-
-// A checked proof is walked over the row, with rows for the most rules.
+// A checked proof is walked over the row, with rows for the most rules; then the entries are set to zeros, or not.
 fn walk_proof(
     counter: u32,
     proof: &[u8],
@@ -171,17 +56,19 @@ fn walk_proof(
     scratch: &mut [u8],
 ) -> Ended
     requires { ⌜ ((p : Proof) × Checked (now proof) (now out) 512 p × (512 ≤ length (now entries)) × (counter ≤ 100000000)) ⌝ }
-    ensures { λ r. ⌜ (now (entries .exit) ≡ now (entries .entry)) × ((p : Proof) → Checked (now (proof .entry)) (now (out .entry)) 512 p
+    ensures { λ r. ⌜ (now (entries .exit) ≡ zeroed none (r .clears) (now (entries .entry))) × ((p : Proof) → Checked (now (proof .entry)) (now (out .entry)) 512 p
         → Closes counter (length (now (entries .entry))) (extractOf terms p [] counter) (now (out .entry)) (now (scratch .entry)) r (now (out .exit)) (now (scratch .exit))) ⌝ }
 {
     let mut rows = [0usize; 2560];
     let start = start_of(counter);
     let draft = draft_rule(proof, 0, entries, 0, &mut rows, 0, start);
     let room = entries.len();
-    close(counter, room, proof, &rows, draft, out, scratch)
+    let end = close(counter, room, proof, &rows, draft, out, scratch);
+    clear_rows(entries, end.clears);
+    end
 }
 
-// An extraction over the row itself, from a counter: the entries are set to zeros, or not.
+// An extraction over the row itself, from a counter. What is refused before the walk leaves the row as it was.
 fn extract_with(
     counter: u32,
     proof: &[u8],
@@ -192,12 +79,10 @@ fn extract_with(
     ensures { λ r. ⌜ Extracts (extractCall limits counter (now (proof .entry)) (now (out .entry)) (now (scratch .entry)) (pairs (now (entries .entry))))
         (r .answer) (now (out .exit)) (now (scratch .exit)) (pairs (now (entries .exit))) (r .counter) ⌝ }
 {
-    let begun = begin(counter, entries.len(), proof, out, scratch);
+    let room = entries.len();
+    let begun = begin(counter, room, proof, out, scratch);
     if begun.goes {
-        let end = walk_proof(counter, proof, entries, out, scratch);
-        clear_rows(entries, end.clears);
-        return end;
+        return walk_proof(counter, proof, entries, out, scratch);
     }
-    clear_rows(entries, begun.clears);
     begun
 }

@@ -10,7 +10,7 @@ use Rattle.rules.specs.Proof.{Proof}
 use Rattle.draft.specs.Steady.{rows-none, small-none}
 use Rattle.one_rule.specs.declared.Drafted.{Drafted}
 use Rattle.entries.specs.declared.CutEntry.{CutEntry}
-use Rattle.drafting.specs.Walk.{Task, Done, Starts, Ends}
+use Rattle.planning.specs.Walk.{Task, Done, Starts, Ends}
 use Rattle.own_row.specs.Whole.{Whole}
 
 module _ {s : Bytes} {most : ℕ} {ws : List ℕ} {n : ℕ} {cs : List CutEntry} (h : most ≤ length cs) where

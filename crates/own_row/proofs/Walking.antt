@@ -33,7 +33,7 @@ use Rattle.one_rule.proofs.Drafted as D
 use Rattle.entries.specs.declared.CutEntry.{CutEntry}
 use Rattle.entries.proofs.Row.{R}
 use Rattle.entries.proofs.Lent.{KeptRow, lend-row, row-back}
-use Rattle.drafting.specs.Walk.{Starts, Ends}
+use Rattle.planning.specs.Walk.{Starts, Ends}
 use Rattle.drafting.proofs.draft_rule as draft-of
 
 abbrev pub Names : Type 0

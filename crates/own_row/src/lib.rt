@@ -2,7 +2,7 @@
 ghost use mathlib.Core.Path.{_≡_};
 ghost use mathlib.Core.List.{[]};
 ghost use Rattle.rules.specs.Proof.{Proof};
-ghost use Rattle.drafting.specs.Walk.{Done};
+ghost use Rattle.planning.specs.Walk.{Done};
 ghost use Rattle.own_row.specs.Whole.{Whole};
 use drafting::draft_rule;
 use entries::CutEntry;

@@ -72,35 +72,35 @@ use Rattle.entries.proofs.put_entry.Symbol as put-def
 use Rattle.entries.proofs.put_entry.Symbol.{name as #put}
 use Rattle.entries.proofs.put_entry.Met as put-thm
 use Rattle.seeking.specs.Entry.{inRow}
-use Rattle.drafting.specs.Walk.{Starts, Ends}
-use Rattle.drafting.specs.Planning.{Planned, Began}
-use Rattle.drafting.specs.declared.plan.Plan.{Plan}
-use Rattle.drafting.proofs.plan.Plan as G
-use Rattle.drafting.proofs.plan.Plan.Laws as G′
-use Rattle.drafting.proofs.Planned.{plan-later, one-begun, pair-on, pair-begins, pair-opens, pair-done, cut-goes, cut-room, cut-formula, cut-begins, cut-opens, cut-done}
-use Rattle.drafting.proofs.Ruled.{starts-here, starts-open}
-use Rattle.drafting.proofs.Pushing.{restored}
+use Rattle.planning.specs.Walk.{Starts, Ends}
+use Rattle.planning.specs.Planning.{Planned, Began}
+use Rattle.planning.specs.declared.plan.Plan.{Plan}
+use Rattle.planning.proofs.plan.Plan as G
+use Rattle.planning.proofs.plan.Plan.Laws as G′
+use Rattle.planning.proofs.Planned.{plan-later, one-begun, pair-on, pair-begins, pair-opens, pair-done, cut-goes, cut-room, cut-formula, cut-begins, cut-opens, cut-done}
+use Rattle.planning.proofs.Ruled.{starts-here, starts-open}
+use Rattle.planning.proofs.Pushing.{restored}
 use Rattle.seeking.proofs.Tests.{not-below, apart}
-use Rattle.drafting.proofs.plan.plan_at as plan-of
-use Rattle.drafting.proofs.plan.plan_at.Symbol as plan-def
-use Rattle.drafting.proofs.plan.plan_at.Symbol.{name as #plan}
-use Rattle.drafting.proofs.plan.plan_at.Met as plan-thm
+use Rattle.planning.proofs.plan.plan_at as plan-of
+use Rattle.planning.proofs.plan.plan_at.Symbol as plan-def
+use Rattle.planning.proofs.plan.plan_at.Symbol.{name as #plan}
+use Rattle.planning.proofs.plan.plan_at.Met as plan-thm
 use Rattle.drafting.proofs.draft_alone as alone-of
 use Rattle.drafting.proofs.draft_alone.Symbol as alone-def
 use Rattle.drafting.proofs.draft_alone.Symbol.{name as #alone}
 use Rattle.drafting.proofs.draft_alone.Met as alone-thm
-use Rattle.drafting.proofs.put.put_first as first-of
-use Rattle.drafting.proofs.put.put_first.Symbol as first-def
-use Rattle.drafting.proofs.put.put_first.Symbol.{name as #first}
-use Rattle.drafting.proofs.put.put_first.Met as first-thm
-use Rattle.drafting.proofs.put.put_cut as join-of
-use Rattle.drafting.proofs.put.put_cut.Symbol as join-def
-use Rattle.drafting.proofs.put.put_cut.Symbol.{name as #join}
-use Rattle.drafting.proofs.put.put_cut.Met as join-thm
-use Rattle.drafting.proofs.entry_of as of-of
-use Rattle.drafting.proofs.entry_of.Symbol as of-def
-use Rattle.drafting.proofs.entry_of.Symbol.{name as #of}
-use Rattle.drafting.proofs.entry_of.Met as of-thm
+use Rattle.planning.proofs.put.put_first as first-of
+use Rattle.planning.proofs.put.put_first.Symbol as first-def
+use Rattle.planning.proofs.put.put_first.Symbol.{name as #first}
+use Rattle.planning.proofs.put.put_first.Met as first-thm
+use Rattle.planning.proofs.put.put_cut as join-of
+use Rattle.planning.proofs.put.put_cut.Symbol as join-def
+use Rattle.planning.proofs.put.put_cut.Symbol.{name as #join}
+use Rattle.planning.proofs.put.put_cut.Met as join-thm
+use Rattle.planning.proofs.entry_of as of-of
+use Rattle.planning.proofs.entry_of.Symbol as of-def
+use Rattle.planning.proofs.entry_of.Symbol.{name as #of}
+use Rattle.planning.proofs.entry_of.Met as of-thm
 use Rattle.drafting.proofs.draft_rule.Key.{name as #rule}
 use Rattle.drafting.proofs.draft_rule as rule
 use Rattle.drafting.proofs.draft_premises.Key.{name as #premises}
@@ -1317,7 +1317,7 @@ module _ {M : Type 1} (𝓤 : URA M) (H : Heap 𝓤) (A : Atoms 𝓤) (W : Given
           alloc1 ! (λ l₀. alloc1 ! (λ l₁. alloc1 ! (λ l₂. alloc1 ! (λ l₃. alloc1 ! (λ l₄. alloc1 ! (λ l₅. alloc1 ! (λ l₆. alloc1 ! (λ l₇. alloc1 ! (λ l₈. alloc1 ! (λ l₉. alloc1 ! (λ l₁₀. alloc1 ! (λ l₁₁. alloc1 ! (λ l₁₂. alloc1 ! (λ l₁₃. alloc1 ! (λ l₁₄. alloc1 ! (λ l₁₅. alloc1 ! (λ l₁₆. alloc1 ! (λ l₁₇. alloc0 ! $ params1 ! $
           pass1 ! (init ! 32 refl (tt, (tt, (record { fits = room-s .0 }, tt)))) $ pass1 ! (init ! 30 refl (tt, record { fits = g-j })) $ pass1 ! (init ! 28 refl (tt, (tt, (record { fits = room-cs .0 }, tt)))) $ pass1 ! (init ! 26 refl (tt, record { fits = g-k })) $ pass1 ! (init ! 24 refl (tt, (tt, (record { fits = room-ws .0 }, tt)))) $ pass1 ! (init ! 22 refl (tt, record { fits = g-u })) $ pass1 ! (init ! 20 refl (tt, record { fits = g-n })) $ pass0 ! $ move ! (36 ∷ []) $ split ! $ move ! (1 ∷ []) $ split ! $ move ! (1 ∷ []) $ move ! (2 ∷ 1 ∷ 0 ∷ []) $
           -- [what is had, 3; _17 at 3; _16 at 5; _15 at 7; _14 at 9; _13 at 11; _12 at 13; _11 at 15; _10 at 17; _9 at 19; _8 at 21; _7 at 23; _6 at 25; _5 at 27; _4 at 29; _3 at 31; _2 at 33; _1 at 35; _0 at 37]
-          -- drafting::plan::plan_at
+          -- planning::plan::plan_at
           use1 W (later (some (λ (p0 : Unit {0}). raw (PlanC 𝓤 H A mem run .pre (to-plan p0 j)) ⊛ ‵ (Kept-plan p0)))) (before-plan j g-j (starts-here req)) $ await ! tt $ pick ! (λ p0. split ! $
           calls-at ! fm (PlanC 𝓤 H A mem run) known-plan (to-plan p0 j) (and-then ! (load ! (from ! (stop !)) (look ! 36 refl)) (and-then ! (load ! (from ! (stop !)) (look ! 34 refl)) (no-more !))) (λ v0.
           use2 W (later (some (λ (r0 : Plan). given (Planned ts-s j r0) (‵ (G.the-row .own (r0) (v0 ∷ [])) ⊛ P-s)))) (after-plan p0 j v0) $ await ! tt $ pick ! (λ r0. learn ! (λ e0. split ! $
@@ -1474,7 +1474,7 @@ module _ {M : Type 1} (𝓤 : URA M) (H : Heap 𝓤) (A : Atoms 𝓤) (W : Given
           (λ h0.
           assigns ! (addr ! (from ! (fld ! refl (hop ! (look-in ! 33 (sub ! 0 refl (whole !))) (stop !))))) (from ! (stop !)) (init ! 13 refl (tt, tt)) $
           assigns ! (agg ! (and-then ! (load ! (from ! (stop !)) (look ! 13 refl)) (and-then ! (load ! (from ! (fld ! refl (stop !))) (look-in ! 33 (sub ! 1 refl (whole !)))) (no-more !)))) (from ! (stop !)) (init ! 11 refl (tt, (tt, (record { fits = room-ws .0 }, tt)))) $
-          -- drafting::put::put_first
+          -- planning::put::put_first
           move ! (0 ∷ 2 ∷ []) $ group ! 2 $ use1 W (later (some (λ (p1 : Names). raw (FirstC 𝓤 H A mem run .pre (to-first p1 (r0 .1 .1) g n (r0 .0))) ⊛ ‵ (Kept-first p1 (r0 .1 .1))))) (before-first (r0 .1 .1) g n (r0 .0) (e0 .1 .0) g-g g-n (draft-is (r0 .0) is0) (eqb→eq (g .act) 3 h0, (j, l0-cs, k, l0-ws, u, began))) $ await ! tt $ pick ! (λ p1. split ! $
           calls-at ! fm (FirstC 𝓤 H A mem run) known-first (to-first p1 (r0 .1 .1) g n (r0 .0)) (and-then ! (load ! (from ! (stop !)) (look ! 43 refl)) (and-then ! (load ! (from ! (stop !)) (look ! 39 refl)) (and-then ! (load ! (from ! (stop !)) (look ! 29 refl)) (and-then ! (load ! (from ! (stop !)) (look ! 27 refl)) (and-then ! (load ! (from ! (stop !)) (look ! 11 refl)) (no-more !)))))) (λ v1.
           use2 W (later (some (λ (r1 : Drafted × List (ℕ)). given ((length (r1 .1) ≡ m-ws) × (((at : ℕ) → (row : List CutEntry) → (k : ℕ) → (xs : List ℕ) → (used : ℕ) → Began ts-s at row k xs (r0 .1 .1) used n g (r0 .0) → Ends ts-s at row k xs (r1 .1) used n (r1 .0)))) (‵ (D.the-row .own (r1 .0) (v1 ∷ [])) ⊛ P-s ⊛ (P-ws (r1 .1)))))) (after-first p1 (r0 .1 .1) g n (r0 .0) v1 (e0 .1 .0)) $ await ! tt $ pick ! (λ r1. learn ! (λ e1. split ! $
@@ -1747,7 +1747,7 @@ module _ {M : Type 1} (𝓤 : URA M) (H : Heap 𝓤) (A : Atoms 𝓤) (W : Given
           drop ! $ move ! (1 ∷ 0 ∷ 2 ∷ []) $
           assigns ! (addr ! (from ! (fld ! refl (hop ! (look-in ! 43 (sub ! 0 refl (whole !))) (stop !))))) (from ! (stop !)) (init ! 25 refl (tt, tt)) $
           assigns ! (agg ! (and-then ! (load ! (from ! (stop !)) (look ! 25 refl)) (and-then ! (load ! (from ! (fld ! refl (stop !))) (look-in ! 43 (sub ! 1 refl (whole !)))) (no-more !)))) (from ! (stop !)) (init ! 23 refl (tt, (tt, (record { fits = room-cs .0 }, tt)))) $
-          -- drafting::entry_of
+          -- planning::entry_of
           use0 W (raw (OfC 𝓤 H A mem run .pre (to-of (j + 1) n))) (goes-of (j + 1) n gj1 g-n (room .1)) $
           calls-at ! fm (OfC 𝓤 H A mem run) known-of (to-of (j + 1) n) (and-then ! (load ! (from ! (stop !)) (look ! 38 refl)) (and-then ! (load ! (from ! (stop !)) (look ! 48 refl)) (no-more !))) (λ v1.
           use1 W (later (some (λ (r1 : CutEntry). given (r1 ≡ record { place = (j + 1); counter = n }) (‵ (R .own (r1) (v1 ∷ [])))))) (after-of (j + 1) n v1) $ await ! tt $ pick ! (λ r1. learn ! (λ e1.
@@ -1786,7 +1786,7 @@ module _ {M : Type 1} (𝓤 : URA M) (H : Heap 𝓤) (A : Atoms 𝓤) (W : Given
           drop ! $ move ! (1 ∷ 0 ∷ 2 ∷ []) $ rewrite ! 1 (λ (l : List CutEntry). P-cs l) (e4 .1 ∙ ap (λ (e : CutEntry). set (set l0-cs k (record { place = j + 1; counter = n })) k e) e0 ∙ restored l0-cs k (record { place = j + 1; counter = n }) (room .0)) refl $
           assigns ! (addr ! (from ! (fld ! refl (hop ! (look-in ! 39 (sub ! 0 refl (whole !))) (stop !))))) (from ! (stop !)) (init ! 5 refl (tt, tt)) $
           assigns ! (agg ! (and-then ! (load ! (from ! (stop !)) (look ! 5 refl)) (and-then ! (load ! (from ! (fld ! refl (stop !))) (look-in ! 39 (sub ! 1 refl (whole !)))) (no-more !)))) (from ! (stop !)) (init ! 3 refl (tt, (tt, (record { fits = room-ws .0 }, tt)))) $
-          -- drafting::put::put_cut
+          -- planning::put::put_cut
           move ! (0 ∷ 2 ∷ []) $ group ! 2 $ use1 W (later (some (λ (p5 : Names). raw (JoinC 𝓤 H A mem run .pre (to-join p5 (r3 .1 .1) (j + 1) d (r3 .0))) ⊛ ‵ (Kept-join p5 (r3 .1 .1))))) (before-join (r3 .1 .1) (j + 1) d (r3 .0) (e3 .1 .0) gj1 g-d (draft-is (r3 .0) is3) (cut-formula began cutting, cut-opens began cutting (e3 .1 .1 .1) (e3 .1 .0 ∙ sym e0-ws ∙ began .long))) $ await ! tt $ pick ! (λ p5. split ! $
           calls-at ! fm (JoinC 𝓤 H A mem run) known-join (to-join p5 (r3 .1 .1) (j + 1) d (r3 .0)) (and-then ! (load ! (from ! (stop !)) (look ! 51 refl)) (and-then ! (load ! (from ! (stop !)) (look ! 37 refl)) (and-then ! (load ! (from ! (stop !)) (look ! 45 refl)) (and-then ! (load ! (from ! (stop !)) (look ! 33 refl)) (and-then ! (load ! (from ! (stop !)) (look ! 3 refl)) (no-more !)))))) (λ v5.
           use2 W (later (some (λ (r5 : Drafted × List (ℕ)). given ((length (r5 .1) ≡ m-ws) × (((f : Formula) → (a : Term) → (b : Term) → FormulaAt ts-s (j + 1) f → Drafts ts-s (r3 .1 .1) ((r3 .0) .used) (d .part) a → Drafts ts-s (r3 .1 .1) ((r3 .0) .used) ((r3 .0) .part) b → Put ts-s (r3 .1 .1) (r5 .1) ((r3 .0) .used) ((r3 .0) .counter) ((r3 .0) .next) (joined terms f a b ((r3 .0) .counter)) (r5 .0)))) (‵ (D.the-row .own (r5 .0) (v5 ∷ [])) ⊛ P-s ⊛ (P-ws (r5 .1)))))) (after-join p5 (r3 .1 .1) (j + 1) d (r3 .0) v5 (e3 .1 .0)) $ await ! tt $ pick ! (λ r5. learn ! (λ e5. split ! $
@@ -1833,14 +1833,14 @@ pub +draft-consumer+draft-premises+draft-rule+draft-second-spec : {M : Type 1} �
 unfolding code.draft-consumer-routine code.draft-premises-routine code.draft-rule-routine code.draft-second-routine tablesOf
 +draft-consumer+draft-premises+draft-rule+draft-second-spec 𝓤 H 𝓜 𝓖 𝓡 =
     let 𝓣 : Tables 𝓤 H = tablesOf 𝓤 H 𝓜 (tables 𝓤 H 𝓜 𝓡 code.env) in
-    let known-plan : Triple 𝓤 (𝓣 .C #plan) (PlanC 𝓤 H (𝓖 .A) (𝓜 .mem) (𝓡 .run)) = cited 𝓤 H (PlanC 𝓤 H (𝓖 .A) (𝓜 .mem) (𝓡 .run)) 𝓜 𝓡 code.env #plan plan-def.routine code.calls-drafting·plan·plan-at (plan-thm.met 𝓤 H 𝓜 𝓖 𝓡) in
+    let known-plan : Triple 𝓤 (𝓣 .C #plan) (PlanC 𝓤 H (𝓖 .A) (𝓜 .mem) (𝓡 .run)) = cited 𝓤 H (PlanC 𝓤 H (𝓖 .A) (𝓜 .mem) (𝓡 .run)) 𝓜 𝓡 code.env #plan plan-def.routine code.calls-planning·plan·plan-at (plan-thm.met 𝓤 H 𝓜 𝓖 𝓡) in
     let known-alone : Triple 𝓤 (𝓣 .C #alone) (AloneC 𝓤 H (𝓖 .A) (𝓜 .mem) (𝓡 .run)) = cited 𝓤 H (AloneC 𝓤 H (𝓖 .A) (𝓜 .mem) (𝓡 .run)) 𝓜 𝓡 code.env #alone alone-def.routine code.calls-drafting·draft-alone (alone-thm.met 𝓤 H 𝓜 𝓖 𝓡) in
-    let known-first : Triple 𝓤 (𝓣 .C #first) (FirstC 𝓤 H (𝓖 .A) (𝓜 .mem) (𝓡 .run)) = cited 𝓤 H (FirstC 𝓤 H (𝓖 .A) (𝓜 .mem) (𝓡 .run)) 𝓜 𝓡 code.env #first first-def.routine code.calls-drafting·put·put-first (first-thm.met 𝓤 H 𝓜 𝓖 𝓡) in
+    let known-first : Triple 𝓤 (𝓣 .C #first) (FirstC 𝓤 H (𝓖 .A) (𝓜 .mem) (𝓡 .run)) = cited 𝓤 H (FirstC 𝓤 H (𝓖 .A) (𝓜 .mem) (𝓡 .run)) 𝓜 𝓡 code.env #first first-def.routine code.calls-planning·put·put-first (first-thm.met 𝓤 H 𝓜 𝓖 𝓡) in
     let known-pair : Triple 𝓤 (𝓣 .C #pair) (PairC 𝓤 H (𝓖 .A) (𝓜 .mem) (𝓡 .run)) = cited 𝓤 H (PairC 𝓤 H (𝓖 .A) (𝓜 .mem) (𝓡 .run)) 𝓜 𝓡 code.env #pair pair-def.routine code.calls-one-rule·puts·put-pair (pair-thm.met 𝓤 H 𝓜 𝓖 𝓡) in
     let known-entry : Triple 𝓤 (𝓣 .C #entry) (EntryC 𝓤 H (𝓖 .A) (𝓜 .mem) (𝓡 .run)) = cited 𝓤 H (EntryC 𝓤 H (𝓖 .A) (𝓜 .mem) (𝓡 .run)) 𝓜 𝓡 code.env #entry entry-def.routine code.calls-entries·entry-at (entry-thm.met 𝓤 H 𝓜 𝓖 𝓡) in
-    let known-of : Triple 𝓤 (𝓣 .C #of) (OfC 𝓤 H (𝓖 .A) (𝓜 .mem) (𝓡 .run)) = cited 𝓤 H (OfC 𝓤 H (𝓖 .A) (𝓜 .mem) (𝓡 .run)) 𝓜 𝓡 code.env #of of-def.routine code.calls-drafting·entry-of (of-thm.met 𝓤 H 𝓜 𝓖 𝓡) in
+    let known-of : Triple 𝓤 (𝓣 .C #of) (OfC 𝓤 H (𝓖 .A) (𝓜 .mem) (𝓡 .run)) = cited 𝓤 H (OfC 𝓤 H (𝓖 .A) (𝓜 .mem) (𝓡 .run)) 𝓜 𝓡 code.env #of of-def.routine code.calls-planning·entry-of (of-thm.met 𝓤 H 𝓜 𝓖 𝓡) in
     let known-put : Triple 𝓤 (𝓣 .C #put) (PutC 𝓤 H (𝓖 .A) (𝓜 .mem) (𝓡 .run)) = cited 𝓤 H (PutC 𝓤 H (𝓖 .A) (𝓜 .mem) (𝓡 .run)) 𝓜 𝓡 code.env #put put-def.routine code.calls-entries·put-entry (put-thm.met 𝓤 H 𝓜 𝓖 𝓡) in
-    let known-join : Triple 𝓤 (𝓣 .C #join) (JoinC 𝓤 H (𝓖 .A) (𝓜 .mem) (𝓡 .run)) = cited 𝓤 H (JoinC 𝓤 H (𝓖 .A) (𝓜 .mem) (𝓡 .run)) 𝓜 𝓡 code.env #join join-def.routine code.calls-drafting·put·put-cut (join-thm.met 𝓤 H 𝓜 𝓖 𝓡) in
+    let known-join : Triple 𝓤 (𝓣 .C #join) (JoinC 𝓤 H (𝓖 .A) (𝓜 .mem) (𝓡 .run)) = cited 𝓤 H (JoinC 𝓤 H (𝓖 .A) (𝓜 .mem) (𝓡 .run)) 𝓜 𝓡 code.env #join join-def.routine code.calls-planning·put·put-cut (join-thm.met 𝓤 H 𝓜 𝓖 𝓡) in
     mutual-elim 𝓤 H (𝓖 .A) (cycle.functions 𝓤 H (𝓖 .A) (𝓜 .mem) (𝓡 .run)) _<_ (Nat·lt-wfRel .wf) (consumer-grade 𝓤 H (𝓖 .A) (𝓜 .mem) (𝓡 .run) (𝓡 .run code.draft-consumer-routine), (premises-grade 𝓤 H (𝓖 .A) (𝓜 .mem) (𝓡 .run) (𝓡 .run code.draft-premises-routine), (rule-grade 𝓤 H (𝓖 .A) (𝓜 .mem) (𝓡 .run) (𝓡 .run code.draft-rule-routine), (second-grade 𝓤 H (𝓖 .A) (𝓜 .mem) (𝓡 .run) (𝓡 .run code.draft-second-routine)))))
     (λ t below. method-consumer 𝓤 H (𝓖 .A) (givenOf 𝓤 H 𝓜 𝓖) (𝓜 .mem) (𝓡 .run) 𝓣 known-plan known-alone known-first known-pair known-entry known-of known-put known-join (code.draft-consumer-unfolded 𝓤 H 𝓜 𝓡) t (below .1 .1 .0))
     (λ t below. method-premises 𝓤 H (𝓖 .A) (givenOf 𝓤 H 𝓜 𝓖) (𝓜 .mem) (𝓡 .run) 𝓣 known-plan known-alone known-first known-pair known-entry known-of known-put known-join (code.draft-premises-unfolded 𝓤 H 𝓜 𝓡) t (below .1 .1 .0) (below .1 .1 .1))

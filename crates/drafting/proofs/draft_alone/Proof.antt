@@ -47,28 +47,28 @@ use Rattle.entries.proofs.Row.{R}
 use Rattle.entries.proofs.Rules.{if-then, free-at}
 use Rattle.entries.proofs.Lent.{KeptRow, lend-row, row-back}
 use Rattle.seeking.specs.Searching.{nameSaid, Row, Takes}
-use Rattle.drafting.specs.Walk.{Starts, Ends}
-use Rattle.drafting.specs.Planning.{Planned}
-use Rattle.drafting.specs.declared.plan.Plan.{Plan}
+use Rattle.planning.specs.Walk.{Starts, Ends}
+use Rattle.planning.specs.Planning.{Planned}
+use Rattle.planning.specs.declared.plan.Plan.{Plan}
 use Rattle.seeking.specs.declared.Search.{Search}
-use Rattle.drafting.proofs.plan.Plan as G
-use Rattle.drafting.proofs.plan.Plan.Laws as G′
+use Rattle.planning.proofs.plan.Plan as G
+use Rattle.planning.proofs.plan.Plan.Laws as G′
 use Rattle.seeking.proofs.Search as S
 use Rattle.seeking.proofs.Search.Laws as S′
-use Rattle.drafting.proofs.Planned.{axiom-begins}
+use Rattle.planning.proofs.Planned.{axiom-begins}
 use Rattle.seeking.proofs.Tests.{not-below, only-two}
-use Rattle.drafting.proofs.put.put_alone as alone-of
-use Rattle.drafting.proofs.put.put_alone.Symbol as alone-def
-use Rattle.drafting.proofs.put.put_alone.Symbol.{name as #alone}
-use Rattle.drafting.proofs.put.put_alone.Met as alone-thm
+use Rattle.planning.proofs.put.put_alone as alone-of
+use Rattle.planning.proofs.put.put_alone.Symbol as alone-def
+use Rattle.planning.proofs.put.put_alone.Symbol.{name as #alone}
+use Rattle.planning.proofs.put.put_alone.Met as alone-thm
 use Rattle.seeking.proofs.axiom_name as name-of
 use Rattle.seeking.proofs.axiom_name.Symbol as name-def
 use Rattle.seeking.proofs.axiom_name.Symbol.{name as #name}
 use Rattle.seeking.proofs.axiom_name.Met as name-thm
-use Rattle.drafting.proofs.put.put_axiom as axiom-of
-use Rattle.drafting.proofs.put.put_axiom.Symbol as axiom-def
-use Rattle.drafting.proofs.put.put_axiom.Symbol.{name as #axiom}
-use Rattle.drafting.proofs.put.put_axiom.Met as axiom-thm
+use Rattle.planning.proofs.put.put_axiom as axiom-of
+use Rattle.planning.proofs.put.put_axiom.Symbol as axiom-def
+use Rattle.planning.proofs.put.put_axiom.Symbol.{name as #axiom}
+use Rattle.planning.proofs.put.put_axiom.Met as axiom-thm
 use Rattle.drafting.proofs.draft_alone.Key.{name as #f}
 use Rattle.drafting.proofs.draft_alone as f
 use Rattle.drafting.proofs.draft_alone.Statement as stated
@@ -492,7 +492,7 @@ module _ {M : Type 1} (𝓤 : URA M) (H : Heap 𝓤) (A : Atoms 𝓤) (W : Given
           (λ h0.
           assigns ! (addr ! (from ! (fld ! refl (hop ! (look-in ! 19 (sub ! 0 refl (whole !))) (stop !))))) (from ! (stop !)) (init ! 9 refl (tt, tt)) $
           assigns ! (agg ! (and-then ! (load ! (from ! (stop !)) (look ! 9 refl)) (and-then ! (load ! (from ! (fld ! refl (stop !))) (look-in ! 19 (sub ! 1 refl (whole !)))) (no-more !)))) (from ! (stop !)) (init ! 7 refl (tt, (tt, (record { fits = room-ws .0 }, tt)))) $
-          -- drafting::put::put_alone
+          -- planning::put::put_alone
           move ! (0 ∷ 2 ∷ []) $ group ! 2 $ use1 W (later (some (λ (p0 : Names). raw (AloneC 𝓤 H A mem run .pre (to-alone p0 l0-ws g u n)) ⊛ ‵ (Kept-alone p0 l0-ws)))) (before-alone l0-ws g u n e0-ws g-g g-u g-n (ltb→lt (g .act) 2 h0, (req .1 .0, ts-cs, k, req .1 .1, req .1 .2))) $ await ! tt $ pick ! (λ p0. split ! $
           calls-at ! fm (AloneC 𝓤 H A mem run) known-alone (to-alone p0 l0-ws g u n) (and-then ! (load ! (from ! (stop !)) (look ! 27 refl)) (and-then ! (load ! (from ! (stop !)) (look ! 25 refl)) (and-then ! (load ! (from ! (stop !)) (look ! 7 refl)) (and-then ! (load ! (from ! (stop !)) (look ! 17 refl)) (and-then ! (load ! (from ! (stop !)) (look ! 15 refl)) (no-more !)))))) (λ v0.
           use2 W (later (some (λ (r0 : Drafted × List (ℕ)). given ((length (r0 .1) ≡ m-ws) × (((at : ℕ) → (row : List CutEntry) → (k : ℕ) → Planned ts-s at g → Ends ts-s at row k l0-ws (r0 .1) u n (r0 .0)))) (‵ (D.the-row .own (r0 .0) (v0 ∷ [])) ⊛ P-s ⊛ (P-ws (r0 .1)))))) (after-alone p0 l0-ws g u n v0 e0-ws) $ await ! tt $ pick ! (λ r0. learn ! (λ e0. split ! $
@@ -515,7 +515,7 @@ module _ {M : Type 1} (𝓤 : URA M) (H : Heap 𝓤) (A : Atoms 𝓤) (W : Given
           drop ! $ split ! $ move ! (1 ∷ []) $ move ! (1 ∷ 0 ∷ 2 ∷ []) $
           assigns ! (addr ! (from ! (fld ! refl (hop ! (look-in ! 19 (sub ! 0 refl (whole !))) (stop !))))) (from ! (stop !)) (init ! 5 refl (tt, tt)) $
           assigns ! (agg ! (and-then ! (load ! (from ! (stop !)) (look ! 5 refl)) (and-then ! (load ! (from ! (fld ! refl (stop !))) (look-in ! 19 (sub ! 1 refl (whole !)))) (no-more !)))) (from ! (stop !)) (init ! 3 refl (tt, (tt, (record { fits = room-ws .0 }, tt)))) $
-          -- drafting::put::put_axiom
+          -- planning::put::put_axiom
           move ! (0 ∷ 2 ∷ []) $ group ! 2 $ use1 W (later (some (λ (p2 : Names). raw (AxiomC 𝓤 H A mem run .pre (to-axiom p2 l0-ws g r1 u n)) ⊛ ‵ (Kept-axiom p2 l0-ws)))) (before-axiom l0-ws g r1 u n e0-ws g-g (search-is r1 is1) g-u g-n (two-at, e1 .1, (req .1 .0, ts-cs, k, req .1 .1, req .1 .2))) $ await ! tt $ pick ! (λ p2. split ! $
           calls-at ! fm (AxiomC 𝓤 H A mem run) known-axiom (to-axiom p2 l0-ws g r1 u n) (and-then ! (load ! (from ! (stop !)) (look ! 27 refl)) (and-then ! (load ! (from ! (stop !)) (look ! 25 refl)) (and-then ! (load ! (from ! (stop !)) (look ! 13 refl)) (and-then ! (load ! (from ! (stop !)) (look ! 3 refl)) (and-then ! (load ! (from ! (stop !)) (look ! 17 refl)) (and-then ! (load ! (from ! (stop !)) (look ! 15 refl)) (no-more !))))))) (λ v2.
           use2 W (later (some (λ (r2 : Drafted × List (ℕ)). given ((length (r2 .1) ≡ m-ws) × (((at : ℕ) → (row : List CutEntry) → (k : ℕ) → Planned ts-s at g → Takes ts-s row k (g .linear + 1) (getD ts-s (g .linear) 0) (nameSaid ts-s r1) → Ends ts-s at row k l0-ws (r2 .1) u n (r2 .0)))) (‵ (D.the-row .own (r2 .0) (v2 ∷ [])) ⊛ P-s ⊛ (P-ws (r2 .1)))))) (after-axiom p2 l0-ws g r1 u n v2 e0-ws) $ await ! tt $ pick ! (λ r2. learn ! (λ e2. split ! $
@@ -542,6 +542,6 @@ draft-alone-spec 𝓤 H 𝓜 𝓖 𝓡 =
     entered 𝓤 H (tripleOf 𝓤 H (𝓖 .A) f.signature (f.spec 𝓤 H (𝓖 .A) (𝓜 .mem) (𝓡 .run)))
     (tables 𝓤 H 𝓜 𝓡 code.env .C) (tables 𝓤 H 𝓜 𝓡 code.env .Λ) #f code.function (code.unfolded 𝓤 H 𝓜 𝓡)
     (f-meets 𝓤 H (𝓖 .A) (givenOf 𝓤 H 𝓜 𝓖) (𝓜 .mem) (𝓡 .run) (tablesOf 𝓤 H 𝓜 (tables 𝓤 H 𝓜 𝓡 code.env))
-    (cited 𝓤 H (AloneC 𝓤 H (𝓖 .A) (𝓜 .mem) (𝓡 .run)) 𝓜 𝓡 code.env #alone alone-def.routine code.calls-drafting·put·put-alone (alone-thm.met 𝓤 H 𝓜 𝓖 𝓡))
+    (cited 𝓤 H (AloneC 𝓤 H (𝓖 .A) (𝓜 .mem) (𝓡 .run)) 𝓜 𝓡 code.env #alone alone-def.routine code.calls-planning·put·put-alone (alone-thm.met 𝓤 H 𝓜 𝓖 𝓡))
     (cited 𝓤 H (NameC 𝓤 H (𝓖 .A) (𝓜 .mem) (𝓡 .run)) 𝓜 𝓡 code.env #name name-def.routine code.calls-seeking·axiom-name (name-thm.met 𝓤 H 𝓜 𝓖 𝓡))
-    (cited 𝓤 H (AxiomC 𝓤 H (𝓖 .A) (𝓜 .mem) (𝓡 .run)) 𝓜 𝓡 code.env #axiom axiom-def.routine code.calls-drafting·put·put-axiom (axiom-thm.met 𝓤 H 𝓜 𝓖 𝓡)))
+    (cited 𝓤 H (AxiomC 𝓤 H (𝓖 .A) (𝓜 .mem) (𝓡 .run)) 𝓜 𝓡 code.env #axiom axiom-def.routine code.calls-planning·put·put-axiom (axiom-thm.met 𝓤 H 𝓜 𝓖 𝓡)))

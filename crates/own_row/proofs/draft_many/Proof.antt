@@ -47,7 +47,7 @@ use Rattle.entries.proofs.CutEntry as T
 use Rattle.entries.proofs.CutEntry.Laws as T′
 use Rattle.entries.proofs.Row.{R, mach, none}
 use Rattle.entries.proofs.Rules.{free-at}
-use Rattle.drafting.specs.Walk.{Ends, Done}
+use Rattle.planning.specs.Walk.{Ends, Done}
 use Rattle.drafting.proofs.draft_rule.Symbol as draft-def
 use Rattle.drafting.proofs.draft_rule.Symbol.{name as #draft}
 use Rattle.drafting.proofs.draft_rule.Met as draft-thm
