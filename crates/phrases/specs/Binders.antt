@@ -11,8 +11,8 @@ use Rattle.rules.specs.Term.{Term, both, branch, letPair, copy, encode}
 use Rattle.rules.specs.Text.{text}
 use Rattle.laws.specs.Names.{name-long}
 use Rattle.words.specs.Prints.{Prints}
-use Rattle.words.specs.Task.{Task, places}
-use Rattle.words.specs.Steps.{printed, part-of, part-end, after-part, part-then, print-then, print-last, no-more, no-more-done, told, told-done, Named}
+use Rattle.words.specs.Task.{Task, Done}
+use Rattle.words.specs.Steps.{printed, part-of, part-end, after-part, part-then, print-then, no-more, no-more-done, told, told-done, Named}
 use Rattle.phrases.specs.Task.{TermTask, TermDone, nameAt, afterName, NameIn}
 use Rattle.phrases.specs.Names.{name-in, name-is, first-named, second-named, after-two, two-then, spread}
 
@@ -249,18 +249,14 @@ module _ {s : List ℕ} {at : ℕ} {out : List ℕ} {to : ℕ} where
                 end-task : Task s (j % 65536) o₅ (j / 65536) [] end
                 end-task = after-part (encode m) [] (text m) end right-parts u
 
-                pub end-room : j / 65536 + 8 ≤ length o₅
-                end-room = omega (arith, end-task .room)
+                pub end-room : (j / 65536 + 8 ≤ length o₅) × (j / 65536 + 2 < 65536)
+                end-room = (omega (arith, end-task .room), omega (arith, end-task .low))
 
-                module _ {o₆ : List ℕ} {z : ℕ} (v : Prints o₅ (j / 65536) end o₆ z) where
-                  pub case-places : (j % 65536 < 65536) × (z < 65536)
-                  case-places = (omega arith, omega (arith, end-task .low, v .ends))
-
-                  pub case-done : {w : ℕ} → w ≡ places (j % 65536) z → TermDone at out to (branch x y f g m) o₆ w
-                  unfolding encode text
-                  case-done r =
-                      told-done (sym case-spelt)
-                      (two-then 9 x y parts case-task
-                      (print-then a (rw h at (part-then (encode f) (encode g ++ encode m) (text f) left-words case-parts d
-                      (print-then left-prints (part-then (encode g) (encode m) (text g) right-words left-parts e
-                      (print-then right-prints (no-more-done (encode m) (part-then (encode m) [] (text m) end right-parts u (print-last v r))))))))))
+                pub case-done : {o₆ : List ℕ} {w : ℕ} → Done (j % 65536) o₅ (j / 65536) [] end o₆ w → TermDone at out to (branch x y f g m) o₆ w
+                unfolding encode text
+                case-done v =
+                    told-done (sym case-spelt)
+                    (two-then 9 x y parts case-task
+                    (print-then a (rw h at (part-then (encode f) (encode g ++ encode m) (text f) left-words case-parts d
+                    (print-then left-prints (part-then (encode g) (encode m) (text g) right-words left-parts e
+                    (print-then right-prints (no-more-done (encode m) (part-then (encode m) [] (text m) end right-parts u v)))))))))

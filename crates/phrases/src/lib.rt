@@ -1,6 +1,7 @@
 // Words and names of a term's text: the word that a tag chooses, names with the words around them, a leaf.
 ghost use mathlib.Core.Path.{_≡_};
-ghost use Prim.Native.Nat.{_+_, _≤_, _<_};
+ghost use mathlib.Core.List.{[]};
+ghost use Prim.Native.Nat.{_+_, _/_, _%_, _≤_, _<_};
 ghost use lib.ListN.{length, getD, take};
 ghost use Rattle.rules.specs.Basic.{say, _‥_};
 ghost use Rattle.rules.specs.Name.{Name, encodeName};
@@ -94,7 +95,7 @@ pub fn past_names(s: &[u8], x: usize) -> usize
 }
 
 // The first five bytes of a word, a name, `, `, the next name and the first n bytes of a word.
-pub fn two_names(
+fn two_names(
     s: &[u8],
     x: usize,
     out: &mut [u8],
@@ -110,6 +111,60 @@ pub fn two_names(
     let a = word(out, to, lead, 5);
     let b = named(s, x, out, a, b",       ", 2);
     named(s, past(s, x), out, b, tail, n)
+}
+
+// `let (`, two names and `) = `
+pub fn let_names(s: &[u8], x: usize, out: &mut [u8], to: usize) -> usize
+    requires { ⌜ NameIn (now s) x × NameIn (now s) (afterName (now s) x) × (to + getD (now s) x 0 + getD (now s) (afterName (now s) x) 0 + 31 ≤ length (now out)) ⌝ }
+    ensures { λ r. ⌜ Prints (now (out .entry)) to (say "let (" ‥ nameAt (now (s .entry)) x ‥ say ", " ‥ nameAt (now (s .entry)) (afterName (now (s .entry)) x) ‥ say ") = ") (now (out .exit)) r ⌝ }
+{
+    two_names(s, x, out, to, b"let (   ", b") =     ", 4)
+}
+
+// ` as (`, two names and `) in `
+pub fn as_names(s: &[u8], x: usize, out: &mut [u8], to: usize) -> usize
+    requires { ⌜ NameIn (now s) x × NameIn (now s) (afterName (now s) x) × (to + getD (now s) x 0 + getD (now s) (afterName (now s) x) 0 + 31 ≤ length (now out)) ⌝ }
+    ensures { λ r. ⌜ Prints (now (out .entry)) to (say " as (" ‥ nameAt (now (s .entry)) x ‥ say ", " ‥ nameAt (now (s .entry)) (afterName (now (s .entry)) x) ‥ say ") in ") (now (out .exit)) r ⌝ }
+{
+    two_names(s, x, out, to, b" as (   ", b") in    ", 5)
+}
+
+pub fn copy_word(out: &mut [u8], to: usize) -> usize
+    requires { ⌜ to + 8 ≤ length (now out) ⌝ }
+    ensures { λ r. ⌜ Prints (now (out .entry)) to (say "copy ") (now (out .exit)) r ⌝ }
+{
+    word(out, to, b"copy    ", 5)
+}
+
+pub fn case_word(out: &mut [u8], to: usize) -> usize
+    requires { ⌜ to + 8 ≤ length (now out) ⌝ }
+    ensures { λ r. ⌜ Prints (now (out .entry)) to (say "case ") (now (out .exit)) r ⌝ }
+{
+    word(out, to, b"case    ", 5)
+}
+
+pub fn in_word(out: &mut [u8], to: usize) -> usize
+    requires { ⌜ to + 8 ≤ length (now out) ⌝ }
+    ensures { λ r. ⌜ Prints (now (out .entry)) to (say " in ") (now (out .exit)) r ⌝ }
+{
+    word(out, to, b" in     ", 4)
+}
+
+pub fn discard_words(out: &mut [u8], to: usize) -> usize
+    requires { ⌜ to + 35 ≤ length (now out) ⌝ }
+    ensures { λ r. ⌜ Prints (now (out .entry)) to (say "discard in ") (now (out .exit)) r ⌝ }
+{
+    let a = word(out, to, b"discard ", 8);
+    word(out, a, b"in      ", 3)
+}
+
+// What ends a case that has come to the places r.
+pub fn case_end(out: &mut [u8], r: usize) -> usize
+    requires { ⌜ (r / 65536 + 8 ≤ length (now out)) × (r / 65536 + 2 < 65536) ⌝ }
+    ensures { λ q. ⌜ Done (r % 65536) (now (out .entry)) (r / 65536) [] (say " }") (now (out .exit)) q ⌝ }
+{
+    let o = word(out, r / 65536, b" }      ", 2);
+    places(r % 65536, o)
 }
 
 // ` of { inl `, the name and ` => `

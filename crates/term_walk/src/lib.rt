@@ -4,30 +4,33 @@ ghost use Rattle.rules.specs.Name.{Name};
 ghost use Rattle.rules.specs.Term.{Term, two as twoOf, both as bothOf, branch as branchOf, discard as discardOf, letPair as letPairOf, copy as copyOf};
 ghost use Rattle.phrases.specs.Task.{TermTask, TermDone, Whole};
 use names::past;
+use phrases::as_names;
 use phrases::between;
 use phrases::bound_name;
+use phrases::case_end;
+use phrases::case_word;
+use phrases::copy_word;
+use phrases::discard_words;
 use phrases::first_name;
+use phrases::in_word;
 use phrases::last_name;
 use phrases::leaf;
 use phrases::left_name;
+use phrases::let_names;
 use phrases::one_part;
 use phrases::past_names;
 use phrases::right_name;
 use phrases::sign;
-use phrases::two_names;
 use words::byte;
 use words::closed;
-use words::places;
-use words::word;
 
 // The first part is not printed.
 fn discard(s: &[u8], at: usize, out: &mut [u8], to: usize) -> usize
     requires { ⌜ ((a : Term) × (b : Term) × TermTask (now s) at (now out) to (twoOf discardOf a b)) ⌝ }
     ensures { λ r. ⌜ ((a : Term) → (b : Term) → TermTask (now (s .entry)) at (now (out .entry)) to (twoOf discardOf a b) → TermDone at (now (out .entry)) to (twoOf discardOf a b) (now (out .exit)) r) ⌝ }
 {
-    let a = word(out, to, b"discard ", 8);
-    let b = word(out, a, b"in      ", 3);
-    walk(&*s, walk::skip(s, at + 1, 1), out, b)
+    let a = discard_words(out, to);
+    walk(&*s, walk::skip(s, at + 1, 1), out, a)
 }
 
 fn let_pair(s: &[u8], at: usize, out: &mut [u8], to: usize) -> usize
@@ -35,9 +38,9 @@ fn let_pair(s: &[u8], at: usize, out: &mut [u8], to: usize) -> usize
     ensures { λ r. ⌜ ((x : Name) → (y : Name) → (e : Term) → (b : Term) → TermTask (now (s .entry)) at (now (out .entry)) to (bothOf letPairOf x y e b) → TermDone at (now (out .entry)) to (bothOf letPairOf x y e b) (now (out .exit)) r) ⌝ }
 {
     let x = at + 1;
-    let a = two_names(s, x, out, to, b"let (   ", b") =     ", 4);
+    let a = let_names(s, x, out, to);
     let e = walk(&*s, past_names(s, x), out, a);
-    let b = word(out, e / 65536, b" in     ", 4);
+    let b = in_word(out, e / 65536);
     walk(&*s, e % 65536, out, b)
 }
 
@@ -46,9 +49,9 @@ fn copy(s: &[u8], at: usize, out: &mut [u8], to: usize) -> usize
     ensures { λ r. ⌜ ((x : Name) → (y : Name) → (e : Term) → (b : Term) → TermTask (now (s .entry)) at (now (out .entry)) to (bothOf copyOf x y e b) → TermDone at (now (out .entry)) to (bothOf copyOf x y e b) (now (out .exit)) r) ⌝ }
 {
     let x = at + 1;
-    let a = word(out, to, b"copy    ", 5);
+    let a = copy_word(out, to);
     let e = walk(&*s, past_names(s, x), out, a);
-    let b = two_names(s, x, out, e / 65536, b" as (   ", b") in    ", 5);
+    let b = as_names(s, x, out, e / 65536);
     walk(&*s, e % 65536, out, b)
 }
 
@@ -58,14 +61,13 @@ fn case(s: &[u8], at: usize, out: &mut [u8], to: usize) -> usize
 {
     let x = at + 1;
     let y = past(s, x);
-    let a = word(out, to, b"case    ", 5);
+    let a = case_word(out, to);
     let e = walk(&*s, past_names(s, x), out, a);
     let b = left_name(s, x, out, e / 65536);
     let l = walk(&*s, e % 65536, out, b);
     let c = right_name(s, y, out, l / 65536);
     let r = walk(&*s, l % 65536, out, c);
-    let d = word(out, r / 65536, b" }      ", 2);
-    places(r % 65536, d)
+    case_end(out, r)
 }
 
 // A leaf, let, copy, case or discard: one with whose last part `walk` does not go on.

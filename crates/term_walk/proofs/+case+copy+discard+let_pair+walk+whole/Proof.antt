@@ -1,12 +1,11 @@
 -- The proof of the cycle of calls over a term: each shape prints its words and names and hands its parts on, further on in the bytes. Assumes nothing.
-use mathlib.Core.Path.{refl, sym, _∙_}
+use mathlib.Core.Path.{sym, _∙_}
 use mathlib.Core.List.{[], _∷_}
 use native.Mathlib.Omega.{arith}
 use lib.ListN.{length}
 use Rattle.rules.specs.Term.{both as bothOf, two as twoOf, branch as branchOf, discard as discardOf, letPair as letPairOf, copy as copyOf}
-use Rattle.words.specs.Steps.{chain}
 use Rattle.phrases.specs.Shaped.{begun, discard-terms, discard-room, discard-further, discard-part, discard-done}
-use Rattle.phrases.specs.Binders.{let-in, let-room, let-part, let-further, let-between-room, let-body, let-done, copy-in, copy-room, copy-part, copy-further, copy-between-room, copy-body, copy-done, case-in, case-room, case-part, left-further as case-left-further, left-room as case-left-room, left-branch, right-further, right-room, right-branch, end-room, case-places, case-done}
+use Rattle.phrases.specs.Binders.{let-in, let-room, let-part, let-further, let-between-room, let-body, let-done, copy-in, copy-room, copy-part, copy-further, copy-between-room, copy-body, copy-done, case-in, case-room, case-part, left-further as case-left-further, left-room as case-left-room, left-branch, right-further, right-room, right-branch, end-room, case-done}
 use Rattle.phrases.specs.Walking.{Going, begin, few-brackets}
 use Rattle.phrases.specs.Turns.{on-begun, name-here, name-ends, first-begun, first-here, first-next, open-room, left-here, left-further, left-room, left-next, bound-here, bound-next, one-here, one-next, whole-here, whole-room, whole-ends}
 use Rattle.phrases.specs.Calls.{leaf-here, leaf-called, let-here, let-called, case-here, case-called, discard-here, discard-called, copy-here, copy-called}
@@ -31,23 +30,27 @@ use Rattle.term_walk.proofs.+case+copy+discard+let_pair+walk+whole.Lts-
 use Rattle.term_walk.proofs.whole.Reads as whole
 use Rattle.term_walk.proofs.whole.Kinds as whole-kinds
 use Rattle.term_walk.proofs.+case+copy+discard+let_pair+walk+whole.Lts-whole as whole-lts
+use Rattle.names.proofs.past.Reads as past-reads
+use Rattle.phrases.proofs.as_names.Reads as as-names-reads
 use Rattle.phrases.proofs.between.Reads as between-reads
 use Rattle.phrases.proofs.bound_name.Reads as bound-name-reads
+use Rattle.phrases.proofs.case_end.Reads as case-end-reads
+use Rattle.phrases.proofs.case_word.Reads as case-word-reads
+use Rattle.phrases.proofs.copy_word.Reads as copy-word-reads
+use Rattle.phrases.proofs.discard_words.Reads as discard-words-reads
 use Rattle.phrases.proofs.first_name.Reads as first-name-reads
+use Rattle.phrases.proofs.in_word.Reads as in-word-reads
 use Rattle.phrases.proofs.last_name.Reads as last-name-reads
 use Rattle.phrases.proofs.leaf.Reads as leaf-reads
 use Rattle.phrases.proofs.left_name.Reads as left-name-reads
+use Rattle.phrases.proofs.let_names.Reads as let-names-reads
 use Rattle.phrases.proofs.one_part.Reads as one-part-reads
 use Rattle.phrases.proofs.past_names.Reads as past-names-reads
 use Rattle.phrases.proofs.right_name.Reads as right-name-reads
 use Rattle.phrases.proofs.sign.Reads as sign-reads
-use Rattle.phrases.proofs.two_names.Reads as two-names-reads
 use Rattle.walk.proofs.skip.Reads as skip-reads
 use Rattle.words.proofs.byte.Reads as byte-reads
 use Rattle.words.proofs.closed.Reads as closed-reads
-use Rattle.names.proofs.past.Reads as past-reads
-use Rattle.words.proofs.places.Reads as places-reads
-use Rattle.words.proofs.word.Reads as word-reads
 use Rattle.term_walk.proofs.+case+copy+discard+let_pair+walk+whole.{statement}
 use Rattle.term_walk.proofs.+case+copy+discard+let_pair+walk+whole.Tie.{close}
 
@@ -107,16 +110,16 @@ abbrev whole-below : ℕ → In 2 whole-kinds.ps
 whole-below t = and 2 whole-kinds.ps (falls 2 whole-kinds.ps _<_ μ-whole t) whole.Pre
 
 abbrev case-claims : ℕ → case-lts.Claims
-case-claims t = (past-reads.Asked, past-reads.Learnt, word-reads.Asked, word-reads.Learnt, past-names-reads.Asked, past-names-reads.Learnt, walk-below t, walk.Post, left-name-reads.Asked, left-name-reads.Learnt, right-name-reads.Asked, right-name-reads.Learnt, places-reads.Asked, places-reads.Learnt)
+case-claims t = (past-reads.Asked, past-reads.Learnt, case-word-reads.Asked, case-word-reads.Learnt, past-names-reads.Asked, past-names-reads.Learnt, walk-below t, walk.Post, left-name-reads.Asked, left-name-reads.Learnt, right-name-reads.Asked, right-name-reads.Learnt, case-end-reads.Asked, case-end-reads.Learnt)
 
 abbrev copy-claims : ℕ → copy-lts.Claims
-copy-claims t = (word-reads.Asked, word-reads.Learnt, past-names-reads.Asked, past-names-reads.Learnt, walk-below t, walk.Post, two-names-reads.Asked, two-names-reads.Learnt)
+copy-claims t = (copy-word-reads.Asked, copy-word-reads.Learnt, past-names-reads.Asked, past-names-reads.Learnt, walk-below t, walk.Post, as-names-reads.Asked, as-names-reads.Learnt)
 
 abbrev discard-claims : ℕ → discard-lts.Claims
-discard-claims t = (word-reads.Asked, word-reads.Learnt, skip-reads.Asked, skip-reads.Learnt, walk-below t, walk.Post)
+discard-claims t = (discard-words-reads.Asked, discard-words-reads.Learnt, skip-reads.Asked, skip-reads.Learnt, walk-below t, walk.Post)
 
 abbrev let-pair-claims : ℕ → let-pair-lts.Claims
-let-pair-claims t = (two-names-reads.Asked, two-names-reads.Learnt, past-names-reads.Asked, past-names-reads.Learnt, walk-below t, walk.Post, word-reads.Asked, word-reads.Learnt)
+let-pair-claims t = (let-names-reads.Asked, let-names-reads.Learnt, past-names-reads.Asked, past-names-reads.Learnt, walk-below t, walk.Post, in-word-reads.Asked, in-word-reads.Learnt)
 
 abbrev walk-claims : ℕ → walk-lts.Claims
 walk-claims t = (last-name-reads.Asked, last-name-reads.Learnt, past-reads.Asked, past-reads.Learnt, first-name-reads.Asked, first-name-reads.Learnt, byte-reads.Asked, byte-reads.Learnt, walk-below t, walk.Post, between-reads.Asked, between-reads.Learnt, bound-name-reads.Asked, bound-name-reads.Learnt, one-part-reads.Asked, one-part-reads.Learnt, sign-reads.Asked, sign-reads.Learnt, whole-below t, whole.Post, closed-reads.Asked, closed-reads.Learnt)
@@ -125,211 +128,221 @@ abbrev whole-claims : ℕ → whole-lts.Claims
 whole-claims t = (leaf-reads.Asked, leaf-reads.Learnt, let-pair-below t, let-pair.Post, case-below t, case.Post, discard-below t, discard.Post, copy-below t, copy.Post)
 
 case-add-x : (t : ℕ) → case-lts.Need-add-x (case-claims t) (case-at t) case.Post
-case-add-x t c = let w = c .before .before .pre .1 in omega (arith, begun (branchOf (w .0) (w .1) (w .2) (w .3) (w .4)) (w .5))
+case-add-x t c =
+    let w = c .before .before .pre .1 in
+    omega (arith, begun (branchOf (w .0) (w .1) (w .2) (w .3) (w .4)) (w .5))
 
 case-past-requires : (t : ℕ) → case-lts.Need-past-requires (case-claims t) (case-at t) case.Post
-case-past-requires t c κs = let w = c .before .before .pre .1 in case-in (w .0) (w .1) (w .2) (w .3) (w .4) (w .5) .0 .fits
+case-past-requires t c κs =
+    let w = c .before .before .pre .1 in
+    case-in (w .0) (w .1) (w .2) (w .3) (w .4) (w .5) .0 .fits
 
-case-word-requires : (t : ℕ) → case-lts.Need-word-requires (case-claims t) (case-at t) case.Post
-case-word-requires t c κs = let w = c .before .before .before .before .before .pre .1 in (omega arith, case-room (w .0) (w .1) (w .2) (w .3) (w .4) (w .5), refl)
+case-case-word-requires : (t : ℕ) → case-lts.Need-case-word-requires (case-claims t) (case-at t) case.Post
+case-case-word-requires t c κs =
+    let w = c .before .before .before .before .pre .1 in
+    case-room (w .0) (w .1) (w .2) (w .3) (w .4) (w .5)
 
 case-past-names-requires : (t : ℕ) → case-lts.Need-past-names-requires (case-claims t) (case-at t) case.Post
-case-past-names-requires t c κs = let w = c .before .before .before .before .before .before .before .before .pre .1 in case-in (w .0) (w .1) (w .2) (w .3) (w .4) (w .5)
+case-past-names-requires t c κs =
+    let w = c .before .before .before .before .before .before .before .pre .1 in
+    case-in (w .0) (w .1) (w .2) (w .3) (w .4) (w .5)
 
 case-walk-requires : (t : ℕ) → case-lts.Need-walk-requires (case-claims t) (case-at t) case.Post
 case-walk-requires t c κs =
-    let w = c .before .before .before .before .before .before .before .before .before .before .pre .1 in
+    let w = c .before .before .before .before .before .before .before .before .before .pre .1 in
     let h = c .before .past-names .ensures in
-    (omega (arith, c .before .before .before .before .before .before .before .before .before .before .pre .0, begun (branchOf (w .0) (w .1) (w .2) (w .3) (w .4)) (w .5), h), (w .2, case-part (w .0) (w .1) (w .2) (w .3) (w .4) (w .5) (c .before .before .before .before .word .ensures) h))
+    (omega (arith, c .before .before .before .before .before .before .before .before .before .pre .0, begun (branchOf (w .0) (w .1) (w .2) (w .3) (w .4)) (w .5), h), (w .2, case-part (w .0) (w .1) (w .2) (w .3) (w .4) (w .5) (c .before .before .before .before .case-word .ensures) h))
 
 case-left-name-requires : (t : ℕ) → case-lts.Need-left-name-requires (case-claims t) (case-at t) case.Post
 case-left-name-requires t c κs =
-    let w = c .before .before .before .before .before .before .before .before .before .before .before .before .before .before .pre .1 in
-    let a = c .before .before .before .before .before .before .before .before .word .ensures in
+    let w = c .before .before .before .before .before .before .before .before .before .before .before .before .before .pre .1 in
+    let a = c .before .before .before .before .before .before .before .before .case-word .ensures in
     let h = c .before .before .before .before .before .past-names .ensures in
     let d = c .before .before .before .walk .ensures (w .2) (case-part (w .0) (w .1) (w .2) (w .3) (w .4) (w .5) a h) in
     (case-in (w .0) (w .1) (w .2) (w .3) (w .4) (w .5) .0, case-left-room (w .0) (w .1) (w .2) (w .3) (w .4) (w .5) a h d)
 
 case-walk-requires-2 : (t : ℕ) → case-lts.Need-walk-requires-2 (case-claims t) (case-at t) case.Post
 case-walk-requires-2 t c κs =
-    let w = c .before .before .before .before .before .before .before .before .before .before .before .before .before .before .before .before .before .before .pre .1 in
-    let a = c .before .before .before .before .before .before .before .before .before .before .before .before .word .ensures in
+    let w = c .before .before .before .before .before .before .before .before .before .before .before .before .before .before .before .before .before .pre .1 in
+    let a = c .before .before .before .before .before .before .before .before .before .before .before .before .case-word .ensures in
     let h = c .before .before .before .before .before .before .before .before .before .past-names .ensures in
     let d = c .before .before .before .before .before .before .before .walk .ensures (w .2) (case-part (w .0) (w .1) (w .2) (w .3) (w .4) (w .5) a h) in
-    (omega (arith, c .before .before .before .before .before .before .before .before .before .before .before .before .before .before .before .before .before .before .pre .0, begun (branchOf (w .0) (w .1) (w .2) (w .3) (w .4)) (w .5), case-left-further (w .0) (w .1) (w .2) (w .3) (w .4) (w .5) a h d), (w .3, left-branch (w .0) (w .1) (w .2) (w .3) (w .4) (w .5) a h d (c .before .before .before .left-name .ensures)))
+    (omega (arith, c .before .before .before .before .before .before .before .before .before .before .before .before .before .before .before .before .before .pre .0, begun (branchOf (w .0) (w .1) (w .2) (w .3) (w .4)) (w .5), case-left-further (w .0) (w .1) (w .2) (w .3) (w .4) (w .5) a h d), (w .3, left-branch (w .0) (w .1) (w .2) (w .3) (w .4) (w .5) a h d (c .before .before .before .left-name .ensures)))
 
 case-right-name-requires : (t : ℕ) → case-lts.Need-right-name-requires (case-claims t) (case-at t) case.Post
 case-right-name-requires t c κs =
-    let w = c .before .before .before .before .before .before .before .before .before .before .before .before .before .before .before .before .before .before .before .before .before .before .pre .1 in
-    let a = c .before .before .before .before .before .before .before .before .before .before .before .before .before .before .before .before .word .ensures in
+    let w = c .before .before .before .before .before .before .before .before .before .before .before .before .before .before .before .before .before .before .before .before .before .pre .1 in
+    let a = c .before .before .before .before .before .before .before .before .before .before .before .before .before .before .before .before .case-word .ensures in
     let h = c .before .before .before .before .before .before .before .before .before .before .before .before .before .past-names .ensures in
     let d = c .before .before .before .before .before .before .before .before .before .before .before .walk .ensures (w .2) (case-part (w .0) (w .1) (w .2) (w .3) (w .4) (w .5) a h) in
     let b = c .before .before .before .before .before .before .before .left-name .ensures in
     let e = c .before .before .before .walk2 .ensures (w .3) (left-branch (w .0) (w .1) (w .2) (w .3) (w .4) (w .5) a h d b) in
-    rw (c .before .before .before .before .before .before .before .before .before .before .before .before .before .before .before .before .before .before .before .past .ensures) (case-in (w .0) (w .1) (w .2) (w .3) (w .4) (w .5) .1, right-room (w .0) (w .1) (w .2) (w .3) (w .4) (w .5) a h d b e)
+    rw (c .before .before .before .before .before .before .before .before .before .before .before .before .before .before .before .before .before .before .past .ensures) (case-in (w .0) (w .1) (w .2) (w .3) (w .4) (w .5) .1, right-room (w .0) (w .1) (w .2) (w .3) (w .4) (w .5) a h d b e)
 
 case-walk-requires-3 : (t : ℕ) → case-lts.Need-walk-requires-3 (case-claims t) (case-at t) case.Post
 case-walk-requires-3 t c κs =
-    let w = c .before .before .before .before .before .before .before .before .before .before .before .before .before .before .before .before .before .before .before .before .before .before .before .before .before .before .pre .1 in
-    let a = c .before .before .before .before .before .before .before .before .before .before .before .before .before .before .before .before .before .before .before .before .word .ensures in
+    let w = c .before .before .before .before .before .before .before .before .before .before .before .before .before .before .before .before .before .before .before .before .before .before .before .before .before .pre .1 in
+    let a = c .before .before .before .before .before .before .before .before .before .before .before .before .before .before .before .before .before .before .before .before .case-word .ensures in
     let h = c .before .before .before .before .before .before .before .before .before .before .before .before .before .before .before .before .before .past-names .ensures in
     let d = c .before .before .before .before .before .before .before .before .before .before .before .before .before .before .before .walk .ensures (w .2) (case-part (w .0) (w .1) (w .2) (w .3) (w .4) (w .5) a h) in
     let b = c .before .before .before .before .before .before .before .before .before .before .before .left-name .ensures in
     let e = c .before .before .before .before .before .before .before .walk2 .ensures (w .3) (left-branch (w .0) (w .1) (w .2) (w .3) (w .4) (w .5) a h d b) in
-    (omega (arith, c .before .before .before .before .before .before .before .before .before .before .before .before .before .before .before .before .before .before .before .before .before .before .before .before .before .before .pre .0, begun (branchOf (w .0) (w .1) (w .2) (w .3) (w .4)) (w .5), right-further (w .0) (w .1) (w .2) (w .3) (w .4) (w .5) a h d b e), (w .4, right-branch (w .0) (w .1) (w .2) (w .3) (w .4) (w .5) a h d b e (rw (c .before .before .before .before .before .before .before .before .before .before .before .before .before .before .before .before .before .before .before .before .before .before .before .past .ensures) at (c .before .before .before .right-name .ensures))))
+    let i = rw (c .before .before .before .before .before .before .before .before .before .before .before .before .before .before .before .before .before .before .before .before .before .before .past .ensures) at (c .before .before .before .right-name .ensures) in
+    (omega (arith, c .before .before .before .before .before .before .before .before .before .before .before .before .before .before .before .before .before .before .before .before .before .before .before .before .before .pre .0, begun (branchOf (w .0) (w .1) (w .2) (w .3) (w .4)) (w .5), right-further (w .0) (w .1) (w .2) (w .3) (w .4) (w .5) a h d b e), (w .4, right-branch (w .0) (w .1) (w .2) (w .3) (w .4) (w .5) a h d b e i))
 
-case-word-requires-2 : (t : ℕ) → case-lts.Need-word-requires-2 (case-claims t) (case-at t) case.Post
-case-word-requires-2 t c κs =
-    let w = c .before .before .before .before .before .before .before .before .before .before .before .before .before .before .before .before .before .before .before .before .before .before .before .before .before .before .before .before .before .before .before .pre .1 in
-    let a = c .before .before .before .before .before .before .before .before .before .before .before .before .before .before .before .before .before .before .before .before .before .before .before .before .before .word .ensures in
-    let h = c .before .before .before .before .before .before .before .before .before .before .before .before .before .before .before .before .before .before .before .before .before .before .past-names .ensures in
-    let d = c .before .before .before .before .before .before .before .before .before .before .before .before .before .before .before .before .before .before .before .before .walk .ensures (w .2) (case-part (w .0) (w .1) (w .2) (w .3) (w .4) (w .5) a h) in
-    let b = c .before .before .before .before .before .before .before .before .before .before .before .before .before .before .before .before .left-name .ensures in
-    let e = c .before .before .before .before .before .before .before .before .before .before .before .before .walk2 .ensures (w .3) (left-branch (w .0) (w .1) (w .2) (w .3) (w .4) (w .5) a h d b) in
-    let i = rw (c .before .before .before .before .before .before .before .before .before .before .before .before .before .before .before .before .before .before .before .before .before .before .before .before .before .before .before .before .past .ensures) at (c .before .before .before .before .before .before .before .before .right-name .ensures) in
-    let u = c .before .before .before .before .walk3 .ensures (w .4) (right-branch (w .0) (w .1) (w .2) (w .3) (w .4) (w .5) a h d b e i) in
-    (omega arith, end-room (w .0) (w .1) (w .2) (w .3) (w .4) (w .5) a h d b e i u, refl)
-
-case-places-requires : (t : ℕ) → case-lts.Need-places-requires (case-claims t) (case-at t) case.Post
-case-places-requires t c κs =
-    let w = c .before .before .before .before .before .before .before .before .before .before .before .before .before .before .before .before .before .before .before .before .before .before .before .before .before .before .before .before .before .before .before .before .before .before .pre .1 in
-    let a = c .before .before .before .before .before .before .before .before .before .before .before .before .before .before .before .before .before .before .before .before .before .before .before .before .before .before .before .before .word .ensures in
-    let h = c .before .before .before .before .before .before .before .before .before .before .before .before .before .before .before .before .before .before .before .before .before .before .before .before .before .past-names .ensures in
-    let d = c .before .before .before .before .before .before .before .before .before .before .before .before .before .before .before .before .before .before .before .before .before .before .before .walk .ensures (w .2) (case-part (w .0) (w .1) (w .2) (w .3) (w .4) (w .5) a h) in
-    let b = c .before .before .before .before .before .before .before .before .before .before .before .before .before .before .before .before .before .before .before .left-name .ensures in
-    let e = c .before .before .before .before .before .before .before .before .before .before .before .before .before .before .before .walk2 .ensures (w .3) (left-branch (w .0) (w .1) (w .2) (w .3) (w .4) (w .5) a h d b) in
-    let i = rw (c .before .before .before .before .before .before .before .before .before .before .before .before .before .before .before .before .before .before .before .before .before .before .before .before .before .before .before .before .before .before .before .past .ensures) at (c .before .before .before .before .before .before .before .before .before .before .before .right-name .ensures) in
-    let u = c .before .before .before .before .before .before .before .walk3 .ensures (w .4) (right-branch (w .0) (w .1) (w .2) (w .3) (w .4) (w .5) a h d b e i) in
-    case-places (w .0) (w .1) (w .2) (w .3) (w .4) (w .5) a h d b e i u (c .before .before .word2 .ensures)
+case-case-end-requires : (t : ℕ) → case-lts.Need-case-end-requires (case-claims t) (case-at t) case.Post
+case-case-end-requires t c κs =
+    let w = c .before .before .before .before .before .before .before .before .before .before .before .before .before .before .before .before .before .before .before .before .before .before .before .before .before .before .before .before .before .pre .1 in
+    let a = c .before .before .before .before .before .before .before .before .before .before .before .before .before .before .before .before .before .before .before .before .before .before .before .before .case-word .ensures in
+    let h = c .before .before .before .before .before .before .before .before .before .before .before .before .before .before .before .before .before .before .before .before .before .past-names .ensures in
+    let d = c .before .before .before .before .before .before .before .before .before .before .before .before .before .before .before .before .before .before .before .walk .ensures (w .2) (case-part (w .0) (w .1) (w .2) (w .3) (w .4) (w .5) a h) in
+    let b = c .before .before .before .before .before .before .before .before .before .before .before .before .before .before .before .left-name .ensures in
+    let e = c .before .before .before .before .before .before .before .before .before .before .before .walk2 .ensures (w .3) (left-branch (w .0) (w .1) (w .2) (w .3) (w .4) (w .5) a h d b) in
+    let i = rw (c .before .before .before .before .before .before .before .before .before .before .before .before .before .before .before .before .before .before .before .before .before .before .before .before .before .before .past .ensures) at (c .before .before .before .before .before .before .before .right-name .ensures) in
+    let u = c .before .before .before .walk3 .ensures (w .4) (right-branch (w .0) (w .1) (w .2) (w .3) (w .4) (w .5) a h d b e i) in
+    end-room (w .0) (w .1) (w .2) (w .3) (w .4) (w .5) a h d b e i u
 
 case-same-length : (t : ℕ) → case-lts.Need-same-length (case-claims t) (case-at t) case.Post
-case-same-length t c = omega (arith, c .before .before .before .before .before .before .before .before .before .before .before .before .before .before .before .before .before .before .before .before .before .before .before .before .before .before .before .before .before .word .ensures .long, c .before .before .before .before .before .before .before .before .before .before .before .before .before .before .before .before .before .before .before .before .before .before .before .before .walk .kept .1 .1 .0, c .before .before .before .before .before .before .before .before .before .before .before .before .before .before .before .before .before .before .before .before .left-name .ensures .long, c .before .before .before .before .before .before .before .before .before .before .before .before .before .before .before .before .walk2 .kept .1 .1 .0, c .before .before .before .before .before .before .before .before .before .before .before .before .right-name .ensures .long, c .before .before .before .before .before .before .before .before .walk3 .kept .1 .1 .0, c .before .before .before .word2 .ensures .long)
+case-same-length t c = omega (arith, c .before .before .before .before .before .before .before .before .before .before .before .before .before .before .before .before .before .before .before .before .before .before .before .before .before .before .before .case-word .ensures .long, c .before .before .before .before .before .before .before .before .before .before .before .before .before .before .before .before .before .before .before .before .before .before .walk .kept .1 .1 .0, c .before .before .before .before .before .before .before .before .before .before .before .before .before .before .before .before .before .before .left-name .ensures .long, c .before .before .before .before .before .before .before .before .before .before .before .before .before .before .walk2 .kept .1 .1 .0, c .before .before .before .before .before .before .before .before .before .before .right-name .ensures .long, c .before .before .before .before .before .before .walk3 .kept .1 .1 .0, c .before .before .case-end .ensures .prints .long)
 
 case-returns : (t : ℕ) → case-lts.Need-returns (case-claims t) (case-at t) case.Post
 case-returns t c x y f g m w =
-    let a = c .before .before .before .before .before .before .before .before .before .before .before .before .before .before .before .before .before .before .before .before .before .before .before .before .before .before .before .before .before .word .ensures in
-    let h = c .before .before .before .before .before .before .before .before .before .before .before .before .before .before .before .before .before .before .before .before .before .before .before .before .before .before .past-names .ensures in
-    let d = c .before .before .before .before .before .before .before .before .before .before .before .before .before .before .before .before .before .before .before .before .before .before .before .before .walk .ensures f (case-part x y f g m w a h) in
-    let b = c .before .before .before .before .before .before .before .before .before .before .before .before .before .before .before .before .before .before .before .before .left-name .ensures in
-    let e = c .before .before .before .before .before .before .before .before .before .before .before .before .before .before .before .before .walk2 .ensures g (left-branch x y f g m w a h d b) in
-    let i = rw (c .before .before .before .before .before .before .before .before .before .before .before .before .before .before .before .before .before .before .before .before .before .before .before .before .before .before .before .before .before .before .before .before .past .ensures) at (c .before .before .before .before .before .before .before .before .before .before .before .before .right-name .ensures) in
-    let u = c .before .before .before .before .before .before .before .before .walk3 .ensures m (right-branch x y f g m w a h d b e i) in
-    case-done x y f g m w a h d b e i u (c .before .before .before .word2 .ensures) (c .places .ensures)
+    let a = c .before .before .before .before .before .before .before .before .before .before .before .before .before .before .before .before .before .before .before .before .before .before .before .before .before .before .before .case-word .ensures in
+    let h = c .before .before .before .before .before .before .before .before .before .before .before .before .before .before .before .before .before .before .before .before .before .before .before .before .past-names .ensures in
+    let d = c .before .before .before .before .before .before .before .before .before .before .before .before .before .before .before .before .before .before .before .before .before .before .walk .ensures f (case-part x y f g m w a h) in
+    let b = c .before .before .before .before .before .before .before .before .before .before .before .before .before .before .before .before .before .before .left-name .ensures in
+    let e = c .before .before .before .before .before .before .before .before .before .before .before .before .before .before .walk2 .ensures g (left-branch x y f g m w a h d b) in
+    let i = rw (c .before .before .before .before .before .before .before .before .before .before .before .before .before .before .before .before .before .before .before .before .before .before .before .before .before .before .before .before .before .past .ensures) at (c .before .before .before .before .before .before .before .before .before .before .right-name .ensures) in
+    let u = c .before .before .before .before .before .before .walk3 .ensures m (right-branch x y f g m w a h d b e i) in
+    case-done x y f g m w a h d b e i u (c .before .before .case-end .ensures)
 
 copy-add-x : (t : ℕ) → copy-lts.Need-add-x (copy-claims t) (copy-at t) copy.Post
-copy-add-x t c = let w = c .before .before .pre .1 in omega (arith, begun (bothOf copyOf (w .0) (w .1) (w .2) (w .3)) (w .4))
+copy-add-x t c =
+    let w = c .before .before .pre .1 in
+    omega (arith, begun (bothOf copyOf (w .0) (w .1) (w .2) (w .3)) (w .4))
 
-copy-word-requires : (t : ℕ) → copy-lts.Need-word-requires (copy-claims t) (copy-at t) copy.Post
-copy-word-requires t c κs = let w = c .before .before .before .before .pre .1 in (omega arith, copy-room (w .0) (w .1) (w .2) (w .3) (w .4), refl)
+copy-copy-word-requires : (t : ℕ) → copy-lts.Need-copy-word-requires (copy-claims t) (copy-at t) copy.Post
+copy-copy-word-requires t c κs =
+    let w = c .before .before .before .pre .1 in
+    copy-room (w .0) (w .1) (w .2) (w .3) (w .4)
 
 copy-past-names-requires : (t : ℕ) → copy-lts.Need-past-names-requires (copy-claims t) (copy-at t) copy.Post
-copy-past-names-requires t c κs = let w = c .before .before .before .before .before .before .before .pre .1 in copy-in (w .0) (w .1) (w .2) (w .3) (w .4)
+copy-past-names-requires t c κs =
+    let w = c .before .before .before .before .before .before .pre .1 in
+    copy-in (w .0) (w .1) (w .2) (w .3) (w .4)
 
 copy-walk-requires : (t : ℕ) → copy-lts.Need-walk-requires (copy-claims t) (copy-at t) copy.Post
 copy-walk-requires t c κs =
-    let w = c .before .before .before .before .before .before .before .before .before .pre .1 in
+    let w = c .before .before .before .before .before .before .before .before .pre .1 in
     let h = c .before .past-names .ensures in
-    (omega (arith, c .before .before .before .before .before .before .before .before .before .pre .0, begun (bothOf copyOf (w .0) (w .1) (w .2) (w .3)) (w .4), h), (w .2, copy-part (w .0) (w .1) (w .2) (w .3) (w .4) (c .before .before .before .before .word .ensures) h))
+    (omega (arith, c .before .before .before .before .before .before .before .before .pre .0, begun (bothOf copyOf (w .0) (w .1) (w .2) (w .3)) (w .4), h), (w .2, copy-part (w .0) (w .1) (w .2) (w .3) (w .4) (c .before .before .before .before .copy-word .ensures) h))
 
-copy-two-names-requires : (t : ℕ) → copy-lts.Need-two-names-requires (copy-claims t) (copy-at t) copy.Post
-copy-two-names-requires t c κs =
-    let w = c .before .before .before .before .before .before .before .before .before .before .before .before .before .before .before .pre .1 in
-    let a = c .before .before .before .before .before .before .before .before .before .before .word .ensures in
-    let h = c .before .before .before .before .before .before .before .past-names .ensures in
-    let n = copy-in (w .0) (w .1) (w .2) (w .3) (w .4) in
-    let d = c .before .before .before .before .before .walk .ensures (w .2) (copy-part (w .0) (w .1) (w .2) (w .3) (w .4) a h) in
-    ((n .0, n .1, copy-between-room (w .0) (w .1) (w .2) (w .3) (w .4) a h d), (refl, refl, omega arith))
+copy-as-names-requires : (t : ℕ) → copy-lts.Need-as-names-requires (copy-claims t) (copy-at t) copy.Post
+copy-as-names-requires t c κs =
+    let w = c .before .before .before .before .before .before .before .before .before .before .before .before .pre .1 in
+    let a = c .before .before .before .before .before .before .before .before .copy-word .ensures in
+    let h = c .before .before .before .before .before .past-names .ensures in
+    let d = c .before .before .before .walk .ensures (w .2) (copy-part (w .0) (w .1) (w .2) (w .3) (w .4) a h) in
+    let q = copy-in (w .0) (w .1) (w .2) (w .3) (w .4) in
+    (q .0, q .1, copy-between-room (w .0) (w .1) (w .2) (w .3) (w .4) a h d)
 
 copy-walk-requires-2 : (t : ℕ) → copy-lts.Need-walk-requires-2 (copy-claims t) (copy-at t) copy.Post
 copy-walk-requires-2 t c κs =
-    let w = c .before .before .before .before .before .before .before .before .before .before .before .before .before .before .before .before .before .before .before .pre .1 in
-    let a = c .before .before .before .before .before .before .before .before .before .before .before .before .before .before .word .ensures in
-    let h = c .before .before .before .before .before .before .before .before .before .before .before .past-names .ensures in
-    let d = c .before .before .before .before .before .before .before .before .before .walk .ensures (w .2) (copy-part (w .0) (w .1) (w .2) (w .3) (w .4) a h) in
-    (omega (arith, c .before .before .before .before .before .before .before .before .before .before .before .before .before .before .before .before .before .before .before .pre .0, begun (bothOf copyOf (w .0) (w .1) (w .2) (w .3)) (w .4), copy-further (w .0) (w .1) (w .2) (w .3) (w .4) a h d), (w .3, copy-body (w .0) (w .1) (w .2) (w .3) (w .4) a h d (c .before .before .before .two-names .ensures)))
+    let w = c .before .before .before .before .before .before .before .before .before .before .before .before .before .before .before .before .pre .1 in
+    let a = c .before .before .before .before .before .before .before .before .before .before .before .before .copy-word .ensures in
+    let h = c .before .before .before .before .before .before .before .before .before .past-names .ensures in
+    let d = c .before .before .before .before .before .before .before .walk .ensures (w .2) (copy-part (w .0) (w .1) (w .2) (w .3) (w .4) a h) in
+    (omega (arith, c .before .before .before .before .before .before .before .before .before .before .before .before .before .before .before .before .pre .0, begun (bothOf copyOf (w .0) (w .1) (w .2) (w .3)) (w .4), copy-further (w .0) (w .1) (w .2) (w .3) (w .4) a h d), (w .3, copy-body (w .0) (w .1) (w .2) (w .3) (w .4) a h d (c .before .before .before .as-names .ensures)))
 
 copy-same-length : (t : ℕ) → copy-lts.Need-same-length (copy-claims t) (copy-at t) copy.Post
-copy-same-length t c = omega (arith, c .before .before .before .before .before .before .before .before .before .before .before .before .before .before .before .before .before .word .ensures .long, c .before .before .before .before .before .before .before .before .before .before .before .before .walk .kept .1 .1 .0, c .before .before .before .before .before .before .two-names .ensures .long, c .before .before .walk2 .kept .1 .1 .0)
+copy-same-length t c = omega (arith, c .before .before .before .before .before .before .before .before .before .before .before .before .before .before .before .copy-word .ensures .long, c .before .before .before .before .before .before .before .before .before .before .walk .kept .1 .1 .0, c .before .before .before .before .before .before .as-names .ensures .long, c .before .before .walk2 .kept .1 .1 .0)
 
 copy-returns : (t : ℕ) → copy-lts.Need-returns (copy-claims t) (copy-at t) copy.Post
 copy-returns t c x y f g w =
-    let a = c .before .before .before .before .before .before .before .before .before .before .before .before .before .before .before .before .before .word .ensures in
-    let h = c .before .before .before .before .before .before .before .before .before .before .before .before .before .before .past-names .ensures in
-    let d = c .before .before .before .before .before .before .before .before .before .before .before .before .walk .ensures f (copy-part x y f g w a h) in
-    let b = c .before .before .before .before .before .before .two-names .ensures in
+    let a = c .before .before .before .before .before .before .before .before .before .before .before .before .before .before .before .copy-word .ensures in
+    let h = c .before .before .before .before .before .before .before .before .before .before .before .before .past-names .ensures in
+    let d = c .before .before .before .before .before .before .before .before .before .before .walk .ensures f (copy-part x y f g w a h) in
+    let b = c .before .before .before .before .before .before .as-names .ensures in
     copy-done x y f g w a h d b (c .before .before .walk2 .ensures g (copy-body x y f g w a h d b))
 
-discard-word-requires : (t : ℕ) → discard-lts.Need-word-requires (discard-claims t) (discard-at t) discard.Post
-discard-word-requires t c κs = let w = c .before .before .before .before .pre .1 in (omega arith, omega (arith, discard-room (w .0) (w .1) (w .2)), refl)
-
-discard-word-requires-2 : (t : ℕ) → discard-lts.Need-word-requires-2 (discard-claims t) (discard-at t) discard.Post
-discard-word-requires-2 t c κs = let w = c .before .before .before .before .before .before .before .before .before .pre .1 in (omega arith, omega (arith, discard-room (w .0) (w .1) (w .2), c .before .before .before .before .word .ensures .ends, c .before .before .before .before .word .ensures .long), refl)
+discard-discard-words-requires : (t : ℕ) → discard-lts.Need-discard-words-requires (discard-claims t) (discard-at t) discard.Post
+discard-discard-words-requires t c κs =
+    let w = c .before .before .before .pre .1 in
+    discard-room (w .0) (w .1) (w .2)
 
 discard-add-skip : (t : ℕ) → discard-lts.Need-add-skip (discard-claims t) (discard-at t) discard.Post
-discard-add-skip t c = let w = c .before .before .before .before .before .before .before .before .before .before .before .before .pre .1 in omega (arith, begun (twoOf discardOf (w .0) (w .1)) (w .2))
+discard-add-skip t c =
+    let w = c .before .before .before .before .before .before .pre .1 in
+    omega (arith, begun (twoOf discardOf (w .0) (w .1)) (w .2))
 
 discard-skip-requires : (t : ℕ) → discard-lts.Need-skip-requires (discard-claims t) (discard-at t) discard.Post
-discard-skip-requires t c κs = let w = c .before .before .before .before .before .before .before .before .before .before .before .before .pre .1 in (w .0 ∷ [], discard-terms (w .0) (w .1) (w .2))
+discard-skip-requires t c κs =
+    let w = c .before .before .before .before .before .before .pre .1 in
+    (w .0 ∷ [], discard-terms (w .0) (w .1) (w .2))
 
 discard-walk-requires : (t : ℕ) → discard-lts.Need-walk-requires (discard-claims t) (discard-at t) discard.Post
 discard-walk-requires t c κs =
-    let w = c .before .before .before .before .before .before .before .before .before .before .before .before .before .before .pre .1 in
-    let a = chain (c .before .before .before .before .before .before .before .before .before .word .ensures) (c .before .before .before .before .word2 .ensures) in
+    let w = c .before .before .before .before .before .before .before .before .pre .1 in
+    let a = c .before .before .before .before .discard-words .ensures in
     let h = c .before .skip .ensures (w .0 ∷ []) (discard-terms (w .0) (w .1) (w .2)) in
-    (omega (arith, c .before .before .before .before .before .before .before .before .before .before .before .before .before .before .pre .0, begun (twoOf discardOf (w .0) (w .1)) (w .2), discard-further (w .0) (w .1) (w .2) a h), (w .1, discard-part (w .0) (w .1) (w .2) a h))
+    (omega (arith, c .before .before .before .before .before .before .before .before .pre .0, begun (twoOf discardOf (w .0) (w .1)) (w .2), discard-further (w .0) (w .1) (w .2) a h), (w .1, discard-part (w .0) (w .1) (w .2) a h))
 
 discard-same-length : (t : ℕ) → discard-lts.Need-same-length (discard-claims t) (discard-at t) discard.Post
-discard-same-length t c = omega (arith, c .before .before .before .before .before .before .before .before .before .before .before .before .word .ensures .long, c .before .before .before .before .before .before .before .word2 .ensures .long, c .before .before .walk .kept .1 .1 .0)
+discard-same-length t c = omega (arith, c .before .before .before .before .before .before .before .discard-words .ensures .long, c .before .before .walk .kept .1 .1 .0)
 
 discard-returns : (t : ℕ) → discard-lts.Need-returns (discard-claims t) (discard-at t) discard.Post
 discard-returns t c f g w =
-    let a = chain (c .before .before .before .before .before .before .before .before .before .before .before .before .word .ensures) (c .before .before .before .before .before .before .before .word2 .ensures) in
+    let a = c .before .before .before .before .before .before .before .discard-words .ensures in
     let h = c .before .before .before .before .skip .ensures (f ∷ []) (discard-terms f g w) in
     discard-done f g w a h (c .before .before .walk .ensures g (discard-part f g w a h))
 
 let-pair-add-x : (t : ℕ) → let-pair-lts.Need-add-x (let-pair-claims t) (let-pair-at t) let-pair.Post
-let-pair-add-x t c = let w = c .before .before .pre .1 in omega (arith, begun (bothOf letPairOf (w .0) (w .1) (w .2) (w .3)) (w .4))
+let-pair-add-x t c =
+    let w = c .before .before .pre .1 in
+    omega (arith, begun (bothOf letPairOf (w .0) (w .1) (w .2) (w .3)) (w .4))
 
-let-pair-two-names-requires : (t : ℕ) → let-pair-lts.Need-two-names-requires (let-pair-claims t) (let-pair-at t) let-pair.Post
-let-pair-two-names-requires t c κs =
-    let w = c .before .before .before .before .before .pre .1 in
-    let n = let-in (w .0) (w .1) (w .2) (w .3) (w .4) in
-    ((n .0, n .1, let-room (w .0) (w .1) (w .2) (w .3) (w .4)), (refl, refl, omega arith))
+let-pair-let-names-requires : (t : ℕ) → let-pair-lts.Need-let-names-requires (let-pair-claims t) (let-pair-at t) let-pair.Post
+let-pair-let-names-requires t c κs =
+    let w = c .before .before .before .pre .1 in
+    let q = let-in (w .0) (w .1) (w .2) (w .3) (w .4) in
+    (q .0, q .1, let-room (w .0) (w .1) (w .2) (w .3) (w .4))
 
 let-pair-past-names-requires : (t : ℕ) → let-pair-lts.Need-past-names-requires (let-pair-claims t) (let-pair-at t) let-pair.Post
-let-pair-past-names-requires t c κs = let w = c .before .before .before .before .before .before .before .before .pre .1 in let-in (w .0) (w .1) (w .2) (w .3) (w .4)
+let-pair-past-names-requires t c κs =
+    let w = c .before .before .before .before .before .before .pre .1 in
+    let-in (w .0) (w .1) (w .2) (w .3) (w .4)
 
 let-pair-walk-requires : (t : ℕ) → let-pair-lts.Need-walk-requires (let-pair-claims t) (let-pair-at t) let-pair.Post
 let-pair-walk-requires t c κs =
-    let w = c .before .before .before .before .before .before .before .before .before .before .pre .1 in
+    let w = c .before .before .before .before .before .before .before .before .pre .1 in
     let h = c .before .past-names .ensures in
-    (omega (arith, c .before .before .before .before .before .before .before .before .before .before .pre .0, begun (bothOf letPairOf (w .0) (w .1) (w .2) (w .3)) (w .4), h), (w .2, let-part (w .0) (w .1) (w .2) (w .3) (w .4) (c .before .before .before .before .two-names .ensures) h))
+    (omega (arith, c .before .before .before .before .before .before .before .before .pre .0, begun (bothOf letPairOf (w .0) (w .1) (w .2) (w .3)) (w .4), h), (w .2, let-part (w .0) (w .1) (w .2) (w .3) (w .4) (c .before .before .before .before .let-names .ensures) h))
 
-let-pair-word-requires : (t : ℕ) → let-pair-lts.Need-word-requires (let-pair-claims t) (let-pair-at t) let-pair.Post
-let-pair-word-requires t c κs =
-    let w = c .before .before .before .before .before .before .before .before .before .before .before .before .before .before .before .pre .1 in
-    let a = c .before .before .before .before .before .before .before .before .before .two-names .ensures in
-    let h = c .before .before .before .before .before .before .past-names .ensures in
-    let d = c .before .before .before .before .walk .ensures (w .2) (let-part (w .0) (w .1) (w .2) (w .3) (w .4) a h) in
-    (omega arith, let-between-room (w .0) (w .1) (w .2) (w .3) (w .4) a h d, refl)
+let-pair-in-word-requires : (t : ℕ) → let-pair-lts.Need-in-word-requires (let-pair-claims t) (let-pair-at t) let-pair.Post
+let-pair-in-word-requires t c κs =
+    let w = c .before .before .before .before .before .before .before .before .before .before .before .before .pre .1 in
+    let a = c .before .before .before .before .before .before .before .before .let-names .ensures in
+    let h = c .before .before .before .before .before .past-names .ensures in
+    let d = c .before .before .before .walk .ensures (w .2) (let-part (w .0) (w .1) (w .2) (w .3) (w .4) a h) in
+    let-between-room (w .0) (w .1) (w .2) (w .3) (w .4) a h d
 
 let-pair-walk-requires-2 : (t : ℕ) → let-pair-lts.Need-walk-requires-2 (let-pair-claims t) (let-pair-at t) let-pair.Post
 let-pair-walk-requires-2 t c κs =
-    let w = c .before .before .before .before .before .before .before .before .before .before .before .before .before .before .before .before .before .before .before .pre .1 in
-    let a = c .before .before .before .before .before .before .before .before .before .before .before .before .before .two-names .ensures in
-    let h = c .before .before .before .before .before .before .before .before .before .before .past-names .ensures in
-    let d = c .before .before .before .before .before .before .before .before .walk .ensures (w .2) (let-part (w .0) (w .1) (w .2) (w .3) (w .4) a h) in
-    (omega (arith, c .before .before .before .before .before .before .before .before .before .before .before .before .before .before .before .before .before .before .before .pre .0, begun (bothOf letPairOf (w .0) (w .1) (w .2) (w .3)) (w .4), let-further (w .0) (w .1) (w .2) (w .3) (w .4) a h d), (w .3, let-body (w .0) (w .1) (w .2) (w .3) (w .4) a h d (c .before .before .before .word .ensures)))
+    let w = c .before .before .before .before .before .before .before .before .before .before .before .before .before .before .before .before .pre .1 in
+    let a = c .before .before .before .before .before .before .before .before .before .before .before .before .let-names .ensures in
+    let h = c .before .before .before .before .before .before .before .before .before .past-names .ensures in
+    let d = c .before .before .before .before .before .before .before .walk .ensures (w .2) (let-part (w .0) (w .1) (w .2) (w .3) (w .4) a h) in
+    (omega (arith, c .before .before .before .before .before .before .before .before .before .before .before .before .before .before .before .before .pre .0, begun (bothOf letPairOf (w .0) (w .1) (w .2) (w .3)) (w .4), let-further (w .0) (w .1) (w .2) (w .3) (w .4) a h d), (w .3, let-body (w .0) (w .1) (w .2) (w .3) (w .4) a h d (c .before .before .before .in-word .ensures)))
 
 let-pair-same-length : (t : ℕ) → let-pair-lts.Need-same-length (let-pair-claims t) (let-pair-at t) let-pair.Post
-let-pair-same-length t c = omega (arith, c .before .before .before .before .before .before .before .before .before .before .before .before .before .before .before .before .two-names .ensures .long, c .before .before .before .before .before .before .before .before .before .before .before .walk .kept .1 .1 .0, c .before .before .before .before .before .before .word .ensures .long, c .before .before .walk2 .kept .1 .1 .0)
+let-pair-same-length t c = omega (arith, c .before .before .before .before .before .before .before .before .before .before .before .before .before .before .before .let-names .ensures .long, c .before .before .before .before .before .before .before .before .before .before .walk .kept .1 .1 .0, c .before .before .before .before .before .before .in-word .ensures .long, c .before .before .walk2 .kept .1 .1 .0)
 
 let-pair-returns : (t : ℕ) → let-pair-lts.Need-returns (let-pair-claims t) (let-pair-at t) let-pair.Post
 let-pair-returns t c x y f g w =
-    let a = c .before .before .before .before .before .before .before .before .before .before .before .before .before .before .before .before .two-names .ensures in
-    let h = c .before .before .before .before .before .before .before .before .before .before .before .before .before .past-names .ensures in
-    let d = c .before .before .before .before .before .before .before .before .before .before .before .walk .ensures f (let-part x y f g w a h) in
-    let b = c .before .before .before .before .before .before .word .ensures in
+    let a = c .before .before .before .before .before .before .before .before .before .before .before .before .before .before .before .let-names .ensures in
+    let h = c .before .before .before .before .before .before .before .before .before .before .before .before .past-names .ensures in
+    let d = c .before .before .before .before .before .before .before .before .before .before .walk .ensures f (let-part x y f g w a h) in
+    let b = c .before .before .before .before .before .before .in-word .ensures in
     let-done x y f g w a h d b (c .before .before .walk2 .ensures g (let-body x y f g w a h d b))
 
 abbrev walk-Inv-loop : walk-lts.InvT-loop
@@ -363,7 +376,7 @@ walk-same-length : (t : ℕ) → walk-lts.Need-same-length (walk-claims t) (walk
 walk-same-length t c = c .before .before .last-name .kept .1 .1 .0 ∙ c .before .before .before .before .before .before .loop .inv .same
 
 walk-returns : (t : ℕ) → walk-lts.Need-returns (walk-claims t) (walk-at t) walk.Post walk-Inv-loop walk-μ-loop
-walk-returns t c = λ T w. name-ends (c .before .before .before .before .before .before .loop .inv .on T w) (c .before .before .before .before .match .keys1) (c .before .before .last-name .ensures)
+walk-returns t c T w = name-ends (c .before .before .before .before .before .before .loop .inv .on T w) (c .before .before .before .before .match .keys1) (c .before .before .last-name .ensures)
 
 walk-add-brackets : (t : ℕ) → walk-lts.Need-add-brackets (walk-claims t) (walk-at t) walk.Post walk-Inv-loop walk-μ-loop
 walk-add-brackets t c =
@@ -489,55 +502,67 @@ walk-same-length-2 : (t : ℕ) → walk-lts.Need-same-length-2 (walk-claims t) (
 walk-same-length-2 t c = c .before .before .closed .ensures .prints .long ∙ c .before .before .before .before .before .before .whole .kept .1 .1 .0 ∙ c .before .before .before .before .before .before .before .before .before .before .before .before .loop .inv .same
 
 walk-returns-2 : (t : ℕ) → walk-lts.Need-returns-2 (walk-claims t) (walk-at t) walk.Post walk-Inv-loop walk-μ-loop
-walk-returns-2 t c = λ T w. whole-ends (c .before .before .before .before .before .before .before .before .before .before .before .before .loop .inv .on T w) (c .before .before .before .before .before .before .before .before .before .before .match .rest, λ q. c .before .before .before .before .before .before .before .before .if2 .left (c .before .before .before .before .before .before .before .before .before .one-part .ensures ∙ q)) (c .before .before .before .before .before .before .whole .ensures) (c .before .before .closed .ensures)
+walk-returns-2 t c T w = whole-ends (c .before .before .before .before .before .before .before .before .before .before .before .before .loop .inv .on T w) (c .before .before .before .before .before .before .before .before .before .before .match .rest, λ q. c .before .before .before .before .before .before .before .before .if2 .left (c .before .before .before .before .before .before .before .before .before .one-part .ensures ∙ q)) (c .before .before .before .before .before .before .whole .ensures) (c .before .before .closed .ensures)
 
 whole-shared-slice-read-match : (t : ℕ) → whole-lts.Need-shared-slice-read-match (whole-claims t) (whole-at t) whole.Post
-whole-shared-slice-read-match t c = let w = c .before .before .before .pre .1 in begun (w .0) (w .2)
+whole-shared-slice-read-match t c =
+    let w = c .before .before .before .pre .1 in
+    begun (w .0) (w .2)
 
 whole-leaf-requires : (t : ℕ) → whole-lts.Need-leaf-requires (whole-claims t) (whole-at t) whole.Post
-whole-leaf-requires t c κs = let w = c .before .before .before .before .before .pre .1 in leaf-here (w .0) (w .2) (c .before .match .keys1)
+whole-leaf-requires t c κs =
+    let w = c .before .before .before .before .before .pre .1 in
+    leaf-here (w .0) (w .2) (c .before .match .keys1)
 
 whole-let-pair-requires : (t : ℕ) → whole-lts.Need-let-pair-requires (whole-claims t) (whole-at t) whole.Post
-whole-let-pair-requires t c κs = let w = c .before .before .before .before .before .pre .1 in (omega (arith, c .before .before .before .before .before .pre .0), let-here (w .0) (w .2) (c .before .match .keys2))
+whole-let-pair-requires t c κs =
+    let w = c .before .before .before .before .before .pre .1 in
+    (omega (arith, c .before .before .before .before .before .pre .0), let-here (w .0) (w .2) (c .before .match .keys2))
 
 whole-case-requires : (t : ℕ) → whole-lts.Need-case-requires (whole-claims t) (whole-at t) whole.Post
-whole-case-requires t c κs = let w = c .before .before .before .before .before .pre .1 in (omega (arith, c .before .before .before .before .before .pre .0), case-here (w .0) (w .2) (c .before .match .keys3))
+whole-case-requires t c κs =
+    let w = c .before .before .before .before .before .pre .1 in
+    (omega (arith, c .before .before .before .before .before .pre .0), case-here (w .0) (w .2) (c .before .match .keys3))
 
 whole-discard-requires : (t : ℕ) → whole-lts.Need-discard-requires (whole-claims t) (whole-at t) whole.Post
-whole-discard-requires t c κs = let w = c .before .before .before .before .before .pre .1 in (omega (arith, c .before .before .before .before .before .pre .0), discard-here (w .0) (w .2) (c .before .match .keys4))
+whole-discard-requires t c κs =
+    let w = c .before .before .before .before .before .pre .1 in
+    (omega (arith, c .before .before .before .before .before .pre .0), discard-here (w .0) (w .2) (c .before .match .keys4))
 
 whole-copy-requires : (t : ℕ) → whole-lts.Need-copy-requires (whole-claims t) (whole-at t) whole.Post
-whole-copy-requires t c κs = let w = c .before .before .before .before .before .pre .1 in (omega (arith, c .before .before .before .before .before .pre .0), copy-here (w .0) (w .2) (w .1) (c .before .match .rest))
+whole-copy-requires t c κs =
+    let w = c .before .before .before .before .before .pre .1 in
+    (omega (arith, c .before .before .before .before .before .pre .0), copy-here (w .0) (w .2) (w .1) (c .before .match .rest))
 
 whole-same-length : (t : ℕ) → whole-lts.Need-same-length (whole-claims t) (whole-at t) whole.Post
 whole-same-length t c = c .before .before .leaf .kept .1 .1 .0
 
 whole-returns : (t : ℕ) → whole-lts.Need-returns (whole-claims t) (whole-at t) whole.Post
-whole-returns t c = λ T z w. leaf-called T w (c .before .before .before .before .match .keys1) (c .before .before .leaf .ensures)
+whole-returns t c T z w = leaf-called T w (c .before .before .before .before .match .keys1) (c .before .before .leaf .ensures)
 
 whole-same-length-2 : (t : ℕ) → whole-lts.Need-same-length-2 (whole-claims t) (whole-at t) whole.Post
 whole-same-length-2 t c = c .before .before .let-pair .kept .1 .1 .0
 
 whole-returns-2 : (t : ℕ) → whole-lts.Need-returns-2 (whole-claims t) (whole-at t) whole.Post
-whole-returns-2 t c = λ T z w. let-called T w (c .before .before .before .before .match .keys2) (c .before .before .let-pair .ensures)
+whole-returns-2 t c T z w = let-called T w (c .before .before .before .before .match .keys2) (c .before .before .let-pair .ensures)
 
 whole-same-length-3 : (t : ℕ) → whole-lts.Need-same-length-3 (whole-claims t) (whole-at t) whole.Post
 whole-same-length-3 t c = c .before .before .case .kept .1 .1 .0
 
 whole-returns-3 : (t : ℕ) → whole-lts.Need-returns-3 (whole-claims t) (whole-at t) whole.Post
-whole-returns-3 t c = λ T z w. case-called T w (c .before .before .before .before .match .keys3) (c .before .before .case .ensures)
+whole-returns-3 t c T z w = case-called T w (c .before .before .before .before .match .keys3) (c .before .before .case .ensures)
 
 whole-same-length-4 : (t : ℕ) → whole-lts.Need-same-length-4 (whole-claims t) (whole-at t) whole.Post
 whole-same-length-4 t c = c .before .before .discard .kept .1 .1 .0
 
 whole-returns-4 : (t : ℕ) → whole-lts.Need-returns-4 (whole-claims t) (whole-at t) whole.Post
-whole-returns-4 t c = λ T z w. discard-called T w (c .before .before .before .before .match .keys4) (c .before .before .discard .ensures)
+whole-returns-4 t c T z w = discard-called T w (c .before .before .before .before .match .keys4) (c .before .before .discard .ensures)
 
 whole-same-length-5 : (t : ℕ) → whole-lts.Need-same-length-5 (whole-claims t) (whole-at t) whole.Post
 whole-same-length-5 t c = c .before .before .copy .kept .1 .1 .0
 
 whole-returns-5 : (t : ℕ) → whole-lts.Need-returns-5 (whole-claims t) (whole-at t) whole.Post
-whole-returns-5 t c = λ T z w. copy-called T w z (c .before .before .before .before .match .rest) (c .before .before .copy .ensures)
+whole-returns-5 t c T z w = copy-called T w z (c .before .before .before .before .match .rest) (c .before .before .copy .ensures)
 
 pub +case+copy+discard+let-pair+walk+whole-spec : {M : Type 1} → statement M
 +case+copy+discard+let-pair+walk+whole-spec =
@@ -545,31 +570,29 @@ pub +case+copy+discard+let-pair+walk+whole-spec : {M : Type 1} → statement M
     case.Post
     (case-add-x t)
     (case-past-requires t)
-    (case-word-requires t)
+    (case-case-word-requires t)
     (case-past-names-requires t)
     (case-walk-requires t)
     (case-left-name-requires t)
     (case-walk-requires-2 t)
     (case-right-name-requires t)
     (case-walk-requires-3 t)
-    (case-word-requires-2 t)
-    (case-places-requires t)
+    (case-case-end-requires t)
     (case-same-length t)
     (case-returns t))
     (λ t. copy-lts.spec (copy-claims t) (copy-at t)
     copy.Post
     (copy-add-x t)
-    (copy-word-requires t)
+    (copy-copy-word-requires t)
     (copy-past-names-requires t)
     (copy-walk-requires t)
-    (copy-two-names-requires t)
+    (copy-as-names-requires t)
     (copy-walk-requires-2 t)
     (copy-same-length t)
     (copy-returns t))
     (λ t. discard-lts.spec (discard-claims t) (discard-at t)
     discard.Post
-    (discard-word-requires t)
-    (discard-word-requires-2 t)
+    (discard-discard-words-requires t)
     (discard-add-skip t)
     (discard-skip-requires t)
     (discard-walk-requires t)
@@ -578,10 +601,10 @@ pub +case+copy+discard+let-pair+walk+whole-spec : {M : Type 1} → statement M
     (λ t. let-pair-lts.spec (let-pair-claims t) (let-pair-at t)
     let-pair.Post
     (let-pair-add-x t)
-    (let-pair-two-names-requires t)
+    (let-pair-let-names-requires t)
     (let-pair-past-names-requires t)
     (let-pair-walk-requires t)
-    (let-pair-word-requires t)
+    (let-pair-in-word-requires t)
     (let-pair-walk-requires-2 t)
     (let-pair-same-length t)
     (let-pair-returns t))
