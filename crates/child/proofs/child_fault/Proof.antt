@@ -1,9 +1,9 @@
--- `walk::child::child_fault` meets its contract: it tells what kept a child from being located. Assumes nothing.
+-- `child::child_fault` meets its contract: it tells what kept a child from being located. Assumes nothing.
 use denote.Ref.{now}
-use Rattle.walk.proofs.Children.{part-well, missing-told}
+use Rattle.child.proofs.Children.{part-well, missing-told}
 use borrow.Author.Needs.{needs}
-use Rattle.walk.proofs.child.child_fault.Statement.{statement}
-use Rattle.walk.proofs.child.child_fault.Tie as tie
+use Rattle.child.proofs.child_fault.Statement.{statement}
+use Rattle.child.proofs.child_fault.Tie as tie
 
 locate-requires : tie.Need-locate-requires
 locate-requires c κs = search needs

@@ -1,10 +1,10 @@
--- `walk::child::locate` meets its contract: the reader, then the parts before child k, then the child. Assumes nothing.
+-- `child::locate` meets its contract: the reader, then the parts before child k, then the child. Assumes nothing.
 use mathlib.Core.Path.{sym, _∙_}
 use denote.Ref.{now}
-use Rattle.walk.proofs.Children.{refused-term, some-read, no-child, some-before, some-child, child-part}
+use Rattle.child.proofs.Children.{refused-term, some-read, no-child, some-before, some-child, child-part}
 use borrow.Author.Needs.{needs}
-use Rattle.walk.proofs.child.locate.Statement.{statement}
-use Rattle.walk.proofs.child.locate.Tie as tie
+use Rattle.child.proofs.locate.Statement.{statement}
+use Rattle.child.proofs.locate.Tie as tie
 
 check-term-requires : tie.Need-check-term-requires
 check-term-requires c κs = search needs

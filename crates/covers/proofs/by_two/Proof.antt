@@ -1,7 +1,7 @@
--- `walk::covered` meets its contract, way by way. Assumes nothing.
+-- `covers::by_two` meets its contract, way by way. Assumes nothing.
 use borrow.Author.Tests.{eq-eqb, ne-eqb}
-use Rattle.walk.proofs.covered.Statement.{statement}
-use Rattle.walk.proofs.covered.Tie as tie
+use Rattle.covers.proofs.by_two.Statement.{statement}
+use Rattle.covers.proofs.by_two.Tie as tie
 
 returns : tie.Need-returns
 returns c = rw (eq-eqb (c .before .before .args .parts) 2 (c .before .if1 .taken), c .if2 .taken)
@@ -24,6 +24,6 @@ returns-6 c = let e = c .before .before in rw (ne-eqb (e .before .args .parts) 2
 returns-7 : tie.Need-returns-7
 returns-7 c = let e = c .before .before in rw (ne-eqb (e .before .args .parts) 2 (e .if1 .left), c .before .if4 .left, c .if6 .left)
 
-pub covered-spec : {M : Type 1} → statement M
-covered-spec =
+pub by-two-spec : {M : Type 1} → statement M
+by-two-spec =
     tie.close (tie.spec returns returns-2 returns-3 returns-4 returns-5 returns-6 returns-7)

@@ -2,11 +2,11 @@
 ghost use mathlib.Core.Path.{_≡_};
 ghost use Rattle.rules.specs.Limits.{limits};
 ghost use Rattle.rules.specs.Calls.{childCall, childFaultCall};
-ghost use Rattle.walk.specs.Child.{Located, told};
-use crate::parts_at;
-use crate::skip;
+ghost use Rattle.child.specs.Child.{Located, told};
 use rules::Answer;
 use rules::Refusal;
+use walk::parts_at;
+use walk::skip;
 
 // Where a child stands, or why there is none.
 pub enum Piece {

@@ -16,15 +16,15 @@ use Rattle.rules.specs.Reading.{readTerm}
 use Rattle.rules.specs.Calls.{checkTermCall, childOr, childOf, childCall, childFaultCall}
 use Rattle.laws.specs.Decoding.{term-sound}
 use Rattle.reader.specs.Accepted.{accepts, refuses}
 use Rattle.walk.specs.Node.{head, encodeAll}
 use Rattle.walk.specs.Place.{TermAt, TermsAt}
-use Rattle.walk.specs.Child.{Stands, Located, told}
+use Rattle.child.specs.Child.{Stands, Located, told}
 use Rattle.walk.specs.declared.Row.{Row}
-use Rattle.walk.specs.declared.child.Piece.{Piece}
-use Rattle.walk.specs.declared.child.Piece.the-variants.{Part, Missing}
-use Rattle.walk.specs.declared.child.Fault.the-variants.{Nothing, Refused as Wrong}
+use Rattle.child.specs.declared.Piece.{Piece}
+use Rattle.child.specs.declared.Piece.the-variants.{Part, Missing}
+use Rattle.child.specs.declared.Fault.the-variants.{Nothing, Refused as Wrong}
 use Rattle.walk.proofs.Names.{drop-app}
 use Rattle.walk.proofs.Terms.{SkipIs, skip-one, some-alone, first, others, at-end, at-parts, whole}
 
 -- ---- the k-th of a row
 

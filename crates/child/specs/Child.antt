@@ -10,11 +10,11 @@ use Rattle.rules.specs.Refusal.{good, refused}
 use Rattle.rules.specs.Term.{Term, parts}
 use Rattle.rules.specs.Reading.{readTerm}
 use Rattle.rules.specs.Calls.{childOf}
 use Rattle.walk.specs.Node.{head, encodeAll}
-use Rattle.walk.specs.declared.child.Piece.{Piece}
-use Rattle.walk.specs.declared.child.Piece.the-variants.{Part, Missing}
-use Rattle.walk.specs.declared.child.Fault.{Fault}
-use Rattle.walk.specs.declared.child.Fault.the-variants.{Nothing, Refused}
+use Rattle.child.specs.declared.Piece.{Piece}
+use Rattle.child.specs.declared.Piece.the-variants.{Part, Missing}
+use Rattle.child.specs.declared.Fault.{Fault}
+use Rattle.child.specs.declared.Fault.the-variants.{Nothing, Refused}
 
 -- child k of s is s[a..b], which stands behind the head and the k parts before it
 pub record Stands (s : Bytes) (k a b : ℕ) : Type 0 where

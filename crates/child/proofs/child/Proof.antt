@@ -1,9 +1,9 @@
--- `walk::child::child` meets its contract: the part that was located, or none. Assumes nothing.
+-- `child::child` meets its contract: the part that was located, or none. Assumes nothing.
 use denote.Ref.{now}
-use Rattle.walk.proofs.Children.{part, part-is, missing-is}
+use Rattle.child.proofs.Children.{part, part-is, missing-is}
 use borrow.Author.Needs.{needs}
-use Rattle.walk.proofs.child.child.Statement.{statement}
-use Rattle.walk.proofs.child.child.Tie as tie
+use Rattle.child.proofs.child.Statement.{statement}
+use Rattle.child.proofs.child.Tie as tie
 
 locate-requires : tie.Need-locate-requires
 locate-requires c κs = search needs
