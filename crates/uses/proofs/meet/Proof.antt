@@ -1,9 +1,9 @@
--- `straightness::counting::meet` meets its contract: the tag tells whether the names are used or stand at binders. Assumes nothing.
+-- `uses::meet` meets its contract: the tag tells whether the names are used or stand at binders. Assumes nothing.
 use native.Mathlib.Omega.{arith}
 use Rattle.walk.proofs.Terms.{at-inside, at-small, some-names}
-use Rattle.straightness.proofs.Meets.{met-variable, met-other}
-use Rattle.straightness.proofs.counting.meet.Statement.{statement}
-use Rattle.straightness.proofs.counting.meet.Tie as tie
+use Rattle.uses.proofs.Meets.{met-variable, met-other}
+use Rattle.uses.proofs.meet.Statement.{statement}
+use Rattle.uses.proofs.meet.Tie as tie
 
 shared-slice-read-tag : tie.Need-shared-slice-read-tag
 shared-slice-read-tag c = let b = c .before .before .before in at-inside _ _ (b .pre .0) (b .pre .1)

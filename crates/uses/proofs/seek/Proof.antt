@@ -1,11 +1,11 @@
--- `straightness::counting::seek` meets its contract: whatever the terms that are left have, all of them have that and what was met.
+-- `uses::seek` meets its contract: whatever the terms that are left have, all of them have that and what was met.
 -- Assumes nothing.
 use Prim.Native.Nat.{_-_}
 use native.Mathlib.Omega.{arith}
 use lib.ListN.{length}
-use Rattle.straightness.proofs.TermRows.{Going, begin, finish, one-here, room, few, turn}
-use Rattle.straightness.proofs.counting.seek.Statement.{statement}
-use Rattle.straightness.proofs.counting.seek.Tie as tie
+use Rattle.uses.proofs.TermRows.{Going, begin, finish, one-here, room, few, turn}
+use Rattle.uses.proofs.seek.Statement.{statement}
+use Rattle.uses.proofs.seek.Tie as tie
 
 abbrev Inv-loop : tie.InvT-loop
 Inv-loop s at name i₀ left₀ uses₀ stands₀ i left uses stands = Going s at name i left uses stands

@@ -11,10 +11,10 @@ use Rattle.walk.specs.Place.{TermAt, TermsAt}
 use Rattle.walk.proofs.Terms.{Some, some-first, some-fits, first, unrolled, alone, at-end, apart-size}
 use Rattle.straight.specs.Straight.{count, uses, stands}
 use Rattle.straight.specs.Weights.{weigh, usesOf, standsOf, uses-weigh, stands-weigh}
-use Rattle.straightness.specs.declared.counting.Met.{Met}
-use Rattle.straightness.specs.Node.{ownVariables, ownBinders}
-use Rattle.straightness.specs.Counts.{AtNode, InTerm}
-use Rattle.straightness.proofs.NameRows.{at-most-one}
+use Rattle.uses.specs.declared.Met.{Met}
+use Rattle.uses.specs.Node.{ownVariables, ownBinders}
+use Rattle.uses.specs.Counts.{AtNode, InTerm}
+use Rattle.uses.proofs.NameRows.{at-most-one}
 
 -- ---- a node's own, and its parts'
 

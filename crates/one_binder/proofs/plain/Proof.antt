@@ -1,7 +1,7 @@
--- `straightness::plain` meets its contract, way by way. Assumes nothing.
+-- `one_binder::plain` meets its contract, way by way. Assumes nothing.
 use borrow.Author.Tests.{eq-eqb, ne-eqb}
-use Rattle.straightness.proofs.plain.Statement.{statement}
-use Rattle.straightness.proofs.plain.Tie as tie
+use Rattle.one_binder.proofs.plain.Statement.{statement}
+use Rattle.one_binder.proofs.plain.Tie as tie
 
 returns : tie.Need-returns
 returns c = let k = c .before .args .tag in rw (eq-eqb k 9 (c .if1 .taken))

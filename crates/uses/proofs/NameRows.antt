@@ -10,7 +10,7 @@ use Rattle.rules.specs.Name.{Name, same, encodeName, encodeNames}
 use Rattle.walk.specs.Place.{NameAt, NamesAt}
 use Rattle.walk.proofs.Names.{AfterIs, first-name, other-names, some-name, name-end}
 use Rattle.straight.specs.Straight.{count}
-use Rattle.straightness.specs.Counts.{PastNames}
+use Rattle.uses.specs.Counts.{PastNames}
 
 abbrev Some : List ℕ → ℕ → ℕ → Type 0
 Some s i n = (xs : List Name) × NamesAt s i n xs

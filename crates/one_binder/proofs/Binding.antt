@@ -11,9 +11,9 @@ use Rattle.rules.specs.Term.{Term}
 use Rattle.walk.specs.Place.{TermAt}
 use Rattle.walk.proofs.Names.{name-room, name-part}
 use Rattle.straight.specs.Straight.{_over_, stands, uses, once}
-use Rattle.straightness.specs.declared.counting.Found.{Found}
-use Rattle.straightness.specs.Place.{Binds}
-use Rattle.straightness.specs.Counts.{InTerm}
+use Rattle.uses.specs.declared.Found.{Found}
+use Rattle.one_binder.specs.Place.{Binds}
+use Rattle.uses.specs.Counts.{InTerm}
 
 -- the bytes of the name at i
 abbrev nameAt : List ℕ → ℕ → Name

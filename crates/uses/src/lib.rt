@@ -5,7 +5,7 @@ ghost use Rattle.rules.specs.Basic.{if_then_else_};
 ghost use Rattle.rules.specs.Name.{Name, same as sameName};
 ghost use Rattle.rules.specs.Term.{Term};
 ghost use Rattle.walk.specs.Place.{TermAt, NameAt, NamesAt};
-ghost use Rattle.straightness.specs.Counts.{PastNames, AtNode, InTerm};
+ghost use Rattle.uses.specs.Counts.{PastNames, AtNode, InTerm};
 
 const VAR: usize = 1;
 

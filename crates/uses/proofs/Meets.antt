@@ -10,9 +10,9 @@ use Rattle.walk.specs.Node.{names, namesAfter, partsAfter}
 use Rattle.walk.specs.Place.{TermAt}
 use Rattle.walk.proofs.Terms.{at-tag, at-names, at-count-names, at-count-parts}
 use Rattle.straight.specs.Straight.{count}
-use Rattle.straightness.specs.Node.{ownVariables, ownBinders}
-use Rattle.straightness.specs.Counts.{PastNames, AtNode}
-use Rattle.straightness.proofs.NameRows.{PassIs}
+use Rattle.uses.specs.Node.{ownVariables, ownBinders}
+use Rattle.uses.specs.Counts.{PastNames, AtNode}
+use Rattle.uses.proofs.NameRows.{PassIs}
 
 abbrev ownNames : Term → List Name
 ownNames t = map (λ b. b .name) (ownBinders t)

@@ -1,9 +1,9 @@
--- `straightness::once` meets its contract: the part of the list that it seeks is the binder's name. Assumes nothing.
+-- `one_binder::once` meets its contract: the part of the list that it seeks is the binder's name. Assumes nothing.
 use native.Mathlib.Omega.{arith}
-use Rattle.straightness.proofs.Binding.{name-inside, elsewhere, not-once, inside}
+use Rattle.one_binder.proofs.Binding.{name-inside, elsewhere, not-once, inside}
 use borrow.Author.Needs.{needs}
-use Rattle.straightness.proofs.once.Statement.{statement}
-use Rattle.straightness.proofs.once.Tie as tie
+use Rattle.one_binder.proofs.once.Statement.{statement}
+use Rattle.one_binder.proofs.once.Tie as tie
 
 shared-slice-read-len : tie.Need-shared-slice-read-len
 shared-slice-read-len c = omega (arith, name-inside (c .before .before .pre))

@@ -7,10 +7,10 @@ use Rattle.rules.specs.Name.{Name, encodeNames}
 use Rattle.rules.specs.Term.{Term, parts}
 use Rattle.walk.specs.Node.{head}
 use Rattle.straight.specs.Straight.{count, stands, uses}
-use Rattle.straightness.specs.Node.{ownVariables, ownBinders}
-use Rattle.straightness.specs.declared.counting.Passed.{Passed}
-use Rattle.straightness.specs.declared.counting.Met.{Met}
-use Rattle.straightness.specs.declared.counting.Found.{Found}
+use Rattle.uses.specs.Node.{ownVariables, ownBinders}
+use Rattle.uses.specs.declared.Passed.{Passed}
+use Rattle.uses.specs.declared.Met.{Met}
+use Rattle.uses.specs.declared.Found.{Found}
 
 -- the names xs at `at`, with the name x in mind
 pub record PastNames (x : Name) (at : ℕ) (xs : List Name) (r : Passed) : Type 0 where

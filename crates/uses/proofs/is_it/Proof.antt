@@ -1,10 +1,10 @@
--- `straightness::counting::is_it` meets its contract: it is the answer of `same_name` as a number. Assumes nothing.
+-- `uses::is_it` meets its contract: it is the answer of `same_name` as a number. Assumes nothing.
 use mathlib.Core.Path.{sym, ap, _∙_}
 use mathlib.Core.Bool.{Bool}
 use borrow.Author.Needs.{needs}
 use Rattle.rules.specs.Basic.{if_then_else_}
-use Rattle.straightness.proofs.counting.is_it.Statement.{statement}
-use Rattle.straightness.proofs.counting.is_it.Tie as tie
+use Rattle.uses.proofs.is_it.Statement.{statement}
+use Rattle.uses.proofs.is_it.Tie as tie
 
 same-name-requires : tie.Need-same-name-requires
 same-name-requires c κs = search needs

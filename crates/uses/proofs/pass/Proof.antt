@@ -1,10 +1,10 @@
--- `straightness::counting::pass` meets its contract: whatever the names that are left have, all of them have that and what was met.
+-- `uses::pass` meets its contract: whatever the names that are left have, all of them have that and what was met.
 -- Assumes nothing.
 use native.Mathlib.Omega.{arith}
 use Rattle.walk.proofs.Names.{name-room, some-single}
-use Rattle.straightness.proofs.NameRows.{Passing, begin, finish, one-here, small, turn}
-use Rattle.straightness.proofs.counting.pass.Statement.{statement}
-use Rattle.straightness.proofs.counting.pass.Tie as tie
+use Rattle.uses.proofs.NameRows.{Passing, begin, finish, one-here, small, turn}
+use Rattle.uses.proofs.pass.Statement.{statement}
+use Rattle.uses.proofs.pass.Tie as tie
 
 abbrev Inv-loop : tie.InvT-loop
 Inv-loop s at n name i₀ left₀ same₀ i left same = Passing s at n name i left same
