@@ -62,7 +62,7 @@ pub extern "C" fn patch_term_text(term: &[u8], out: &mut [u8], answer: &mut [u64
 pub extern "C" fn patch_child(term: &[u8], k: usize, answer: &mut [u64; 16])
     ensures { λ _. ⌜ ToldChild (now (term .entry)) k (now (answer .exit)) ⌝ }
 {
-    tell_piece(walk::child::locate(term, k), answer);
+    tell_piece(child::locate(term, k), answer);
 }
 
 #[no_mangle]

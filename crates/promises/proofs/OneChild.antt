@@ -11,9 +11,9 @@ use Rattle.rules.specs.Refusal.{Outcome, good, refused}
 use Rattle.rules.specs.Term.{Term, parts}
 use Rattle.rules.specs.Calls.{childOf}
 use Rattle.walk.specs.Node.{head, encodeAll}
-use Rattle.walk.specs.Child.{Stands, Located}
-use Rattle.walk.specs.declared.child.Piece.{Piece}
-use Rattle.walk.specs.declared.child.Piece.the-variants.{Part, Missing}
+use Rattle.child.specs.Child.{Stands, Located}
+use Rattle.child.specs.declared.Piece.{Piece}
+use Rattle.child.specs.declared.Piece.the-variants.{Part, Missing}
 
 good-is : {A : Type 0} {x y : A} → _≡_ {A = Outcome A} (good x) (good y) → x ≡ y
 good-is e = cc

@@ -13,8 +13,8 @@ use Rattle.walk.specs.declared.Row.{Row}
 use Rattle.walk.proofs.Names.{AfterIs, first-name, other-names, name-end}
 use Rattle.walk.proofs.Terms.{Some, SkipIs, some-alone, skip-one, first, others, at-tag, at-names, at-parts, at-count-names, at-count-parts}
 use Rattle.straight.specs.Straight.{_over_, once}
-use Rattle.straightness.specs.Node.{plainTag, passesIn}
-use Rattle.straightness.specs.Place.{Within, Binds}
+use Rattle.uses.specs.Node.{plainTag, passesIn}
+use Rattle.one_binder.specs.Place.{Within, Binds}
 use Rattle.straightness.proofs.StraightRows.{RowIs}
 
 -- ---- an Abs

@@ -11,8 +11,8 @@ use Rattle.walk.specs.Place.{TermAt, TermsAt}
 use Rattle.walk.specs.declared.Row.{Row}
 use Rattle.walk.proofs.Terms.{Some, some-first, some-fits, first, unrolled, alone, at-end, apart-size}
 use Rattle.straight.specs.Straight.{Binder, _over_, binders, plain, every, once, straight}
-use Rattle.straightness.specs.Node.{ownPlain, ownBinders, passesIn}
-use Rattle.straightness.specs.Place.{Within}
+use Rattle.uses.specs.Node.{ownPlain, ownBinders, passesIn}
+use Rattle.one_binder.specs.Place.{Within}
 
 -- ---- a node, and its parts
 

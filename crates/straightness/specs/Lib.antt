@@ -1,4 +1,1 @@
-pub mod Node
-pub mod Place
-pub mod Counts
 pub mod Verdict

@@ -4,71 +4,19 @@ ghost use Rattle.rules.specs.Limits.{limits};
 ghost use Rattle.rules.specs.Name.{Name};
 ghost use Rattle.rules.specs.Term.{Term, abs, both, letPair};
 ghost use Rattle.walk.specs.Place.{TermAt};
-ghost use Rattle.straight.specs.Straight.{_over_, once as onceIn, straight};
+ghost use Rattle.straight.specs.Straight.{straight};
 ghost use Rattle.straight.specs.Call.{isStraightCall};
-ghost use Rattle.straightness.specs.Node.{plainTag, passesIn};
-ghost use Rattle.straightness.specs.Place.{Within, Binds};
+ghost use Rattle.uses.specs.Node.{passesIn};
+ghost use Rattle.one_binder.specs.Place.{Within};
 ghost use Rattle.straightness.specs.Verdict.{verdict};
-use counting::seek;
+use one_binder::once;
+use one_binder::plain;
 use rules::Answer;
 use rules::Refusal;
-
-pub mod counting;
 
 const LET_PAIR: usize = 4;
 
 const ABS: usize = 5;
-
-const CASE: usize = 9;
-
-const FST: usize = 11;
-
-const SND: usize = 12;
-
-const DISCARD: usize = 16;
-
-const COPY: usize = 17;
-
-// Whether a node of this tag may stand in a straight term.
-fn plain(tag: usize) -> bool
-    ensures { λ r. ⌜ r ≡ plainTag tag ⌝ }
-{
-    if tag == CASE {
-        return false;
-    }
-    if tag == FST {
-        return false;
-    }
-    if tag == SND {
-        return false;
-    }
-    if tag == DISCARD {
-        return false;
-    }
-    if tag == COPY {
-        return false;
-    }
-    true
-}
-
-// Whether the name at `name` stands at this one binder only and is used exactly once, in the term at `covers`.
-fn once(s: &[u8], name: usize, covers: usize) -> bool
-    requires { ⌜ ((w : Term) × (x : Name) × (e : Term) × Binds (now s) name covers w x e) ⌝ }
-    ensures { λ r. ⌜ ((w : Term) → (x : Name) → (e : Term) → Binds (now (s .entry)) name covers w x e → r ≡ onceIn w (x over e)) ⌝ }
-{
-    let len = s[name] as usize;
-    let from = name + 1;
-    let end = from + len;
-    let all = seek(s, 0, &s[from..end]);
-    if all.stands != 1 {
-        return false;
-    }
-    if all.uses != 1 {
-        return false;
-    }
-    let inside = seek(s, covers, &s[from..end]);
-    inside.uses == 1
-}
 
 // The binder of an Abs.
 fn abs_passes(s: &[u8], at: usize) -> bool

@@ -3,9 +3,9 @@ use Prim.Native.Nat.{ℕ, _-_, _≤_}
 use mathlib.Core.Path.{_≡_}
 use mathlib.Core.List.{List, [], _∷_}
 use Rattle.rules.specs.Basic.{Bytes}
-use Rattle.walk.specs.declared.child.Piece.{Piece}
-use Rattle.walk.specs.declared.child.Piece.the-variants.{Part, Missing}
-use Rattle.walk.specs.Child.{Located}
+use Rattle.child.specs.declared.Piece.{Piece}
+use Rattle.child.specs.declared.Piece.the-variants.{Part, Missing}
+use Rattle.child.specs.Child.{Located}
 use Rattle.told.specs.Told.{told, toldRefusal}
 
 abbrev pub ordered : Piece → Type 0

@@ -5,11 +5,11 @@ ghost use Rattle.told.specs.Told.{toldRefusal, toldAnswer};
 ghost use Rattle.told.specs.Child.{ordered, toldPiece};
 ghost use Rattle.told.specs.Straight.{toldVerdict};
 ghost use Rattle.told.specs.Extraction.{toldExtraction};
+use child::Piece;
 use extract::Extraction;
 use rules::Answer;
 use rules::Refusal;
 use straightness::Verdict;
-use walk::child::Piece;
 
 pub mod steps;
 

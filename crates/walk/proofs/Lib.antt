@@ -2,4 +2,3 @@
 pub mod Names
 pub mod Terms
 mod Looks
-mod Children

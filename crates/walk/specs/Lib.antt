@@ -1,4 +1,3 @@
 pub mod Node
 pub mod Place
 pub mod Seen
-pub mod Child

@@ -1,18 +1,14 @@
 // Walks over the bytes of a term: the position after names and parts, and one look at a node.
 // Nothing here tests what it reads: a walk starts where a term is known to stand (specs/Place.antt).
 ghost use mathlib.Core.Path.{_≡_};
-ghost use mathlib.Core.Bool.{_||_};
 ghost use mathlib.Core.List.{List};
 ghost use Prim.Native.Nat.{_+_, _<_};
 ghost use lib.ListN.{length};
-ghost use Rattle.rules.specs.Basic.{if_then_else_, _==_};
 ghost use Rattle.rules.specs.Name.{Name, same as sameName, encodeNames};
 ghost use Rattle.rules.specs.Term.{Term, parts};
 ghost use Rattle.walk.specs.Node.{head, namesAfter, partsAfter, encodeAll};
 ghost use Rattle.walk.specs.Place.{TermAt, TermsAt, NameAt, NamesAt};
 ghost use Rattle.walk.specs.Seen.{Seen};
-
-pub mod child;
 
 // How many names and how many parts follow each tag: two bits a tag.
 const NAMES: usize = 34360264196;
@@ -90,44 +86,6 @@ pub fn same_name(s: &[u8], at: usize, name: &[u8]) -> bool
     runs::same(name, &s[from..end])
 }
 
-// What a binder covers, as a mask of the node's parts: 1 for the first, 2 for the second, 4 for the third.
-const ABS_BODY: usize = 1;
-
-// LetPair and Copy.
-const PAIR_BODY: usize = 2;
-
-// Case.
-const LEFT: usize = 2;
-
-const RIGHT: usize = 4;
-
-const BRANCHES: usize = 6;
-
-// What the two binders of a node cover, where x and y tell whether each is the name sought.
-fn covered(x: bool, y: bool, parts: usize) -> usize
-    ensures { λ r. ⌜ r ≡ (if parts == 2 then (if x || y then 2 else 0) else ((if x then 2 else 0) + (if y then 4 else 0))) ⌝ }
-{
-    if parts == 2 {
-        if x {
-            return PAIR_BODY;
-        }
-        if y {
-            return PAIR_BODY;
-        }
-        return 0;
-    }
-    if x {
-        if y {
-            return BRANCHES;
-        }
-        return LEFT;
-    }
-    if y {
-        return RIGHT;
-    }
-    0
-}
-
 // A node, with a name in mind: where its parts start, how many there are, which of them a binder of that name covers,
 // and whether it is that variable.
 pub struct Node {
@@ -165,7 +123,7 @@ pub fn look(s: &[u8], at: usize, name: &[u8]) -> Node
         };
     }
     if names == 1 {
-        let hides = if x { ABS_BODY } else { 0 };
+        let hides = covers::by_one(x);
         return Node {
             start: second,
             parts,
@@ -175,7 +133,7 @@ pub fn look(s: &[u8], at: usize, name: &[u8]) -> Node
     }
     let y = same_name(s, second, name);
     let start = after_names(s, second, 1);
-    let hides = covered(x, y, parts);
+    let hides = covers::by_two(x, y, parts);
     Node {
         start,
         parts,

@@ -2,9 +2,9 @@
 use Prim.Native.Nat.{ℕ}
 use borrow.Author.Needs.{needs}
 use Rattle.rules.specs.Basic.{Bytes}
-use Rattle.walk.specs.Child.{Located}
-use Rattle.walk.specs.declared.child.Piece.{Piece}
-use Rattle.walk.specs.declared.child.Piece.the-variants.{Part, Missing}
+use Rattle.child.specs.Child.{Located}
+use Rattle.child.specs.declared.Piece.{Piece}
+use Rattle.child.specs.declared.Piece.the-variants.{Part, Missing}
 use Rattle.told.specs.Child.{ordered}
 use Rattle.entry.proofs.patch_child.Statement.{statement}
 use Rattle.entry.proofs.patch_child.Tie as tie

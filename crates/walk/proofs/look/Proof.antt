@@ -1,9 +1,6 @@
 -- `walk::look` meets its contract: what a tag's counts leave open of a node, its names settle. Assumes nothing.
-use mathlib.Core.Path.{sym, ap}
-use mathlib.Core.Bool.{Bool}
 use native.Mathlib.Omega.{arith}
 use denote.Ref.{now}
-use Rattle.rules.specs.Basic.{if_then_else_}
 use Rattle.walk.proofs.Names.{some-single}
 use Rattle.walk.proofs.Terms.{at-inside, at-small}
 use Rattle.walk.proofs.Looks.{seen-bare, one-name, seen-var, seen-abs, two-names, seen-two}
@@ -50,19 +47,15 @@ returns-2 c =
     let ne = c .before .before .before .if1 .left in
     seen-var _ _ _ _ (now (c .before .before .before .before .before .before .before .before .before .args .name)) q p ne _ _ (c .before .before .same-name .ensures) (c .before .after-names .ensures) (c .if2 .taken)
 
+by-one-requires : tie.Need-by-one-requires
+by-one-requires c κs = search needs
+
 returns-3 : tie.Need-returns-3
 returns-3 c =
     let q = c .before .before .before .before .before .before .before .names-of .ensures in
     let p = c .before .before .before .before .before .before .parts-of .ensures in
     let ne = c .before .before .before .before .before .if1 .left in
-    seen-abs _ _ _ _ (now (c .before .before .before .before .before .before .before .before .before .before .before .args .name)) q p ne _ _ (c .before .before .before .before .same-name .ensures) (c .before .before .before .after-names .ensures) (c .before .before .if2 .left) (c .before .if3 .taken) 1 (ap (λ (d : Bool). if d then 1 else 0) (sym (c .if4 .taken)))
-
-returns-4 : tie.Need-returns-4
-returns-4 c =
-    let q = c .before .before .before .before .before .before .before .names-of .ensures in
-    let p = c .before .before .before .before .before .before .parts-of .ensures in
-    let ne = c .before .before .before .before .before .if1 .left in
-    seen-abs _ _ _ _ (now (c .before .before .before .before .before .before .before .before .before .before .before .args .name)) q p ne _ _ (c .before .before .before .before .same-name .ensures) (c .before .before .before .after-names .ensures) (c .before .before .if2 .left) (c .before .if3 .taken) 0 (ap (λ (d : Bool). if d then 1 else 0) (sym (c .if4 .left)))
+    seen-abs _ _ _ _ (now (c .before .before .before .before .before .before .before .before .before .before .before .args .name)) q p ne _ _ (c .before .before .before .before .same-name .ensures) (c .before .before .before .after-names .ensures) (c .before .before .if2 .left) (c .before .if3 .taken) _ (c .by-one .ensures)
 
 same-name-requires-2 : tie.Need-same-name-requires-2
 same-name-requires-2 c κs =
@@ -78,15 +71,15 @@ after-names-requires-2 c κs =
     let ne = c .before .before .before .before .before .if1 .left in
     some-single _ _ (two-names _ _ _ _ (now (c .before .before .before .before .before .before .before .before .before .before .before .args .name)) q p ne _ _ (c .before .before .before .before .same-name .ensures) (c .before .before .before .after-names .ensures) (c .before .before .if2 .left) (c .before .if3 .left) (c .before .before .before .before .before .before .before .before .before .before .before .pre))
 
-covered-requires : tie.Need-covered-requires
-covered-requires c κs = search needs
+by-two-requires : tie.Need-by-two-requires
+by-two-requires c κs = search needs
 
-returns-5 : tie.Need-returns-5
-returns-5 c =
+returns-4 : tie.Need-returns-4
+returns-4 c =
     let q = c .before .before .before .before .before .before .before .before .before .names-of .ensures in
     let p = c .before .before .before .before .before .before .before .before .parts-of .ensures in
     let ne = c .before .before .before .before .before .before .before .if1 .left in
-    seen-two _ _ _ _ (now (c .before .before .before .before .before .before .before .before .before .before .before .before .before .args .name)) q p ne _ _ (c .before .before .before .before .before .before .same-name .ensures) (c .before .before .before .before .before .after-names .ensures) (c .before .before .before .before .if2 .left) (c .before .before .before .if3 .left) _ _ _ (c .before .before .same-name2 .ensures) (c .before .after-names2 .ensures) (c .covered .ensures)
+    seen-two _ _ _ _ (now (c .before .before .before .before .before .before .before .before .before .before .before .before .before .args .name)) q p ne _ _ (c .before .before .before .before .before .before .same-name .ensures) (c .before .before .before .before .before .after-names .ensures) (c .before .before .before .before .if2 .left) (c .before .before .before .if3 .left) _ _ _ (c .before .before .same-name2 .ensures) (c .before .after-names2 .ensures) (c .by-two .ensures)
 
 pub look-spec : {M : Type 1} → statement M
 look-spec =
@@ -101,9 +94,9 @@ look-spec =
     same-name-requires
     after-names-requires
     returns-2
+    by-one-requires
     returns-3
-    returns-4
     same-name-requires-2
     after-names-requires-2
-    covered-requires
-    returns-5)
+    by-two-requires
+    returns-4)

@@ -1,0 +1,55 @@
+-- `child::child` meets its contract: the part that was located, or none. Assumes nothing.
+use denote.Ref.{now}
+use Rattle.child.proofs.Children.{part, part-is, missing-is}
+use borrow.Author.Needs.{needs}
+use Rattle.child.proofs.child.Statement.{statement}
+use Rattle.child.proofs.child.Tie as tie
+
+locate-requires : tie.Need-locate-requires
+locate-requires c κs = search needs
+
+enum-known-from : tie.Need-enum-known-from
+enum-known-from c = search needs
+
+sub-result : tie.Need-sub-result
+sub-result c = part (now (c .before .before .before .before .before .args .term)) (c .before .before .before .before .before .args .k) _ (c .before .before .before .locate .ensures) _ _ (c .before .from .given .1) .ordered
+
+part-result-start : tie.Need-part-result-start
+part-result-start c = part (now (c .before .before .before .before .before .args .term)) (c .before .before .before .before .before .args .k) _ (c .before .before .before .locate .ensures) _ _ (c .before .from .given .1) .ordered
+
+part-result-end : tie.Need-part-result-end
+part-result-end c = part (now (c .before .before .before .before .before .args .term)) (c .before .before .before .before .before .args .k) _ (c .before .before .before .locate .ensures) _ _ (c .before .from .given .1) .within
+
+enum-told : tie.Need-enum-told
+enum-told c = search needs
+
+sub-result-2 : tie.Need-sub-result-2
+sub-result-2 c = search needs
+
+part-result-start-2 : tie.Need-part-result-start-2
+part-result-start-2 c = search needs
+
+part-result-end-2 : tie.Need-part-result-end-2
+part-result-end-2 c = search needs
+
+returns : tie.Need-returns
+returns c = part-is (now (c .before .before .before .before .before .before .args .term)) (c .before .before .before .before .before .before .args .k) _ (c .before .before .before .before .locate .ensures) _ _ (c .before .before .from .given .1)
+
+returns-2 : tie.Need-returns-2
+returns-2 c = missing-is (now (c .before .before .before .before .before .args .term)) (c .before .before .before .before .before .args .k) _ (c .before .before .before .locate .ensures) _ (c .before .enum-told .given .1)
+
+pub child-spec : {M : Type 1} → statement M
+child-spec =
+    tie.close
+    (tie.spec
+    locate-requires
+    enum-known-from
+    sub-result
+    part-result-start
+    part-result-end
+    enum-told
+    sub-result-2
+    part-result-start-2
+    part-result-end-2
+    returns
+    returns-2)
