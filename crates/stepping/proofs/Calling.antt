@@ -80,6 +80,11 @@ module _ {s : rules.Stepped} {out out₁ : Bytes} {k : Taken} (d : Takes s out o
             clears = cleared-up;
           }
 
+-- a term that is normal by itself: nothing was searched
+pub rests : {s : rules.Stepped} {out scratch scratch₁ : Bytes} → rules.isNormal s ≡ true → scratch₁ ≡ sets scratch 0 (replicate (length scratch - 0) 0) → Stepping s out scratch IsNormal out scratch₁
+rests {s = rules.normal} {out} {scratch} e q = record { says = refl; leaves = refl; clears = q ∙ zeros scratch (length scratch) refl }
+rests {s = rules.found r p h t} e q = absurd (let z : _≡_ {A = ℕ} 0 1 = cc in omega arith)
+
 -- ---- the call
 
 module _ (term out scratch : Bytes) where
@@ -115,10 +120,10 @@ module _ (term out scratch : Bytes) where
         a : Accepts nodes (readTerm limits 1 term) n
         a = accepts nodes (readTerm limits 1 term) e
 
-        pub read : (t : Term) × Reads term n out t
+        pub read : (t : Term) × Legal t × Reads term n out t
         read =
             let w = term-sound limits 1 term (a .value) (a .is) in
-            (a .value, record { whole = w .bytes; count = sym (a .counts); fits = accepted-fits limits term (a .value) w; room = h })
+            (a .value, w .legal, record { whole = w .bytes; count = sym (a .counts); fits = accepted-fits limits term (a .value) w; room = h })
 
         pub stepped : (r : Stepped) (out′ scratch′ : Bytes) → Stepping (rules.step (read .0)) out scratch r out′ scratch′ → Is r out′ scratch′
         unfolding stepCall a read

@@ -52,6 +52,17 @@ fn refused(number: u8) -> Stepped
     })
 }
 
+// Whether a sweep sees that a legal term has no redex. The sweeps are cheaper than the search: the first is quick and is misled by two names, the second is not.
+fn still(s: &[u8]) -> bool
+    requires { ⌜ ((t : Term) × Legal t × (now s ≡ encode t)) ⌝ }
+    ensures { λ r. ⌜ ((t : Term) → Legal t → now (s .entry) ≡ encode t → r ≡ true → isNormal (stepOf t) ≡ true) ⌝ }
+{
+    if plain(s) {
+        return true;
+    }
+    calm(s)
+}
+
 // A step of a term that was read: zeros behind the next term, and in the scratch.
 fn step_read(term: &[u8], nodes: usize, out: &mut [u8], scratch: &mut [u8]) -> Stepped
     requires { ⌜ ((t : Term) × Reads (now term) nodes (now out) t) × (scratchRoom limits ≤ length (now scratch)) ⌝ }
@@ -77,6 +88,18 @@ fn step_read(term: &[u8], nodes: usize, out: &mut [u8], scratch: &mut [u8]) -> S
     }
 }
 
+// A step of a legal term that was read. A sweep that sees no redex spares the search.
+fn step_legal(term: &[u8], nodes: usize, out: &mut [u8], scratch: &mut [u8]) -> Stepped
+    requires { ⌜ ((t : Term) × Legal t × Reads (now term) nodes (now out) t) × (scratchRoom limits ≤ length (now scratch)) ⌝ }
+    ensures { λ r. ⌜ ((t : Term) → Legal t → Reads (now (term .entry)) nodes (now (out .entry)) t → Stepping (stepOf t) (now (out .entry)) (now (scratch .entry)) r (now (out .exit)) (now (scratch .exit))) ⌝ }
+{
+    if still(term) {
+        runs::clear(scratch, 0);
+        return Stepped::Normal;
+    }
+    step_read(term, nodes, out, scratch)
+}
+
 // The next term, written to out, with zeros behind it; or Normal, and out untouched.
 pub fn step(term: &[u8], out: &mut [u8], scratch: &mut [u8]) -> Stepped
     ensures { λ r. ⌜ r ≡ stepAnswered (stepCall limits (now (term .entry)) (now (out .entry)) (now (scratch .entry)) .answer) ⌝ }
@@ -91,7 +114,7 @@ pub fn step(term: &[u8], out: &mut [u8], scratch: &mut [u8]) -> Stepped
     }
     match reader::term_input(term, 1) {
         Answer::Refused(r) => Stepped::Refused(r),
-        Answer::Good(nodes) => step_read(term, nodes, out, scratch),
+        Answer::Good(nodes) => step_legal(term, nodes, out, scratch),
     }
 }
 
@@ -106,15 +129,12 @@ pub fn none_left(s: &[u8]) -> bool
     }
 }
 
-// Whether a legal term is normal. The sweeps are cheaper than the search, and where one of them sees no redex there is none.
+// Whether a legal term is normal.
 fn rests(s: &[u8]) -> bool
     requires { ⌜ ((t : Term) × Legal t × (now s ≡ encode t)) ⌝ }
     ensures { λ r. ⌜ ((t : Term) → Legal t → now (s .entry) ≡ encode t → r ≡ isNormal (stepOf t)) ⌝ }
 {
-    if plain(s) {
-        return true;
-    }
-    if calm(s) {
+    if still(s) {
         return true;
     }
     none_left(s)

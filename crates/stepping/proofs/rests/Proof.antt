@@ -4,25 +4,17 @@ use borrow.Author.Needs.{needs}
 use Rattle.stepping.proofs.rests.Statement.{statement}
 use Rattle.stepping.proofs.rests.Tie as tie
 
-plain-requires : tie.Need-plain-requires
-plain-requires c κs = search needs
+still-requires : tie.Need-still-requires
+still-requires c κs = search needs
 
 returns : tie.Need-returns
-returns c = λ t k d. sym (c .before .plain .ensures t k d (c .if1 .taken))
-
-calm-requires : tie.Need-calm-requires
-calm-requires c κs = search needs
-
-returns-2 : tie.Need-returns-2
-returns-2 c = λ t k d. sym (c .before .calm .ensures t d (c .if2 .taken))
+returns c = λ t k d. sym (c .before .still .ensures t k d (c .if1 .taken))
 
 none-left-requires : tie.Need-none-left-requires
 none-left-requires c κs = search needs
 
-returns-3 : tie.Need-returns-3
-returns-3 c = λ t k d. c .none-left .ensures t d
+returns-2 : tie.Need-returns-2
+returns-2 c = λ t k d. c .none-left .ensures t d
 
 pub rests-spec : {M : Type 1} → statement M
-rests-spec =
-    tie.close
-    (tie.spec plain-requires returns calm-requires returns-2 none-left-requires returns-3)
+rests-spec = tie.close (tie.spec still-requires returns none-left-requires returns-2)

@@ -27,8 +27,8 @@ enum-known-r c = search needs
 enum-known-nodes : tie.Need-enum-known-nodes
 enum-known-nodes c = search needs
 
-step-read-requires : tie.Need-step-read-requires
-step-read-requires c κs = let a = c .before .before .before .before .before .before .before .before .before .before .before .args in (read (now (a .term)) (now (a .out)) (now (a .scratch)) (c .before .before .before .before .before .before .before .if1 .left) (c .before .before .before .before .before .before .if2 .left) _ (sym (c .before .before .before .before .before .term-input .ensures) ∙ c .before .before .before .nodes .given .1), c .before .before .before .before .before .before .if2 .left)
+step-legal-requires : tie.Need-step-legal-requires
+step-legal-requires c κs = let a = c .before .before .before .before .before .before .before .before .before .before .before .args in (read (now (a .term)) (now (a .out)) (now (a .scratch)) (c .before .before .before .before .before .before .before .if1 .left) (c .before .before .before .before .before .before .if2 .left) _ (sym (c .before .before .before .before .before .term-input .ensures) ∙ c .before .before .before .nodes .given .1), c .before .before .before .before .before .before .if2 .left)
 
 returns-3 : tie.Need-returns-3
 returns-3 c = let a = c .before .before .before .before .before .before .before .before .before .args in not-read (now (a .term)) (now (a .out)) (now (a .scratch)) (c .before .before .before .before .before .if1 .left) (c .before .before .before .before .if2 .left) _ (sym (c .before .before .before .term-input .ensures) ∙ c .before .r .given .1)
@@ -44,7 +44,7 @@ returns-4 c =
     let a = c .before .before .before .before .before .before .before .before .before .before .before .before .before .before .before .before .args in
     let e = sym (c .before .before .before .before .before .before .before .before .before .before .term-input .ensures) ∙ c .before .before .before .before .before .before .before .before .nodes .given .1 in
     let w = read (now (a .term)) (now (a .out)) (now (a .scratch)) (c .before .before .before .before .before .before .before .before .before .before .before .before .if1 .left) (c .before .before .before .before .before .before .before .before .before .before .before .if2 .left) _ e in
-    stepped (now (a .term)) (now (a .out)) (now (a .scratch)) (c .before .before .before .before .before .before .before .before .before .before .before .before .if1 .left) (c .before .before .before .before .before .before .before .before .before .before .before .if2 .left) _ e _ _ _ (c .before .before .before .before .step-read .ensures (w .0) (w .1))
+    stepped (now (a .term)) (now (a .out)) (now (a .scratch)) (c .before .before .before .before .before .before .before .before .before .before .before .before .if1 .left) (c .before .before .before .before .before .before .before .before .before .before .before .if2 .left) _ e _ _ _ (c .before .before .before .before .step-legal .ensures (w .0) (w .1 .0) (w .1 .1))
 
 pub step-spec : {M : Type 1} → statement M
 step-spec =
@@ -57,7 +57,7 @@ step-spec =
     term-input-requires
     enum-known-r
     enum-known-nodes
-    step-read-requires
+    step-legal-requires
     returns-3
     same-length
     same-length-2
