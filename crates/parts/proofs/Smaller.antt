@@ -1,4 +1,4 @@
--- A part of a redex is smaller than the redex: so it fits by itself, and in the redex's place. Assumes nothing.
+-- What a rule knows of the parts of its redex: one that goes in is smaller than the redex, so it fits; a body has its places where it stands. Assumes nothing.
 use Prim.Native.Nat.{ℕ, _+_, _-_, _≤_}
 use mathlib.Core.Path.{_≡_, refl, ap, _∙_, sym}
 use native.Mathlib.Omega.{arith}
