@@ -12,11 +12,12 @@ use Rattle.walk.specs.Node.{head, encodeAll}
 use Rattle.walk.specs.Place.{NameAt, NamesAt, TermAt, TermsAt}
 use Rattle.walk.proofs.Names.{AfterIs, first-name, other-names, name-end}
 use Rattle.walk.proofs.Terms.{apart-size, at-names, at-parts, first, others}
-use Rattle.free.specs.declared.gathering.Gathered.{Gathered}
-use Rattle.free.specs.Gather.{gather}
-use Rattle.free.specs.Ones.{ones, core, core-gather, core-nodes, core-size}
+use Rattle.gathering.specs.declared.Gathered.{Gathered}
+use Rattle.gathering.specs.Gather.{gather}
+use Rattle.ones.specs.Ones.{ones}
+use Rattle.gathering.specs.Cores.{core, core-gather, core-nodes, core-size}
 use Rattle.name_row.specs.State.{Meets, Met}
-use Rattle.free.specs.Walk.{Task, Done}
+use Rattle.gathering.specs.Walk.{Task, Done}
 use Rattle.name_row.proofs.States.{pushed, left-behind}
 
 -- ---- sizes of a row of parts

@@ -11,7 +11,7 @@ use Rattle.rules.specs.Buffers.{filled}
 use Rattle.runs.specs.Wrote.{Wrote}
 use Rattle.runs.specs.Writing.{filled-up}
 use Rattle.report.specs.Field.{Line}
-use Rattle.printed.specs.Printing.{Starts}
+use Rattle.term_lines.specs.Starts.{Starts}
 
 -- what was written from the start
 pub starts-wrote : {out out₁ xs : Bytes} {r : ℕ} → Wrote out 0 xs out₁ r → r ≤ length out → Starts out₁ xs r

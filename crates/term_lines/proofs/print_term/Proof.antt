@@ -1,12 +1,12 @@
--- `printed::print_term` meets its contract: the text, the end of its line, and the line of the counts, one after the other. Assumes nothing.
+-- `term_lines::print_term` meets its contract: the text, the end of its line, and the line of the counts, one after the other. Assumes nothing.
 use mathlib.Core.Path.{_∙_}
 use native.Mathlib.Omega.{arith}
 use lib.ListN.{length-set}
 use denote.Ref.{now}
-use Rattle.printed.proofs.Texts.{never-refused, text-short, both-lines}
+use Rattle.term_lines.proofs.Texts.{never-refused, text-short, both-lines}
 use borrow.Author.Needs.{needs}
-use Rattle.printed.proofs.print_term.Statement.{statement}
-use Rattle.printed.proofs.print_term.Tie as tie
+use Rattle.term_lines.proofs.print_term.Statement.{statement}
+use Rattle.term_lines.proofs.print_term.Tie as tie
 
 pretty-requires : tie.Need-pretty-requires
 pretty-requires c κs = search needs

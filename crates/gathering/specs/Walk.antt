@@ -7,8 +7,8 @@ use Rattle.rules.specs.Name.{Name}
 use Rattle.rules.specs.Term.{Term, nodes, size}
 use Rattle.walk.specs.Place.{TermAt}
 use Rattle.name_row.specs.State.{State}
-use Rattle.free.specs.Gather.{gather}
-use Rattle.free.specs.declared.gathering.Gathered.{Gathered}
+use Rattle.gathering.specs.Gather.{gather}
+use Rattle.gathering.specs.declared.Gathered.{Gathered}
 
 -- the term t is to be walked, and there is room for what it may bring
 pub record Task (s : Bytes) (p : ℕ) (row : List ℕ) (low n : ℕ) (t : Term) (xs l : List Name) : Type 0 where

@@ -1,5 +1,5 @@
 -- The proof of the walk {gather}: whatever is gathered from where it stands, the whole gathers. Assumes nothing.
-use Rattle.free.proofs.Gathers.{Going, begin, one-here, branch-here, inside, var-named, var-some, var-ends, leaf-ends, one-some, one-further, one-turn, two-some, two-further, two-turn, abs-fits, abs-named, abs-further, abs-turn, both-named, both-named-2, both-ahead, both-some, both-further, both-fits, both-fits-2, both-turn, branch-named, branch-named-2, branch-ahead, branch-some, branch-between, branch-fits, branch-some-2, branch-further, branch-fits-2, branch-turn}
+use Rattle.gathering.proofs.Gathers.{Going, begin, one-here, branch-here, inside, var-named, var-some, var-ends, leaf-ends, one-some, one-further, one-turn, two-some, two-further, two-turn, abs-fits, abs-named, abs-further, abs-turn, both-named, both-named-2, both-ahead, both-some, both-further, both-fits, both-fits-2, both-turn, branch-named, branch-named-2, branch-ahead, branch-some, branch-between, branch-fits, branch-some-2, branch-further, branch-fits-2, branch-turn}
 use Prim.Native.Nat.{_-_}
 use mathlib.Core.Path.{_∙_}
 use mathlib.Core.Logic.{⊎-elim, inl, inr}
@@ -8,15 +8,15 @@ use lib.ListN.{length}
 use Prim.Native.Nat.{ℕ, _<_}
 use borrow.Fn.Kinds.{In}
 use borrow.Fn.PlainCycle.{Measures, is, falls, and}
-use Rattle.free.proofs.gathering.gather.Reads as gather
-use Rattle.free.proofs.gathering.gather.Kinds as gather-kinds
-use Rattle.free.proofs.gathering.+gather.Lts-gather as gather-lts
+use Rattle.gathering.proofs.gather.Reads as gather
+use Rattle.gathering.proofs.gather.Kinds as gather-kinds
+use Rattle.gathering.proofs.+gather.Lts-gather as gather-lts
 use Rattle.name_row.proofs.meet.Reads as meet-reads
-use Rattle.free.proofs.gathering.pass_ones.Reads as pass-ones-reads
+use Rattle.ones.proofs.pass_ones.Reads as pass-ones-reads
 use Rattle.name_row.proofs.push.Reads as push-reads
 use Rattle.walk.proofs.after_names.Reads as after-names-reads
-use Rattle.free.proofs.gathering.+gather.{statement}
-use Rattle.free.proofs.gathering.+gather.Tie.{close}
+use Rattle.gathering.proofs.+gather.{statement}
+use Rattle.gathering.proofs.+gather.Tie.{close}
 
 abbrev μ-gather : Measures 2 gather-kinds.ps ℕ
 μ-gather κs a = length (a .0 .now) - a .1 .0

@@ -1,11 +1,11 @@
--- `free::gathering::pass_ones` meets its contract: whatever is passed from where it stands, the whole passes. Assumes nothing.
+-- `ones::pass_ones` meets its contract: whatever is passed from where it stands, the whole passes. Assumes nothing.
 use Prim.Native.Nat.{_-_}
 use native.Mathlib.Omega.{arith}
 use lib.ListN.{length}
 use Rattle.walk.proofs.Terms.{at-inside, at-small}
-use Rattle.free.proofs.Passing.{Ahead, ahead, passes-one, passes-none}
-use Rattle.free.proofs.gathering.pass_ones.Statement.{statement}
-use Rattle.free.proofs.gathering.pass_ones.Tie as tie
+use Rattle.ones.proofs.Passing.{Ahead, ahead, passes-one, passes-none}
+use Rattle.ones.proofs.pass_ones.Statement.{statement}
+use Rattle.ones.proofs.pass_ones.Tie as tie
 
 abbrev Inv-loop : tie.InvT-loop
 Inv-loop s at i₀ i = Ahead s at i

@@ -19,8 +19,8 @@ use Rattle.laws.specs.TextSize.{term-text-size}
 use Rattle.runs.specs.Writing.{chain}
 use Rattle.report.specs.Field.{Line}
 use Rattle.report.specs.Digits.{wrote-one}
-use Rattle.printed.specs.Printing.{Starts}
-use Rattle.printed.proofs.Starting.{starts-wrote, starts-append, starts-again}
+use Rattle.term_lines.specs.Starts.{Starts}
+use Rattle.term_lines.proofs.Starting.{starts-wrote, starts-append, starts-again}
 
 module _ {term : Bytes} {t : Term} (w : TermIn limits term t) (out : Bytes) (room : 20992 ≤ length out) where
   -- the printer's answer and output

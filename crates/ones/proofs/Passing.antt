@@ -10,7 +10,7 @@ use Rattle.rules.specs.Term.{Term, var, leaf, one, two, abs, both, branch, unit
 use Rattle.walk.specs.Node.{tag}
 use Rattle.walk.specs.Place.{TermAt}
 use Rattle.walk.proofs.Terms.{at-tag, at-parts, first}
-use Rattle.free.specs.Ones.{oneAfter, ones}
+use Rattle.ones.specs.Ones.{oneAfter, ones}
 
 -- a term is such a node or none stands above it, and the bit b of its tag says which
 data Top (t : Term) (b : Bool) : Type 0 where

@@ -1,25 +1,12 @@
--- Nodes with one part and no names that stand above the rest of a term: how many there are, and what they stand above.
--- They change neither the free names nor the binders. Assumes nothing.
-use Prim.Native.Nat.{ℕ, _+_, _/_, _%_, _^_, _≤_}
+-- What nodes with one part and no names stand above: they change neither the free names nor the binders. Assumes nothing.
+use Prim.Native.Nat.{_+_, _≤_}
 use mathlib.Core.Path.{_≡_, refl}
 use mathlib.Core.List.{List}
 use native.Mathlib.Omega.{arith}
 use Rattle.rules.specs.Name.{Name}
 use Rattle.rules.specs.Term.{Term, var, leaf, one, two, abs, both, branch, nodes, size, encode}
-use Rattle.free.specs.Gather.{gather}
-
--- 1 if a tag is that of such a node, a bit a tag
-abbrev pub oneAfter : ℕ → ℕ
-oneAfter k = 63872 / 2 ^ k % 2
-
-unfoldable pub ones : Term → ℕ
-ones (var x) = 0
-ones (leaf k) = 0
-ones (one k e) = 1 + ones e
-ones (two k a b) = 0
-ones (abs x e) = 0
-ones (both k x y e b) = 0
-ones (branch x y e a b) = 0
+use Rattle.ones.specs.Ones.{ones}
+use Rattle.gathering.specs.Gather.{gather}
 
 unfoldable pub core : Term → Term
 core (var x) = var x

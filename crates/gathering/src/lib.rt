@@ -1,37 +1,11 @@
 // One walk over a term that gathers its free names.
-ghost use mathlib.Core.Path.{_≡_};
 ghost use mathlib.Core.List.{List};
-ghost use Prim.Native.Nat.{_+_, _<_};
-ghost use Rattle.rules.specs.Basic.{_==_};
 ghost use Rattle.rules.specs.Name.{Name};
 ghost use Rattle.rules.specs.Term.{Term};
-ghost use Rattle.walk.specs.Place.{TermAt};
-ghost use Rattle.free.specs.Ones.{oneAfter, ones};
-ghost use Rattle.free.specs.Walk.{Task, Done};
+ghost use Rattle.gathering.specs.Walk.{Task, Done};
 use name_row::meet;
 use name_row::push;
-
-// The tags of nodes with one part and no names: a bit each.
-const ONES: usize = 63872;
-
-fn is_one(tag: usize) -> bool
-    requires { ⌜ tag < 32 ⌝ }
-    ensures { λ r. ⌜ r ≡ (oneAfter tag == 1) ⌝ }
-{
-    (ONES >> tag) % 2 == 1
-}
-
-// The place of the first node from `at` on that has not just one part: what lies between has no names.
-fn pass_ones(s: &[u8], at: usize) -> usize
-    requires { ⌜ ((t : Term) × TermAt (now s) at t) ⌝ }
-    ensures { λ r. ⌜ ((t : Term) → TermAt (now (s .entry)) at t → r ≡ at + ones t) ⌝ }
-{
-    let mut i = at;
-    while is_one(s[i] as usize) {
-        i += 1;
-    }
-    i
-}
+use ones::pass_ones;
 
 // Where a walk has come to, and how many names the row then holds.
 pub struct Gathered {

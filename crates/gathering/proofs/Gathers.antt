@@ -13,13 +13,13 @@ use Rattle.rules.specs.Term.{Term, var, one, two, abs, both, branch, One, Two, 
 use Rattle.walk.specs.Place.{NameAt, NamesAt, TermAt}
 use Rattle.walk.proofs.Names.{AfterIs, name-room, single}
 use Rattle.walk.proofs.Terms.{at-inside, at-tag, at-names}
-use Rattle.free.specs.declared.gathering.Gathered.{Gathered}
-use Rattle.free.specs.Ones.{ones}
+use Rattle.gathering.specs.declared.Gathered.{Gathered}
+use Rattle.ones.specs.Ones.{ones}
 use Rattle.name_row.specs.State.{State, Meets, Met}
-use Rattle.free.specs.Walk.{Task, Done}
+use Rattle.gathering.specs.Walk.{Task, Done}
 use Rattle.name_row.proofs.Meeting as meeting
-use Rattle.free.proofs.Inverts.{Rest, leafTags, twoTags, bothTags, is-var, is-leaf, is-one, is-two, is-abs, is-both, is-branch}
-use Rattle.free.proofs.Moves.{leaf-done, var-meets, var-done, one-part, one-task, one-done, two-task, two-again, two-done, abs-room, abs-name, abs-task, abs-done, both-first, both-second, both-task, both-room, both-body, both-done, branch-first, branch-second, branch-task, branch-room, branch-left, branch-right, branch-done}
+use Rattle.gathering.proofs.Inverts.{Rest, leafTags, twoTags, bothTags, is-var, is-leaf, is-one, is-two, is-abs, is-both, is-branch}
+use Rattle.gathering.proofs.Moves.{leaf-done, var-meets, var-done, one-part, one-task, one-done, two-task, two-again, two-done, abs-room, abs-name, abs-task, abs-done, both-first, both-second, both-task, both-room, both-body, both-done, branch-first, branch-second, branch-task, branch-room, branch-left, branch-right, branch-done}
 
 abbrev pub Some : Bytes → ℕ → List ℕ → ℕ → ℕ → Type 0
 Some s p row low n = (t : Term) × (xs : List Name) × (l : List Name) × Task s p row low n t xs l
