@@ -1,4 +1,4 @@
--- `block::check_of` meets its contract: zeros behind weigh nothing. Assumes nothing.
+-- `block_sums::check_of` meets its contract: zeros behind weigh nothing. Assumes nothing.
 use Prim.Native.Nat.{ℕ, _%_}
 use mathlib.Core.Path.{_≡_, sym, ap, _∙_}
 use native.Mathlib.Omega.{arith}
@@ -6,10 +6,10 @@ use lib.ListN.{take}
 use lib.Seq.{length-take-le, take-take}
 use denote.Ref.{now}
 use Rattle.rules.specs.Stored.{weighed}
-use Rattle.block.specs.Weights.{weighed-clean}
+use Rattle.block_sums.specs.Weights.{weighed-clean}
 use borrow.Author.Needs.{needs}
-use Rattle.block.proofs.check_of.Statement.{statement}
-use Rattle.block.proofs.check_of.Tie as tie
+use Rattle.block_sums.proofs.check_of.Statement.{statement}
+use Rattle.block_sums.proofs.check_of.Tie as tie
 
 slice-aggregate-weigh : tie.Need-slice-aggregate-weigh
 slice-aggregate-weigh c = let a = c .before .before .before .args in sym (length-take-le (a .end) (now (a .block)) (omega arith))

@@ -1,8 +1,10 @@
-// What is computed over the bytes of a block: its weighed sum, and whether bytes are zero.
+// What is computed over the bytes of a block: its weighed sum, its check, and whether bytes are zero.
 ghost use mathlib.Core.Path.{_≡_};
 ghost use Prim.Native.Nat.{_≤_};
-ghost use lib.ListN.{length, drop};
-ghost use Rattle.rules.specs.Stored.{weighed, allZero};
+ghost use lib.ListN.{length, take, drop};
+ghost use Rattle.rules.specs.Stored.{weighed, check, allZero};
+
+const CHECK_MODULUS: usize = 65521;
 
 // The sum of (position + 1) times the byte: from the end, the sum of all sums so far. At 510 bytes it is below 2^26.
 pub fn weigh(body: &[u8]) -> u32
@@ -31,4 +33,15 @@ pub fn zero_from(body: &[u8], from: usize) -> bool
         i += 1;
     }
     any == 0
+}
+
+// The check of a block's first 510 bytes, of which `clean` says whether they are zero from `end` on.
+pub fn check_of(block: &[u8], end: usize, clean: bool) -> usize
+    requires { ⌜ (end ≤ 510) × (length (now block) ≡ 512) × (clean ≡ allZero (drop end (take 510 (now block)))) ⌝ }
+    ensures { λ r. ⌜ r ≡ check (take 510 (now (block .entry))) ⌝ }
+{
+    if clean {
+        return weigh(&block[..end]) as usize % CHECK_MODULUS;
+    }
+    weigh(&block[..510]) as usize % CHECK_MODULUS
 }

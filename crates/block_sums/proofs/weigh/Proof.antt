@@ -1,4 +1,4 @@
--- `block::sums::weigh` meets its contract: the two sums are those of the bytes that are passed, from the end. Assumes nothing.
+-- `block_sums::weigh` meets its contract: the two sums are those of the bytes that are passed, from the end. Assumes nothing.
 use Prim.Native.Nat.{ℕ, _+_, _-_, _*_, _≤_}
 use mathlib.Core.Path.{_≡_, sym, ap, _∙_}
 use mathlib.Core.List.{_∷_}
@@ -7,9 +7,9 @@ use lib.ListN.{length, drop, getD}
 use lib.Seq.{drop-length}
 use denote.Ref.{now}
 use Rattle.rules.specs.Stored.{weighed}
-use Rattle.block.specs.Weights.{total, weighed-cons, drop-down}
-use Rattle.block.proofs.sums.weigh.Statement.{statement}
-use Rattle.block.proofs.sums.weigh.Tie as tie
+use Rattle.block_sums.specs.Weights.{total, weighed-cons, drop-down}
+use Rattle.block_sums.proofs.weigh.Statement.{statement}
+use Rattle.block_sums.proofs.weigh.Tie as tie
 
 abbrev Inv-loop : tie.InvT-loop
 Inv-loop body bytes₀ sum₀ i₀ bytes sum i =

@@ -1,4 +1,4 @@
--- `block::sums::zero_from` meets its contract: what was gathered and what is left decide together. Assumes nothing.
+-- `block_sums::zero_from` meets its contract: what was gathered and what is left decide together. Assumes nothing.
 use Prim.Native.Nat.{_-_}
 use mathlib.Core.Path.{_≡_, refl}
 use mathlib.Core.Bool.{_&&_}
@@ -7,9 +7,9 @@ use lib.Dec.{eqb}
 use lib.ListN.{length, drop}
 use denote.Ref.{now}
 use Rattle.rules.specs.Stored.{allZero}
-use Rattle.block.specs.Weights.{zero-turn, zero-end}
-use Rattle.block.proofs.sums.zero_from.Statement.{statement}
-use Rattle.block.proofs.sums.zero_from.Tie as tie
+use Rattle.block_sums.specs.Weights.{zero-turn, zero-end}
+use Rattle.block_sums.proofs.zero_from.Statement.{statement}
+use Rattle.block_sums.proofs.zero_from.Tie as tie
 
 abbrev Inv-loop : tie.InvT-loop
 Inv-loop body from any₀ i₀ any i = (eqb any 0 && allZero (drop i body)) ≡ allZero (drop from body)
