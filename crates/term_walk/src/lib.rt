@@ -84,7 +84,8 @@ fn whole(s: &[u8], at: usize, out: &mut [u8], to: usize) -> usize
     }
 }
 
-// A part of any shape: it goes on with the part of an abstraction or of a node of one part, and leaves variables, pairs and applications to `walk`.
+// A part of any shape: it goes on with the part of an abstraction or of a node of one part, and leaves variables, pairs and applications to `walk`,
+// which so has few places to keep over a call.
 fn part(s: &[u8], at: usize, out: &mut [u8], to: usize) -> usize
     requires { ⌜ ((t : Term) × TermTask (now s) at (now out) to t) ⌝ }
     ensures { λ r. ⌜ ((t : Term) → TermTask (now (s .entry)) at (now (out .entry)) to t → TermDone at (now (out .entry)) to t (now (out .exit)) r) ⌝ }
@@ -113,8 +114,8 @@ fn part(s: &[u8], at: usize, out: &mut [u8], to: usize) -> usize
     }
 }
 
-// Goes on with the second part of a pair or an application in its own loop, and keeps count of the brackets to come. The first part is mostly a
-// variable, and needs no call.
+// Goes on with the last part of a pair, an application or an abstraction in its own loop, and keeps count of the brackets to come. A first part is
+// mostly a variable, and needs no call.
 pub fn walk(s: &[u8], at: usize, out: &mut [u8], to: usize) -> usize
     requires { ⌜ ((t : Term) × TermTask (now s) at (now out) to t) ⌝ }
     ensures { λ r. ⌜ ((t : Term) → TermTask (now (s .entry)) at (now (out .entry)) to t → TermDone at (now (out .entry)) to t (now (out .exit)) r) ⌝ }
@@ -139,6 +140,11 @@ pub fn walk(s: &[u8], at: usize, out: &mut [u8], to: usize) -> usize
                 let l = walk(&*s, x, out, o);
                 o = between(tag, out, l / 65536);
                 i = l % 65536;
+                continue;
+            }
+            5 => {
+                i = past(s, x);
+                o = bound_name(s, x, out, o);
                 continue;
             }
             _ => {

@@ -140,7 +140,7 @@ abbrev part-claims : ℕ → part-lts.Claims
 part-claims t = (walk-below t, walk.Post, past-reads.Asked, past-reads.Learnt, bound-name-reads.Asked, bound-name-reads.Learnt, one-part-reads.Asked, one-part-reads.Learnt, sign-reads.Asked, sign-reads.Learnt, whole-below t, whole.Post)
 
 abbrev walk-claims : ℕ → walk-lts.Claims
-walk-claims t = (last-name-reads.Asked, last-name-reads.Learnt, past-reads.Asked, past-reads.Learnt, first-name-reads.Asked, first-name-reads.Learnt, byte-reads.Asked, byte-reads.Learnt, walk-below t, walk.Post, between-reads.Asked, between-reads.Learnt, part-below t, part.Post, closed-reads.Asked, closed-reads.Learnt)
+walk-claims t = (last-name-reads.Asked, last-name-reads.Learnt, past-reads.Asked, past-reads.Learnt, first-name-reads.Asked, first-name-reads.Learnt, byte-reads.Asked, byte-reads.Learnt, walk-below t, walk.Post, between-reads.Asked, between-reads.Learnt, bound-name-reads.Asked, bound-name-reads.Learnt, part-below t, part.Post, closed-reads.Asked, closed-reads.Learnt)
 
 abbrev whole-claims : ℕ → whole-lts.Claims
 whole-claims t = (leaf-reads.Asked, leaf-reads.Learnt, let-pair-below t, let-pair.Post, case-below t, case.Post, discard-below t, discard.Post, copy-below t, copy.Post)
@@ -549,11 +549,32 @@ walk-loop-again-2 t c =
     let n = c .before .before .before .before .before .before .before .before .before .before .before .before .before .before .before .before .loop .inv .on (w .0) (w .1) in
     record { same = c .before .before .between .ensures .long ∙ c .before .before .before .before .before .before .walk .kept .1 .1 .0 ∙ c .before .before .before .before .before .before .before .before .before .before .byte .ensures .long ∙ c .before .before .before .before .before .before .before .before .before .before .before .before .before .before .before .before .loop .inv .same; past = omega (arith, c .before .before .before .before .before .before .before .before .before .before .before .before .before .before .before .before .loop .inv .past, left-further n (c .before .before .before .before .before .before .before .before .before .before .before .before .before .before .match .keys2) (c .before .before .before .before .before .before .before .before .before .before .byte .ensures) (c .before .before .before .before .before .before .walk .ensures)); on = λ T y. left-next (c .before .before .before .before .before .before .before .before .before .before .before .before .before .before .before .before .loop .inv .on T y) (c .before .before .before .before .before .before .before .before .before .before .before .before .before .before .match .keys2) (c .before .before .before .before .before .before .before .before .before .before .byte .ensures) (c .before .before .before .before .before .before .walk .ensures) (c .before .before .between .ensures) }
 
+walk-past-requires-2 : (t : ℕ) → walk-lts.Need-past-requires-2 (walk-claims t) (walk-at t) walk.Post walk-Inv-loop walk-μ-loop
+walk-past-requires-2 t c κs =
+    let w = c .before .before .before .before .before .pre .1 in
+    let n = c .before .before .loop .inv .on (w .0) (w .1) in
+    bound-here n (c .match .keys3) .0 .fits
+
+walk-bound-name-requires : (t : ℕ) → walk-lts.Need-bound-name-requires (walk-claims t) (walk-at t) walk.Post walk-Inv-loop walk-μ-loop
+walk-bound-name-requires t c κs =
+    let w = c .before .before .before .before .before .before .before .pre .1 in
+    let n = c .before .before .before .before .loop .inv .on (w .0) (w .1) in
+    bound-here n (c .before .before .match .keys3)
+
+walk-loop-less-3 : (t : ℕ) → walk-lts.Need-loop-less-3 (walk-claims t) (walk-at t) walk.Post walk-Inv-loop walk-μ-loop
+walk-loop-less-3 t c =
+    let w = c .before .before .before .before .before .before .before .before .before .before .pre .1 in
+    let n = c .before .before .before .before .before .before .before .loop .inv .on (w .0) (w .1) in
+    omega (arith, on-begun n, c .before .before .before .before .past2 .ensures)
+
+walk-loop-again-3 : (t : ℕ) → walk-lts.Need-loop-again-3 (walk-claims t) (walk-at t) walk.Post walk-Inv-loop walk-μ-loop
+walk-loop-again-3 t c = record { same = c .before .before .bound-name .ensures .long ∙ c .before .before .before .before .before .before .before .loop .inv .same; past = omega (arith, c .before .before .before .before .before .before .before .loop .inv .past, c .before .before .before .before .past2 .ensures); on = λ T w. bound-next (c .before .before .before .before .before .before .before .loop .inv .on T w) (c .before .before .before .before .before .match .keys3) (c .before .before .bound-name .ensures) (c .before .before .before .before .past2 .ensures) }
+
 walk-part-requires : (t : ℕ) → walk-lts.Need-part-requires (walk-claims t) (walk-at t) walk.Post walk-Inv-loop walk-μ-loop
 walk-part-requires t c κs =
     let w = c .before .before .before .before .before .before .pre .1 in
     let n = c .before .before .before .loop .inv .on (w .0) (w .1) in
-    let q = rank-falls (now (c .before .before .before .before .before .before .args .s)) (c .before .before .before .before .before .before .args .at) (c .before .before .before .loop .i) (c .before .before .before .loop .inv .past) (on-begun n) (c .before .match .rest .0 .1) (c .before .match .rest .1) in
+    let q = rank-falls (now (c .before .before .before .before .before .before .args .s)) (c .before .before .before .before .before .before .args .at) (c .before .before .before .loop .i) (c .before .before .before .loop .inv .past) (on-begun n) (c .before .match .rest .0 .0 .1) (c .before .match .rest .0 .1) in
     (omega (arith, c .before .before .before .before .before .before .pre .0, q), (n .t, here n))
 
 walk-closed-requires : (t : ℕ) → walk-lts.Need-closed-requires (walk-claims t) (walk-at t) walk.Post walk-Inv-loop walk-μ-loop
@@ -715,6 +736,10 @@ pub +case+copy+discard+let-pair+part+walk+whole-spec : {M : Type 1} → statemen
     (walk-between-requires t)
     (walk-loop-less-2 t)
     (walk-loop-again-2 t)
+    (walk-past-requires-2 t)
+    (walk-bound-name-requires t)
+    (walk-loop-less-3 t)
+    (walk-loop-again-3 t)
     (walk-part-requires t)
     (walk-closed-requires t)
     (walk-same-length-2 t)
