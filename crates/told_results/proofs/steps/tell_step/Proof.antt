@@ -1,9 +1,9 @@
--- `told::steps::tell_step` meets its contract: in each arm the numbers are those of the constructor that the match found. Assumes nothing.
+-- `told_results::steps::tell_step` meets its contract: in each arm the numbers are those of the constructor that the match found. Assumes nothing.
 use mathlib.Core.Path.{sym, ap, _∙_}
-use Rattle.told.specs.Steps.{toldStep}
+use Rattle.told_results.specs.Steps.{toldStep}
 use borrow.Author.Needs.{needs}
-use Rattle.told.proofs.steps.tell_step.Statement.{statement}
-use Rattle.told.proofs.steps.tell_step.Tie as tie
+use Rattle.told_results.proofs.steps.tell_step.Statement.{statement}
+use Rattle.told_results.proofs.steps.tell_step.Tie as tie
 
 enum-told : tie.Need-enum-told
 enum-told c = search needs

@@ -21,17 +21,17 @@ use Rattle.parts.specs.Contracts.{becomes, outgrows}
 use Rattle.parts.specs.declared.Contracted.{Contracted}
 use Rattle.parts.specs.declared.Contracted.the-variants.{Made, Outgrown}
 use Rattle.contracting.specs.Contracting.{Contracting}
 use Rattle.gap.specs.Hole.{Above, plug, rights}
 use Rattle.gap.specs.Quiet.{Quiet, Steps}
 use Rattle.gap.specs.Seen.{Contracts}
 use Rattle.gap.specs.Standing.{Standing, Nearly, Landed}
-use Rattle.gap.specs.Fired.{Firing, Lands, Over}
+use Rattle.landing.specs.Fired.{Firing, Lands, Over}
 use Rattle.gap.specs.declared.place.Place.{Place}
 use Rattle.gap.proofs.Contexts.{plug-frame, plug-size, only-nearest, first-same}
 use Rattle.gap.proofs.Buffers.{wrote-right, fits-few}
 use Rattle.gap.proofs.Redexes.{redex-steps}
 use Rattle.gap.proofs.Entries.{sides-size, whole-short}
 use Rattle.gap.proofs.Seeking.{stands-at}
 
 -- whatever comes to stand there, only the nearest node may wake
 nearly : (c : Above) (t u : Term) → Quiet c t → Nearly c u

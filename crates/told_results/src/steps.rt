@@ -1,12 +1,12 @@
 // Steps and reductions, told as numbers.
 ghost use mathlib.Core.Path.{_≡_};
-ghost use Rattle.told.specs.Steps.{ruleNumber, bit, toldStep, toldNormal, toldReduction, toldReduced};
-use crate::tell_refusal;
+ghost use Rattle.told_results.specs.Steps.{ruleNumber, bit, toldStep, toldNormal, toldReduction, toldReduced};
 use reduction::Reduced;
 use reduction::Reduction;
 use rules::Rule;
 use stepping::Normality;
 use stepping::Stepped;
+use told::tell_refusal;
 
 // The number of a rule, from 1.
 fn rule_number(rule: Rule) -> u64

@@ -1,11 +1,11 @@
--- `gap::landing::fire` meets its contract: the contraction is the step of the whole, and what was written lands in front of what stays.
+-- `landing::fire` meets its contract: the contraction is the step of the whole, and what was written lands in front of what stays.
 -- Assumes nothing.
 use native.Mathlib.Omega.{arith}
 use borrow.Author.Needs.{needs}
-use Rattle.gap.proofs.Firings.{short, job, outgrew, made-room, copy-room, landed, lands}
+use Rattle.landing.proofs.Firings.{short, job, outgrew, made-room, copy-room, landed, lands}
 use borrow.Author.Needs.{needs}
-use Rattle.gap.proofs.landing.fire.Statement.{statement}
-use Rattle.gap.proofs.landing.fire.Tie as tie
+use Rattle.landing.proofs.fire.Statement.{statement}
+use Rattle.landing.proofs.fire.Tie as tie
 
 sub-length : tie.Need-sub-length
 sub-length c = search needs

@@ -1,9 +1,9 @@
 // A redex is contracted where the search stands. What it becomes is put in its place, at the start of what the search has yet to see.
 ghost use Rattle.rules.specs.Term.{Term};
 ghost use Rattle.gap.specs.Standing.{Standing, Landed};
-ghost use Rattle.gap.specs.Fired.{Firing, Fires};
-use crate::place::Place;
-use crate::place::SECOND;
+ghost use Rattle.landing.specs.Fired.{Firing, Fires};
+use gap::place::Place;
+use gap::place::SECOND;
 use parts::Contracted;
 use rules::Rule;
 use search::reduces;

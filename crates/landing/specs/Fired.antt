@@ -10,11 +10,11 @@ use Rattle.rules.specs.Limits.{limits, outputRoom}
 use Rattle.rules.specs.Term.{Term, nodes}
 use Rattle.rules.specs.declared.Rule.{Rule}
 use Rattle.rules.specs.Step.{stepFits}
 use Rattle.gap.specs.Quiet.{Steps}
 use Rattle.gap.specs.Standing.{Standing, Reducing}
 use Rattle.gap.specs.declared.place.Place.{Place}
-use Rattle.gap.specs.declared.landing.Fired.{Fired}
-use Rattle.gap.specs.declared.landing.Fired.the-variants.{Made, Outgrown}
+use Rattle.landing.specs.declared.Fired.{Fired}
+use Rattle.landing.specs.declared.Fired.the-variants.{Made, Outgrown}
 
 -- the whole w has n nodes, and the search stands at a redex of it; there is room to work
 pub record Firing (w : Term) (out scratch stack : List ℕ) (o i d n : ℕ) (places half made : Bytes) : Type 0 where

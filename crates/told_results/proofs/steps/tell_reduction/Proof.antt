@@ -1,8 +1,8 @@
--- `told::steps::tell_reduction` meets its contract: the numbers are the reduction's own. Assumes nothing.
-use Rattle.told.specs.Steps.{toldReduction}
+-- `told_results::steps::tell_reduction` meets its contract: the numbers are the reduction's own. Assumes nothing.
+use Rattle.told_results.specs.Steps.{toldReduction}
 use borrow.Author.Needs.{needs}
-use Rattle.told.proofs.steps.tell_reduction.Statement.{statement}
-use Rattle.told.proofs.steps.tell_reduction.Tie as tie
+use Rattle.told_results.proofs.steps.tell_reduction.Statement.{statement}
+use Rattle.told_results.proofs.steps.tell_reduction.Tie as tie
 
 bit-of-requires : tie.Need-bit-of-requires
 bit-of-requires c κs = search needs

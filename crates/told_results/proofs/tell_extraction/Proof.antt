@@ -1,10 +1,10 @@
--- `told::tell_extraction` meets its contract: in each arm the numbers are those of the constructor that the match found.
+-- `told_results::tell_extraction` meets its contract: in each arm the numbers are those of the constructor that the match found.
 -- Assumes nothing.
 use mathlib.Core.Path.{sym, ap, _∙_}
 use borrow.Author.Needs.{needs}
-use Rattle.told.specs.Extraction.{toldExtraction}
-use Rattle.told.proofs.tell_extraction.Statement.{statement}
-use Rattle.told.proofs.tell_extraction.Tie as tie
+use Rattle.told_results.specs.Extraction.{toldExtraction}
+use Rattle.told_results.proofs.tell_extraction.Statement.{statement}
+use Rattle.told_results.proofs.tell_extraction.Tie as tie
 
 enum-known-made : tie.Need-enum-known-made
 enum-known-made c = search needs

@@ -1,9 +1,9 @@
--- `told::steps::tell_reduced` meets its contract: in each arm the numbers are those of the constructor that the match found. Assumes nothing.
+-- `told_results::steps::tell_reduced` meets its contract: in each arm the numbers are those of the constructor that the match found. Assumes nothing.
 use mathlib.Core.Path.{sym, ap, _∙_}
-use Rattle.told.specs.Steps.{toldReduced}
+use Rattle.told_results.specs.Steps.{toldReduced}
 use borrow.Author.Needs.{needs}
-use Rattle.told.proofs.steps.tell_reduced.Statement.{statement}
-use Rattle.told.proofs.steps.tell_reduced.Tie as tie
+use Rattle.told_results.proofs.steps.tell_reduced.Statement.{statement}
+use Rattle.told_results.proofs.steps.tell_reduced.Tie as tie
 
 enum-known-reduced : tie.Need-enum-known-reduced
 enum-known-reduced c = search needs

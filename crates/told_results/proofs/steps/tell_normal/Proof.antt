@@ -1,9 +1,9 @@
--- `told::steps::tell_normal` meets its contract: in each arm the numbers are those of the constructor that the match found. Assumes nothing.
+-- `told_results::steps::tell_normal` meets its contract: in each arm the numbers are those of the constructor that the match found. Assumes nothing.
 use mathlib.Core.Path.{sym, ap, _∙_}
-use Rattle.told.specs.Steps.{toldNormal}
+use Rattle.told_results.specs.Steps.{toldNormal}
 use borrow.Author.Needs.{needs}
-use Rattle.told.proofs.steps.tell_normal.Statement.{statement}
-use Rattle.told.proofs.steps.tell_normal.Tie as tie
+use Rattle.told_results.proofs.steps.tell_normal.Statement.{statement}
+use Rattle.told_results.proofs.steps.tell_normal.Tie as tie
 
 enum-known-normality : tie.Need-enum-known-normality
 enum-known-normality c = search needs

@@ -1,13 +1,13 @@
--- `gap::landing::wake` meets its contract: by the mark and the two tags, the search stays at the new term, or stands at the node above.
+-- `landing::wake` meets its contract: by the mark and the two tags, the search stays at the new term, or stands at the node above.
 -- Assumes nothing.
 use Prim.Native.Nat.{_-_}
 use native.Mathlib.Omega.{arith}
 use borrow.Author.Needs.{needs}
 use Rattle.gap.proofs.Marks.{start-inside, tag-small}
-use Rattle.gap.proofs.Waking.{nearest, alone, in-scratch, new-small, depth-few, in-stack, under, stays-second, stays-first, back-room, wakes}
+use Rattle.landing.proofs.Waking.{nearest, alone, in-scratch, new-small, depth-few, in-stack, under, stays-second, stays-first, back-room, wakes}
 use borrow.Author.Needs.{needs}
-use Rattle.gap.proofs.landing.wake.Statement.{statement}
-use Rattle.gap.proofs.landing.wake.Tie as tie
+use Rattle.landing.proofs.wake.Statement.{statement}
+use Rattle.landing.proofs.wake.Tie as tie
 
 returns : tie.Need-returns
 returns c = λ w s. alone s ((c .if1) .taken)

@@ -1,11 +1,11 @@
--- `told::tell_verdict` meets its contract: in each arm the numbers are those of the constructor that the match found.
+-- `told_results::tell_verdict` meets its contract: in each arm the numbers are those of the constructor that the match found.
 -- Assumes nothing.
 use mathlib.Core.Path.{sym, ap, _∙_}
 use borrow.Author.Needs.{needs}
 use Rattle.straightness.specs.declared.Verdict.the-variants.{Good}
-use Rattle.told.specs.Straight.{toldVerdict}
-use Rattle.told.proofs.tell_verdict.Statement.{statement}
-use Rattle.told.proofs.tell_verdict.Tie as tie
+use Rattle.told_results.specs.Straight.{toldVerdict}
+use Rattle.told_results.proofs.tell_verdict.Statement.{statement}
+use Rattle.told_results.proofs.tell_verdict.Tie as tie
 
 enum-known-v : tie.Need-enum-known-v
 enum-known-v c = search needs
