@@ -11,9 +11,9 @@ use crate::Reached;
 use crate::Reading;
 use crate::tag::Tag;
 use crate::tag::read_tag;
+use ahead::read_row;
 use letters::Form;
 use letters::Read;
-use nodes::read_row;
 
 // Where the premises begin, and how many there are.
 pub enum Conclusion {
