@@ -1,9 +1,9 @@
 -- `pass_ones` meets its contract: one node is still to be read after each that is passed. Assumes nothing.
 use Prim.Native.Nat.{_-_, _≤_}
 use native.Mathlib.Omega.{arith}
-use Rattle.nodes.proofs.Ones.{Passes, passes-none, passes-more}
-use Rattle.nodes.proofs.pass_ones.Statement.{statement}
-use Rattle.nodes.proofs.pass_ones.Tie as tie
+use Rattle.ahead.proofs.Ones.{Passes, passes-none, passes-more}
+use Rattle.ahead.proofs.pass_ones.Statement.{statement}
+use Rattle.ahead.proofs.pass_ones.Tie as tie
 
 abbrev Inv-loop : tie.InvT-loop
 Inv-loop s form t at end p₀ p = (at ≤ p) × (p - at ≤ end - at) × Passes form s at p

@@ -9,11 +9,11 @@ use Rattle.rules.specs.Reading.{name}
 use Rattle.letters.specs.declared.Form.{Form}
 use Rattle.letters.specs.Form.{layoutOf}
 use Rattle.letters.specs.Classes.{codeAt}
-use Rattle.nodes.specs.Passed.{OnePassed}
+use Rattle.ahead.specs.Passed.{OnePassed}
 use Rattle.letters.specs.declared.names.Skip.the-variants.{To}
 use Rattle.letters.proofs.Views.{times-none}
 use Rattle.nodes.proofs.Rest.{Rest, rest-is}
 use Rattle.nodes.proofs.Turn.{turn-on}
 
 -- passed up to p
 abbrev pub Passes : Form → Bytes → (at p : ℕ) → Type 0

@@ -5,12 +5,12 @@ use mathlib.Core.Path.{sym, ap, _∙_}
 use lib.ListN.{drop}
 use Rattle.letters.specs.Form.{layoutOf}
 use Rattle.letters.specs.View.{view}
 use Rattle.nodes.proofs.Depth.{same}
 use Rattle.nodes.proofs.Node.{node-out}
 use Rattle.nodes.proofs.Rest.{rest-is, rest-one}
 use borrow.Author.Needs.{needs}
-use Rattle.nodes.proofs.read_from.Statement.{statement}
-use Rattle.nodes.proofs.read_from.Tie as tie
+use Rattle.ahead.proofs.read_from.Statement.{statement}
+use Rattle.ahead.proofs.read_from.Tie as tie
 
 bad-requires : tie.Need-bad-requires
 bad-requires c κs = search needs
