@@ -16,17 +16,17 @@ use Rattle.walk.specs.Place.{TermAt}
 use Rattle.walk.proofs.Names.{AfterIs}
 use Rattle.walk.proofs.Terms.{at-end, first, others}
 use Rattle.places.specs.Places.{places, kept}
-use Rattle.places.specs.declared.Found.{Found}
 use Rattle.runs.specs.Writing.{slice-is, wrote-length}
 use Rattle.spans.specs.Measured.{Measured}
 use Rattle.spans.specs.declared.Extent.{Extent}
 use Rattle.spans.proofs.Rows.{in-app, past-name, name-is}
 use Rattle.parts.specs.Contracts.{Redex, Contracts, becomes}
 use Rattle.parts.specs.Parts.{Kept, Placing}
+use Rattle.parts.specs.declared.Body.{Body}
 use Rattle.parts.specs.declared.Contracted.the-variants.{Made}
 use Rattle.parts.proofs.Standing.{inside, written-at}
 use Rattle.applying.proofs.Tail.{tail-bytes, tail-nodes, tail-some, tail-long, front-long, front-at}
-use Rattle.parts.proofs.Smaller.{part-is, smaller-fits}
+use Rattle.parts.proofs.Smaller.{part-is, kept-there, smaller-fits}
 
 module _ {s : Bytes} {at n l : ℕ} where
   -- App of Abs
@@ -43,23 +43,23 @@ module _ {s : Bytes} {at n l : ℕ} where
         let b = at-end s body e app-body in
         (h, omega arith, omega (arith, h, j .behind, j .short), omega (arith, h))
 
-    module _ {held : Bytes} {f : Found} (k : Kept body (take (body - (at + 3)) (drop (at + 3) s)) e held f) where
+    module _ {held : Bytes} {f : Body} (k : Kept body (take (body - (at + 3)) (drop (at + 3) s)) e held f) where
       found : Kept body x e held f
       found = rw (name-is (j .stands) g) at k
 
-      pub app-argument : TermAt s (f .next) a
-      app-argument = let i = in-app (j .stands) g in first s (f .next) 1 a [] (others s body 2 e (a ∷ []) (i .row) (f .next) (k .next))
+      pub app-argument : TermAt s (f .end) a
+      app-argument = let i = in-app (j .stands) g in first s (f .end) 1 a [] (others s body 2 e (a ∷ []) (i .row) (f .end) (k .next))
 
       pub record Bounds : Type 0 where
         pub name : at + 3 ≤ body
-        pub gap-is : body - at - 1 ≡ 2 + length x
-        pub gap-small : body - at - 1 ≤ 65536
-        pub past : body ≤ f .next
-        pub next : f .next ≡ body + size e
-        pub ends : f .next + size a ≡ at + size t
-        pub inside : f .next + size a ≤ length s
+        pub gap-is : f .gap ≡ 2 + length x
+        pub gap-small : f .gap ≤ 65536
+        pub past : body ≤ f .end
+        pub next : f .end ≡ body + size e
+        pub ends : f .end + size a ≡ at + size t
+        pub inside : f .end + size a ≤ length s
         pub count : nodes t ≡ 2 + (nodes e + nodes a)
-        pub held-in : f .to ≤ length held
+        pub held-in : f .kept ≤ length held
 
       pub app-numbers : Bounds
       app-numbers =
@@ -69,8 +69,8 @@ module _ {s : Bytes} {at n l : ℕ} where
           let q : length x ≡ body - (at + 3) = sym (ap (λ (z : Bytes). length z) (name-is (j .stands) g)) ∙ simp (length-take, length-drop) (omega (arith, app-bounds)) in
           record {
             name = h;
-            gap-is = omega (arith, q);
-            gap-small = omega (arith, k .next, i .ends, j .bytes-in, j .short);
+            gap-is = found .gap-is;
+            gap-small = omega (arith, found .gap-is, q, k .next, i .ends, j .bytes-in, j .short);
             past = omega (arith, k .next);
             next = k .next;
             ends = omega (arith, k .next, i .ends);
@@ -80,33 +80,32 @@ module _ {s : Bytes} {at n l : ℕ} where
           }
 
       -- the argument goes in
-      pub app-placing : {r : Extent} (m : Measured (f .next) a r)
-          → Placing s at (r .next) body f (body - at - 1) (record { from = f .next; end = r .next; nodes = r .nodes }) (n - 2 - r .nodes) l held n t x e a
+      pub app-placing : {r : Extent} (m : Measured (f .end) a r)
+          → Placing s at (r .next) f (record { from = f .end; end = r .next; nodes = r .nodes }) (n - 2 - r .nodes) l held n t x e a
       app-placing m =
           let i = in-app (j .stands) g in
           let b = app-numbers in
           record {
             redex = j;
             ends = omega (arith, m .next, b .ends);
-            body-at = app-body;
+            body-at = rw (k .from) app-body;
             body-in = omega (arith, i .ends, i .past);
-            found = found;
-            gap-is = b .gap-is;
+            found = kept-there found;
             value = part-is j app-argument m (omega (arith, i .count)) (omega (arith, i .ends, i .past));
             nodes-in = omega (arith, i .count);
             count = omega (arith, m .nodes, i .count, j .nodes-in);
           }
 
       -- the argument stays
-      module _ (ends-so : (ps : List ℕ) → take (f .to) held ≡ kept ps → (ps ≡ (f .next - body - (body - at - 1)) ∷ []) × (body - at - 1 ≤ f .next - body)) where
+      module _ (ends-so : (ps : List ℕ) → take (f .kept) held ≡ kept ps → (ps ≡ (f .end - body - f .gap) ∷ []) × (f .gap ≤ f .end - body)) where
         last : (places x e 0 ≡ (size e - (2 + length x)) ∷ []) × (2 + length x ≤ size e)
         last =
             let b = app-numbers in
             let q = ends-so (places x e 0) (found .are) in
-            let d : f .next - body - (body - at - 1) ≡ size e - (2 + length x) = omega (arith, b .next, b .gap-is) in
+            let d : f .end - body - f .gap ≡ size e - (2 + length x) = omega (arith, b .next, b .gap-is) in
             (q .0 ∙ ap (λ (p : ℕ). p ∷ []) d, omega (arith, q .1, b .next, b .gap-is))
 
-        pub tail-room : {room : ℕ} → 4096 ≤ room → (body - at - 1 ≤ f .next) × (body ≤ f .next - (body - at - 1)) × (f .next - (body - at - 1) ≤ length s) × (0 + (f .next - (body - at - 1) - body) ≤ room)
+        pub tail-room : {room : ℕ} → 4096 ≤ room → (f .gap ≤ f .end) × (body ≤ f .end - f .gap) × (f .end - f .gap ≤ length s) × (0 + (f .end - f .gap - body) ≤ room)
         tail-room h =
             let b = app-numbers in
             let y = last .1 in
@@ -115,27 +114,27 @@ module _ {s : Bytes} {at n l : ℕ} where
         pub tail-few : 3 ≤ n
         tail-few = omega (arith, tail-some x a e last, app-numbers .count, j .nodes-in)
 
-        pub tail-stays : {made made′ : Bytes} {z : ℕ} → 4096 ≤ length made → Wrote made 0 (slice body (f .next - (body - at - 1)) s) made′ z
-            → {rule : Rule} → Contracts s at n l t rule none (subst x a e) made′ (Made rule z (f .next) (n - 3))
+        pub tail-stays : {made made′ : Bytes} {z : ℕ} → 4096 ≤ length made → Wrote made 0 (slice body (f .end - f .gap) s) made′ z
+            → {rule : Rule} → Contracts s at n l t rule none (subst x a e) made′ (Made rule z (f .end) (n - 3))
         tail-stays {made} {made′} {z} h w {rule} =
             let b = app-numbers in
             let y = last in
             let u : Term = subst x a e in
-            let i : f .next - (body - at - 1) ≡ body + (size e - (2 + length x)) = omega (arith, b, y .1) in
-            let d : slice body (f .next - (body - at - 1)) s ≡ take (size e - (2 + length x)) (encode e) =
+            let i : f .end - f .gap ≡ body + (size e - (2 + length x)) = omega (arith, b, y .1) in
+            let d : slice body (f .end - f .gap) s ≡ take (size e - (2 + length x)) (encode e) =
             ap (λ (k : ℕ). slice body k s) i ∙ front-at x a e y app-body in
             let o : Wrote made 0 (take (size e - (2 + length x)) (encode e)) made′ z = rw d at w in
             let c : n - 3 ≡ n - nodes t + nodes u = omega (arith, tail-nodes x a e y, b .count, j .nodes-in) in
             let r = tail-room h in
             let v = app-argument in
-            let g : slice (f .next) (at + size t) s ≡ encode a = ap (λ (k : ℕ). slice (f .next) k s) (sym (b .ends)) ∙ slice-is (f .next) s (encode a) (v .rest) (v .bytes) in
-            becomes z (f .next) (smaller-fits j u (omega (arith, tail-nodes x a e y, b .count)) (omega (arith, tail-long x a e y, b, y .1)))
-            (ap (λ (k : ℕ). Made rule z (f .next) k) c)
+            let g : slice (f .end) (at + size t) s ≡ encode a = ap (λ (k : ℕ). slice (f .end) k s) (sym (b .ends)) ∙ slice-is (f .end) s (encode a) (v .rest) (v .bytes) in
+            becomes z (f .end) (smaller-fits j u (omega (arith, tail-nodes x a e y, b .count)) (omega (arith, tail-long x a e y, b, y .1)))
+            (ap (λ (k : ℕ). Made rule z (f .end) k) c)
             (record {
               inside = omega (arith, b);
               written = omega (arith, wrote-length o, o .ends, front-long x a e y, r, i);
               bytes =
-                  ap (λ (q : Bytes). q ++ slice (f .next) (at + size t) s) (written-at o (omega (arith, o .ends, front-long x a e y, r, i)))
+                  ap (λ (q : Bytes). q ++ slice (f .end) (at + size t) s) (written-at o (omega (arith, o .ends, front-long x a e y, r, i)))
                   ∙ ap (λ (q : Bytes). take (size e - (2 + length x)) (encode e) ++ q) g
                   ∙ sym (tail-bytes x a e y);
             })

@@ -47,9 +47,9 @@ pub fn apply(
 {
     let body = walk::after_names(s, at + 2, 1);
     let found = find_in(s, body, at + 3, body, places);
-    let arg = found.next;
-    let gap = body - at - 1;
-    if ends_body(places, found.to, gap, arg - body) {
+    let arg = found.end;
+    let gap = found.gap;
+    if ends_body(places, found.kept, gap, arg - body) {
         let size = runs::copy(s, body, arg - gap, made, 0);
         return Contracted::Made {
             rule: Rule::App,
@@ -70,9 +70,7 @@ pub fn apply(
         at,
         Rule::App,
         value.next,
-        body,
         found,
-        gap,
         part,
         rest,
         length,

@@ -11,7 +11,7 @@ use Rattle.rules.specs.Basic.{Bytes, between}
 use Rattle.rules.specs.Limits.{Limits, blockBytes, blocksFor}
 use Rattle.rules.specs.declared.Kind.{Kind}
 use Rattle.rules.specs.Stored.{kindByte, blockAt, two-bytes, lengthIn, headWrong}
-use Rattle.block.specs.Weights.{and-left, and-right}
+use Rattle.block_sums.specs.Weights.{and-left, and-right}
 
 -- the length in block 0
 pub first-length : (f : Bytes) → lengthIn (blockAt f 0) ≡ two-bytes f 2

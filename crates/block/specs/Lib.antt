@@ -1,3 +1,2 @@
-pub mod Weights
 pub mod Heads
 pub mod Opening

@@ -1,24 +1,20 @@
 // One block of a file: kind, number, content length, 506 content bytes, check. Its parts, and whether it opens.
+use block_sums::check_of;
+use block_sums::zero_from;
 use rules::Answer;
 use rules::Kind;
 use rules::MOST_BYTES;
 use rules::Refusal;
-use sums::weigh;
-use sums::zero_from;
 ghost use mathlib.Core.Path.{_≡_};
-ghost use Prim.Native.Nat.{_+_, _*_, _/_, _≤_, _<_};
-ghost use lib.ListN.{length, take, drop};
+ghost use Prim.Native.Nat.{_+_, _≤_, _<_};
+ghost use lib.ListN.{length};
 ghost use Rattle.rules.specs.Limits.{limits, blocksFor};
-ghost use Rattle.rules.specs.Stored.{kindByte, check, two-bytes, allZero, usedIn, headWrong};
+ghost use Rattle.rules.specs.Stored.{kindByte, two-bytes, usedIn, headWrong};
 ghost use Rattle.block.specs.Opening.{OpenedBlock, firstFault};
-
-mod sums;
 
 pub const BLOCK_BYTES: usize = 512;
 
 pub const BLOCK_CONTENT: usize = 506;
-
-const CHECK_MODULUS: usize = 65521;
 
 pub fn kind_byte(kind: Kind) -> u8
     ensures { λ r. ⌜ r ≡ kindByte kind ⌝ }
@@ -60,17 +56,6 @@ pub fn two_bytes(s: &[u8], at: usize) -> usize
     ensures { λ r. ⌜ r ≡ two-bytes (now (s .entry)) at ⌝ }
 {
     s[at] as usize + 256 * s[at + 1] as usize
-}
-
-// The check of a block's first 510 bytes, of which `clean` says whether they are zero from `end` on.
-pub fn check_of(block: &[u8], end: usize, clean: bool) -> usize
-    requires { ⌜ (end ≤ 510) × (length (now block) ≡ 512) × (clean ≡ allZero (drop end (take 510 (now block)))) ⌝ }
-    ensures { λ r. ⌜ r ≡ check (take 510 (now (block .entry))) ⌝ }
-{
-    if clean {
-        return weigh(&block[..end]) as usize % CHECK_MODULUS;
-    }
-    weigh(&block[..510]) as usize % CHECK_MODULUS
 }
 
 // Refusal 12: kind, number, length, or the length and block 0 or the file's size do not go together.

@@ -9,14 +9,14 @@ use Rattle.rules.specs.Name.{Name}
 use Rattle.rules.specs.Term.{Term, one, branch, One, nodes, size}
 use Rattle.walk.specs.Place.{TermAt}
 use Rattle.walk.proofs.Terms.{at-end, first, others}
-use Rattle.places.specs.declared.Found.{Found}
 use Rattle.spans.specs.Measured.{Measured, Named}
 use Rattle.spans.specs.declared.Extent.{Extent}
 use Rattle.spans.specs.declared.Names.{Names}
 use Rattle.spans.proofs.Rows.{branch-names, past-names, x-is, y-is, in-branch}
 use Rattle.parts.specs.Contracts.{Redex}
 use Rattle.parts.specs.Parts.{Kept, PartIs, Placing}
-use Rattle.parts.proofs.Smaller.{part-is}
+use Rattle.parts.specs.declared.Body.{Body}
+use Rattle.parts.proofs.Smaller.{part-is, kept-there}
 
 module _ {s : Bytes} {at n l : ℕ} where
   -- Case of Inl or Inr
@@ -45,24 +45,23 @@ module _ {s : Bytes} {at n l : ℕ} where
       left-short = omega (arith, j .behind, j .short, h .next, in-branch (j .stands) m .past)
 
       -- the left
-      module _ {held : Bytes} {f : Found} (o : Kept (q .next) (take (p .second - (at + 2)) (drop (at + 2) s)) b held f) where
-        pub left-other : TermAt s (f .next) d
+      module _ {held : Bytes} {f : Body} (o : Kept (q .next) (take (p .second - (at + 2)) (drop (at + 2) s)) b held f) where
+        pub left-other : TermAt s (f .end) d
         left-other = right-at (o .next)
 
-        pub left-nodes : {r : Extent} → Measured (f .next) d r → 2 + q .nodes + r .nodes ≤ n
+        pub left-nodes : {r : Extent} → Measured (f .end) d r → 2 + q .nodes + r .nodes ≤ n
         left-nodes g = omega (arith, h .nodes, g .nodes, in-branch (j .stands) m .count, j .nodes-in)
 
-        pub left-placing : {r : Extent} (g : Measured (f .next) d r)
-            → Placing s at (r .next) (q .next) f (p .second - at) (record { from = p .end + 1; end = q .next; nodes = q .nodes }) (n - 2 - q .nodes - r .nodes) l held n (branch x y (one k v) b d) x b v
+        pub left-placing : {r : Extent} (g : Measured (f .end) d r)
+            → Placing s at (r .next) f (record { from = p .end + 1; end = q .next; nodes = q .nodes }) (n - 2 - q .nodes - r .nodes) l held n (branch x y (one k v) b d) x b v
         left-placing g =
             let i = in-branch (j .stands) m in
             record {
               redex = j;
               ends = omega (arith, i .ends, h .next, o .next, g .next);
-              body-at = case-left;
+              body-at = rw (o .from) case-left;
               body-in = omega (arith, i .ends, i .past);
-              found = rw (x-is s at (branch-names x y (one k v) b d (j .stands)) m) at o;
-              gap-is = omega (arith, m .second);
+              found = kept-there (rw (x-is s at (branch-names x y (one k v) b d (j .stands)) m) at o);
               value = value-part;
               nodes-in = omega (arith, i .count);
               count = omega (arith, h .nodes, g .nodes, i .count, j .nodes-in);
@@ -79,17 +78,16 @@ module _ {s : Bytes} {at n l : ℕ} where
         pub right-nodes : 2 + q .nodes + r .nodes ≤ n
         right-nodes = omega (arith, h .nodes, g .nodes, in-branch (j .stands) m .count, j .nodes-in)
 
-        pub right-placing : {held : Bytes} {f : Found} (o : Kept (r .next) (take (p .end - (p .second + 1)) (drop (p .second + 1) s)) d held f)
-            → Placing s at (f .next) (r .next) f (p .end - p .second + 1) (record { from = p .end + 1; end = q .next; nodes = q .nodes }) (n - 2 - q .nodes - r .nodes) l held n (branch x y (one k v) b d) y d v
+        pub right-placing : {held : Bytes} {f : Body} (o : Kept (r .next) (take (p .end - (p .second + 1)) (drop (p .second + 1) s)) d held f)
+            → Placing s at (f .end) f (record { from = p .end + 1; end = q .next; nodes = q .nodes }) (n - 2 - q .nodes - r .nodes) l held n (branch x y (one k v) b d) y d v
         right-placing o =
             let i = in-branch (j .stands) m in
             record {
               redex = j;
               ends = omega (arith, i .ends, h .next, g .next, o .next);
-              body-at = case-right;
+              body-at = rw (o .from) case-right;
               body-in = omega (arith, i .ends, i .past);
-              found = rw (y-is s at (branch-names x y (one k v) b d (j .stands)) m) at o;
-              gap-is = omega (arith, m .end);
+              found = kept-there (rw (y-is s at (branch-names x y (one k v) b d (j .stands)) m) at o);
               value = value-part;
               nodes-in = omega (arith, i .count);
               count = omega (arith, h .nodes, g .nodes, i .count, j .nodes-in);

@@ -45,16 +45,14 @@ fn left(
         nodes: value.nodes,
     };
     let found = find_in(s, body, at + 2, middle, places);
-    let other = span(s, found.next);
+    let other = span(s, found.end);
     let rest = nodes - 2 - value.nodes - other.nodes;
     put_here(
         s,
         at,
         Rule::Case,
         other.next,
-        body,
         found,
-        middle - at,
         part,
         rest,
         length,
@@ -94,10 +92,8 @@ fn right(
         s,
         at,
         Rule::Case,
-        found.next,
-        body,
+        found.end,
         found,
-        scrutinee - middle + 1,
         part,
         rest,
         length,

@@ -2,7 +2,7 @@
 use Prim.Native.Nat.{ℕ, _+_, _<_}
 use mathlib.Core.Path.{_≡_}
 use mathlib.Core.Bool.{Bool, true, false}
-use Rattle.rules.specs.Term.{Term, size}
+use Rattle.rules.specs.Term.{size}
 use Rattle.rules.specs.declared.Rule.{Rule}
 use Rattle.rules.specs.Reduction.{Reduced, stopped, outgrew, plus}
 use Rattle.gap.specs.declared.place.Place.{Place}

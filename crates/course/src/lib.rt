@@ -3,7 +3,7 @@ ghost use mathlib.Core.Path.{_≡_};
 ghost use mathlib.Core.Bool.{true, false};
 ghost use Prim.Native.Nat.{_≤_, _<_};
 ghost use Rattle.rules.specs.Term.{Term, size};
-ghost use Rattle.rules.specs.Reduction.{stopped, outgrew};
+ghost use Rattle.rules.specs.Reduction.{stopped};
 ghost use Rattle.course.specs.Counted.{total};
 ghost use Rattle.course.specs.Told.{repeatedOf, Limited, onward};
 use crate::counting::plus;

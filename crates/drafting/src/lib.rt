@@ -1,7 +1,9 @@
 // From a checked proof to a draft of its term: one walk over its rules, with the row of cut entries that is lent and a counter.
 ghost use mathlib.Core.Path.{_≡_};
 ghost use mathlib.Core.List.{List};
-ghost use Prim.Native.Nat.{ℕ, _<_};
+ghost use Prim.Native.Nat.{ℕ, _+_, _<_};
+ghost use lib.ListN.{length, getD, set};
+ghost use Rattle.entries.specs.Entries.{none};
 ghost use Rattle.planning.specs.Walk.{Starts, Ends};
 ghost use Rattle.planning.specs.Planning.{Planned, Began};
 ghost use Rattle.planning.specs.declared.plan.Plan.{Plan};
@@ -103,7 +105,7 @@ fn draft_second(
     draft_consumer(s, at, counter, one, row, k, rows)
 }
 
-// The consumer of a Cut has one entry more, and what stood there is put back behind it.
+// The producer of a Cut is walked; its consumer has one entry more.
 fn draft_consumer(
     s: &[u8],
     at: usize,
@@ -119,9 +121,36 @@ fn draft_consumer(
         → Ends (now (s .entry)) at (now (row .entry)) k ws (now (rows .exit)) used counter r) ⌝ }
 {
     let own = at + 1;
-    let before = entry_at(row, k);
-    put_entry(row, k, entry_of(own, counter));
+    let entry = entry_of(own, counter);
+    let two = draft_inside(s, entry, one, row, k, rows);
+    put_cut(s, own, one, two, rows)
+}
+
+// The proof behind one that is walked, with an entry behind the first k; what stood there is put back.
+fn draft_inside(
+    s: &[u8],
+    entry: CutEntry,
+    one: Drafted,
+    row: &mut [CutEntry],
+    k: usize,
+    rows: &mut [usize],
+) -> Drafted
+    requires { ⌜ (k < length (now row)) × Starts (now s) (one .next) (set (now row) k entry) (k + 1) (now rows) (one .used) (one .counter) ⌝ }
+    ensures { λ r. ⌜ (now (row .exit) ≡ now (row .entry))
+        × Ends (now (s .entry)) (one .next) (set (now (row .entry)) k entry) (k + 1) (now (rows .entry)) (now (rows .exit)) (one .used) (one .counter) r ⌝ }
+{
+    let before = swap_entry(row, k, entry);
     let two = draft_rule(s, one.next, row, k + 1, rows, one.used, one.counter);
     put_entry(row, k, before);
-    put_cut(s, own, one, two, rows)
+    two
+}
+
+// Puts an entry, and hands back what stood there.
+fn swap_entry(row: &mut [CutEntry], k: usize, entry: CutEntry) -> CutEntry
+    requires { ⌜ k < length (now row) ⌝ }
+    ensures { λ r. ⌜ (r ≡ getD (now (row .entry)) k none) × (now (row .exit) ≡ set (now (row .entry)) k entry) ⌝ }
+{
+    let before = entry_at(row, k);
+    put_entry(row, k, entry);
+    before
 }

@@ -9,12 +9,12 @@ ghost use Rattle.reduction.specs.Answers.{reducedBy};
 ghost use Rattle.rules.specs.Calls.{checkTermCall, checkFormulaCall, checkProofCall, formulaTextCall, textCall, freeVarsCall, substituteCall, stepCall, reduceCall, isNormalCall};
 ghost use Rattle.told.specs.Told.{toldAnswer};
 ghost use Rattle.told.specs.Child.{ToldChild};
-ghost use Rattle.told.specs.Steps.{toldStep, toldNormal, toldReduced};
-use told::steps::tell_normal;
-use told::steps::tell_reduced;
-use told::steps::tell_step;
+ghost use Rattle.told_results.specs.Steps.{toldStep, toldNormal, toldReduced};
 use told::tell;
 use told::tell_piece;
+use told_results::steps::tell_normal;
+use told_results::steps::tell_reduced;
+use told_results::steps::tell_step;
 
 mod files;
 mod proofs_to_terms;

@@ -3,8 +3,8 @@ ghost use mathlib.Core.Path.{_≡_};
 ghost use Rattle.rules.specs.Limits.{limits};
 ghost use Rattle.straight.specs.Call.{isStraightCall};
 ghost use Rattle.straightness.specs.Verdict.{verdict};
-ghost use Rattle.told.specs.Straight.{toldVerdict};
-use told::tell_verdict;
+ghost use Rattle.told_results.specs.Straight.{toldVerdict};
+use told_results::tell_verdict;
 
 #[no_mangle]
 pub extern "C" fn patch_is_straight(term: &[u8], answer: &mut [u64; 16])

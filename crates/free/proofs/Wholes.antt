@@ -14,10 +14,10 @@ use Rattle.laws.specs.FreeSize.{free-size}
 use Rattle.runs.specs.Wrote.{Wrote}
 use Rattle.runs.specs.Writing.{filled-up, wrote-length}
 use Rattle.walk.proofs.Terms.{whole}
-use Rattle.free.specs.declared.gathering.Gathered.{Gathered}
-use Rattle.free.specs.Gather.{gather-free}
+use Rattle.gathering.specs.declared.Gathered.{Gathered}
+use Rattle.gathering.specs.Gather.{gather-free}
 use Rattle.name_order.specs.Rows.{Held, Passed, Writes}
-use Rattle.free.specs.Walk.{Task, Done}
+use Rattle.gathering.specs.Walk.{Task, Done}
 use Rattle.free.specs.Whole.{Lists, Listed}
 
 none-held : (s : Bytes) (row : List ℕ) → Held s row 0 []

@@ -1,4 +1,1 @@
-pub mod Gather
-pub mod Ones
-pub mod Walk
 pub mod Whole

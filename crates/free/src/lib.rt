@@ -15,8 +15,6 @@ use rules::Answer;
 use rules::OUTPUT_ROOM;
 use rules::Refusal;
 
-mod gathering;
-
 // Writes the names whose places are the first n of the row, each with its length byte.
 fn write_names(s: &[u8], row: &[u16], n: usize, out: &mut [u8]) -> usize
     requires { ⌜ ((xs : List Name) × Writes (now s) (now row) n (now out) xs) ⌝ }

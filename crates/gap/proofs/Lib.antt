@@ -1,16 +1,14 @@
 -- What the proofs of several functions use, here and in the crates above.
-mod Holes
-mod Contexts
+pub mod Holes
+pub mod Contexts
 mod Onward
-mod Sights
+pub mod Sights
 pub mod Buffers
-mod Entries
+pub mod Entries
 mod Passes
-mod Marks
+pub mod Marks
 mod Tops
 mod Ups
-mod Seeking
-mod Waking
+pub mod Seeking
 pub mod Redexes
-mod Firings
 pub mod Wholes

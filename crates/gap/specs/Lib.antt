@@ -2,4 +2,3 @@ pub mod Hole
 pub mod Quiet
 pub mod Seen
 pub mod Standing
-pub mod Fired

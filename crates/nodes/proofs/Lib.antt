@@ -3,4 +3,3 @@ pub mod Depth
 pub mod Node
 pub mod Rest
 pub mod Turn
-pub mod Ones

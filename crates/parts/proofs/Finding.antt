@@ -1,8 +1,8 @@
 -- A name is found in a part of the redex: the part stands at the start of what is left of the bytes. Assumes nothing.
 use Prim.Native.Nat.{ℕ, _+_, _-_, _≤_}
-use mathlib.Core.Path.{_≡_, ap, _∙_}
+use mathlib.Core.Path.{_≡_, refl, ap, _∙_}
 use native.Mathlib.Omega.{arith}
-use lib.ListN.{length, take, drop, length-drop}
+use lib.ListN.{length, take, drop, length-take, length-drop}
 use lib.Seq.{take-all}
 use Rattle.rules.specs.Basic.{Bytes}
 use Rattle.rules.specs.Name.{Name}
@@ -32,10 +32,13 @@ module _ (s : Bytes) (i : ℕ) (short : length s ≤ i + 4096) where
     pub found-room : (i ≤ length s) × (i + size e ≤ length s)
     found-room = let a = at-end s i e w in (omega arith, a)
 
-    pub is-kept : {x : Name} {held held′ : Bytes} {f : Found} → 4096 ≤ length held
-        → (f .next ≡ size e) × Wrote held 0 (kept (places x e 0)) held′ (f .to) → Kept i x e held′ (record { next = i + f .next; to = f .to })
-    is-kept {x} {held} {held′} {f} h (n, o) =
+    pub is-kept : {name past : ℕ} {held held′ : Bytes} {f : Found} → name ≤ past → past ≤ length s → 4096 ≤ length held
+        → (f .next ≡ size e) × Wrote held 0 (kept (places (take (past - name) (drop name s)) e 0)) held′ (f .to)
+        → Kept i (take (past - name) (drop name s)) e held′ (record { from = i; end = i + f .next; kept = f .to; gap = past - name + 2 })
+    is-kept {name} {past} {held} {held′} {f} hn hp h (n, o) =
         let a = found-room in
+        let x : Name = take (past - name) (drop name s) in
+        let g : length (take (past - name) (drop name s)) ≡ past - name = simp (length-take, length-drop) (omega arith) in
         let b : f .to ≤ length held = omega (arith, o .ends, kept-small x e 0) in
         let d : f .to - 0 ≡ f .to = omega arith in
-        record { next = ap (λ (k : ℕ). i + k) n; are = rw d at (wrote-part o b); inside = omega (arith, wrote-length o) }
+        record { from = refl; next = ap (λ (k : ℕ). i + k) n; are = rw d at (wrote-part o b); inside = omega (arith, wrote-length o); gap-is = omega (arith, g) }

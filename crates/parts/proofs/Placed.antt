@@ -1,22 +1,22 @@
 -- What goes in, and where: the parts of the redex as slices, and what the whole has with the body in the redex's place. Assumes nothing.
 use Prim.Native.Nat.{ℕ, _+_, _-_, _≤_}
-use mathlib.Core.Path.{_≡_, sym, ap, _∙_}
+use mathlib.Core.Path.{_≡_, ap, _∙_}
 use mathlib.Core.Option.{none, some}
 use native.Mathlib.Omega.{arith}
-use lib.ListN.{length, take, drop, length-take, length-drop}
+use lib.ListN.{length, take, drop}
 use Rattle.rules.specs.Basic.{Bytes}
 use Rattle.rules.specs.Name.{Name}
 use Rattle.rules.specs.Term.{Term, nodes, size}
 use Rattle.rules.specs.Substitution.{subst}
 use Rattle.rules.specs.declared.Rule.{Rule}
 use Rattle.walk.proofs.Terms.{at-end}
-use Rattle.places.specs.declared.Found.{Found}
 use Rattle.spans.specs.Given.{Given}
 use Rattle.spans.proofs.Rows.{term-part}
 use Rattle.putting.specs.Put.{Putting, Turns, Puts}
 use Rattle.putting.specs.declared.Put.{Put}
 use Rattle.parts.specs.Contracts.{Contracts, told}
 use Rattle.parts.specs.Parts.{Kept, PartIs, Placing, Pairing}
+use Rattle.parts.specs.declared.Body.{Body}
 use Rattle.parts.specs.declared.Part.{Part}
 use Rattle.parts.specs.declared.Contracted.{Contracted}
 use Rattle.parts.proofs.Standing.{inside, put-contracts}
@@ -28,29 +28,29 @@ module _ {s : Bytes} {p : Part} {v : Term} (i : PartIs s p v) where
   given : Given (take (p .end - p .from) (drop (p .from) s)) (p .nodes) v
   given = record { bytes = term-part s (p .from) (p .end) v (i .stands) (i .ends); count = i .count; fits = i .fits }
 
-held-part : {i : ℕ} {x : Name} {e : Term} {held : Bytes} {f : Found} → Kept i x e held f → take (f .to - 0) held ≡ take (f .to) held
-held-part {held = held} {f = f} k = let e : f .to - 0 ≡ f .to = omega arith in ap (λ (n : ℕ). take n held) e
+held-part : {i : ℕ} {x : Name} {e : Term} {held : Bytes} {b : Body} → Kept i x e held b → take (b .kept - 0) held ≡ take (b .kept) held
+held-part {held = held} {b = b} k = let e : b .kept - 0 ≡ b .kept = omega arith in ap (λ (n : ℕ). take n held) e
 
 -- ---- one value
 
-module _ {s : Bytes} {at end body : ℕ} {f : Found} {gap : ℕ} {p : Part} {n l : ℕ} {held : Bytes} {whole : ℕ} {t : Term} {x : Name} {e v : Term} (j : Placing s at end body f gap p n l held whole t x e v) where
-  pub bounds : (at ≤ end) × (end - at ≤ l) × (body ≤ f .next) × (f .next ≤ length s) × (l ≤ 4096)
+module _ {s : Bytes} {at end : ℕ} {b : Body} {p : Part} {n l : ℕ} {held : Bytes} {whole : ℕ} {t : Term} {x : Name} {e v : Term} (j : Placing s at end b p n l held whole t x e v) where
+  pub bounds : (at ≤ end) × (end - at ≤ l) × (b .from ≤ b .end) × (b .end ≤ length s) × (l ≤ 4096)
   bounds =
       let r = j .redex in (
         omega (arith, j .ends),
         omega (arith, j .ends, r .bytes-in),
         omega (arith, j .found .next),
-        omega (arith, j .found .next, at-end s body e (j .body-at)),
+        omega (arith, j .found .next, at-end s (b .from) e (j .body-at)),
         r .short,
       )
 
-  pub putting : Putting (take (f .next - body) (drop body s)) (take (f .to - 0) held) gap (take (p .end - p .from) (drop (p .from) s)) (p .nodes) n (l - (end - at) + (f .next - body)) x e v
+  pub putting : Putting (take (b .end - b .from) (drop (b .from) s)) (take (b .kept - 0) held) (b .gap) (take (p .end - p .from) (drop (p .from) s)) (p .nodes) n (l - (end - at) + (b .end - b .from)) x e v
   putting =
       let r = j .redex in
       record {
-        body-is = term-part s body (f .next) e (j .body-at) (j .found .next);
+        body-is = term-part s (b .from) (b .end) e (j .body-at) (j .found .next);
         held-are = held-part (j .found) ∙ j .found .are;
-        gap-is = j .gap-is;
+        gap-is = j .found .gap-is;
         value-is = given (j .value);
         nodes-in = omega (arith, j .count);
         bytes-in = omega (arith, j .found .next);
@@ -59,7 +59,7 @@ module _ {s : Bytes} {at end body : ℕ} {f : Found} {gap : ℕ} {p : Part} {n l
       }
 
   pub placed : {rule : Rule} {made made′ : Bytes} {q : Put} {c : Contracted} → 4096 ≤ length made
-      → Puts (n - nodes e) (l - (end - at) + (f .next - body) - size e) none (subst x v e) made made′ q → c ≡ told rule end q
+      → Puts (n - nodes e) (l - (end - at) + (b .end - b .from) - size e) none (subst x v e) made made′ q → c ≡ told rule end q
       → Contracts s at whole l t rule none (subst x v e) made′ c
   placed room d is = put-contracts (j .redex) (j .ends) (omega (arith, j .count)) (omega (arith, j .ends, j .found .next)) room d is
 
@@ -72,28 +72,23 @@ module _ {s : Bytes} {at middle past : ℕ} {p q : Part} {n l whole : ℕ} {t : 
       let r = j .redex in
       (m .0, omega (arith, m), omega (arith, r .behind, r .short, j .body-past), omega (arith, m))
 
-  x-long : length x ≡ middle - (at + 2)
-  x-long =
-      let m = j .names-in in
-      sym (ap (λ (z : Bytes). length z) (j .x-is)) ∙ simp (length-take, length-drop) (omega (arith, m))
-
-  module _ {held : Bytes} {f : Found} (k : Kept (q .end) (take (middle - (at + 2)) (drop (at + 2) s)) e held f) where
-    ends : f .next ≡ at + size t
+  module _ {held : Bytes} {b : Body} (k : Kept (q .end) (take (middle - (at + 2)) (drop (at + 2) s)) e held b) where
+    ends : b .end ≡ at + size t
     ends = k .next ∙ j .ends
 
-    pub both-bounds : (at ≤ f .next) × (f .next - at ≤ l) × (q .end ≤ f .next) × (f .next ≤ length s) × (f .to ≤ length held)
+    pub both-bounds : (at ≤ b .end) × (b .end - at ≤ l) × (q .end ≤ b .end) × (b .end ≤ length s) × (b .kept ≤ length held)
     both-bounds =
         let r = j .redex in
         (omega (arith, ends), omega (arith, ends, r .bytes-in), omega (arith, k .next), omega (arith, ends, inside r), k .inside)
 
-    pub turning : Turns (take (f .next - q .end) (drop (q .end) s)) held (f .to) (middle - at) (take (p .end - p .from) (drop (p .from) s)) (p .nodes)
-        (take (q .end - q .from) (drop (q .from) s)) (q .nodes) n (l - (f .next - at)) x e v w
+    pub turning : Turns (take (b .end - q .end) (drop (q .end) s)) held (b .kept) (b .gap) (take (p .end - p .from) (drop (p .from) s)) (p .nodes)
+        (take (q .end - q .from) (drop (q .from) s)) (q .nodes) n (l - (b .end - at)) x e v w
     turning =
         let r = j .redex in
         record {
-          body-is = term-part s (q .end) (f .next) e (j .body-at) (k .next);
+          body-is = term-part s (q .end) (b .end) e (j .body-at) (k .next);
           held-are = rw (j .x-is) at (k .are);
-          gap-is = omega (arith, x-long, j .names-in);
+          gap-is = rw (j .x-is) at (k .gap-is);
           first = given (j .first);
           second = given (j .second);
           nodes-in = omega (arith, j .count);
@@ -102,6 +97,6 @@ module _ {s : Bytes} {at middle past : ℕ} {p q : Part} {n l whole : ℕ} {t : 
         }
 
     pub paired : {rule : Rule} {made made′ : Bytes} {z : Put} {c : Contracted} → 4096 ≤ length made
-        → Puts (n - nodes e) (l - (f .next - at)) (some (subst x v e)) (subst (take (past - (middle + 1)) (drop (middle + 1) s)) w (subst x v e)) made made′ z → c ≡ told rule (f .next) z
+        → Puts (n - nodes e) (l - (b .end - at)) (some (subst x v e)) (subst (take (past - (middle + 1)) (drop (middle + 1) s)) w (subst x v e)) made made′ z → c ≡ told rule (b .end) z
         → Contracts s at whole l t rule (some (subst x v e)) (subst y w (subst x v e)) made′ c
     paired room d is = put-contracts (j .redex) ends (omega (arith, j .count)) (omega (arith, ends)) room (rw (j .y-is) at d) is

@@ -1,15 +1,17 @@
--- A part of a redex is smaller than the redex: so it fits by itself, and in the redex's place. Assumes nothing.
-use Prim.Native.Nat.{ℕ, _-_, _≤_}
-use mathlib.Core.Path.{_≡_}
+-- What a rule knows of the parts of its redex: one that goes in is smaller than the redex, so it fits; a body has its places where it stands. Assumes nothing.
+use Prim.Native.Nat.{ℕ, _+_, _-_, _≤_}
+use mathlib.Core.Path.{_≡_, refl, ap, _∙_, sym}
 use native.Mathlib.Omega.{arith}
 use Rattle.rules.specs.Basic.{Bytes}
+use Rattle.rules.specs.Name.{Name}
 use Rattle.rules.specs.Term.{Term, nodes, size}
 use Rattle.walk.specs.Place.{TermAt}
 use Rattle.spans.specs.Measured.{Measured}
 use Rattle.spans.specs.declared.Extent.{Extent}
 use Rattle.putting.proofs.Puts.{fits-yes, beside-yes}
 use Rattle.parts.specs.Contracts.{Redex}
-use Rattle.parts.specs.Parts.{PartIs}
+use Rattle.parts.specs.Parts.{Kept, PartIs}
+use Rattle.parts.specs.declared.Body.{Body}
 use mathlib.Core.Bool.{true}
 use Rattle.parts.specs.Beside.{fitsAround}
 
@@ -23,6 +25,11 @@ part-is j {u = u} w m le ls =
       count = m .nodes;
       fits = fits-yes u (omega (arith, j .nodes-in, j .few)) (omega (arith, j .bytes-in, j .short));
     }
+
+-- a body with its places, at its own place
+pub kept-there : {i : ℕ} {x : Name} {e : Term} {held : Bytes} {b : Body} → Kept i x e held b → Kept (b .from) x e held b
+kept-there {e = e} k =
+    record { from = refl; next = k .next ∙ ap (λ (n : ℕ). n + size e) (sym (k .from)); are = k .are; inside = k .inside; gap-is = k .gap-is }
 
 -- what is no larger than the redex, in its place
 pub smaller-fits : {s : Bytes} {at n l : ℕ} {t : Term} → Redex s at n l t → (u : Term) → nodes u ≤ nodes t → size u ≤ size t → fitsAround n l t u ≡ true

@@ -11,7 +11,6 @@ ghost use Rattle.walk.specs.Place.{TermAt};
 ghost use Rattle.putting.specs.Put.{Room};
 ghost use Rattle.parts.specs.Contracts.{Contracts, told as toldOf};
 ghost use Rattle.parts.specs.Parts.{Kept, Placing, Pairing};
-use places::Found;
 use places::first_places;
 use putting::Put;
 use putting::in_turn;
@@ -51,16 +50,26 @@ fn told(rule: Rule, end: usize, put: Put) -> Contracted
     }
 }
 
-// Keeps where the name at [name, past) is free in the term at `body`, counted from there, and tells where the term ends.
-pub fn find_in(s: &[u8], body: usize, name: usize, past: usize, places: &mut [u8]) -> Found
-    requires { ⌜ ((e : Term) × TermAt (now s) body e) ⌝ }
-    requires { ⌜ (name ≤ past) × (past ≤ length (now s)) × (length (now s) ≤ body + limits .bytes) × Room (now places) ⌝ }
-    ensures { λ r. ⌜ ((e : Term) → TermAt (now (s .entry)) body e → Kept body (take (past - name) (drop name (now (s .entry)))) e (now (places .exit)) r) ⌝ }
+// A body in which a name was found: where it stands, the bytes that its kept places take, and those of each variable that goes.
+pub struct Body {
+    pub from: usize,
+    pub end: usize,
+    pub kept: usize,
+    pub gap: usize,
+}
+
+// Keeps where the name at [name, past) is free in the body at `from`, counted from there, and tells where the body ends.
+pub fn find_in(s: &[u8], from: usize, name: usize, past: usize, places: &mut [u8]) -> Body
+    requires { ⌜ ((e : Term) × TermAt (now s) from e) ⌝ }
+    requires { ⌜ (name ≤ past) × (past ≤ length (now s)) × (length (now s) ≤ from + limits .bytes) × Room (now places) ⌝ }
+    ensures { λ r. ⌜ ((e : Term) → TermAt (now (s .entry)) from e → Kept from (take (past - name) (drop name (now (s .entry)))) e (now (places .exit)) r) ⌝ }
 {
-    let found = first_places(&s[body..], &s[name..past], places);
-    Found {
-        next: body + found.next,
-        to: found.to,
+    let found = first_places(&s[from..], &s[name..past], places);
+    Body {
+        from,
+        end: from + found.next,
+        kept: found.to,
+        gap: past - name + 2,
     }
 }
 
@@ -71,29 +80,28 @@ pub fn put_here(
     at: usize,
     rule: Rule,
     end: usize,
-    body: usize,
-    found: Found,
-    gap: usize,
+    body: Body,
     value: Part,
     nodes: usize,
     length: usize,
     places: &[u8],
     made: &mut [u8],
 ) -> Contracted
-    requires { ⌜ ((n : ℕ) × (t : Term) × (x : Name) × (e : Term) × (v : Term) × Placing (now s) at end body found gap value nodes length (now places) n t x e v) ⌝ }
+    requires { ⌜ ((n : ℕ) × (t : Term) × (x : Name) × (e : Term) × (v : Term) × Placing (now s) at end body value nodes length (now places) n t x e v) ⌝ }
     requires { ⌜ Room (now made) ⌝ }
-    ensures { λ c. ⌜ ((n : ℕ) → (t : Term) → (x : Name) → (e : Term) → (v : Term) → Placing (now (s .entry)) at end body found gap value nodes length (now (places .entry)) n t x e v → Contracts (now (s .entry)) at n length t rule none (subst x v e) (now (made .exit)) c) ⌝ }
+    ensures { λ c. ⌜ ((n : ℕ) → (t : Term) → (x : Name) → (e : Term) → (v : Term) → Placing (now (s .entry)) at end body value nodes length (now (places .entry)) n t x e v → Contracts (now (s .entry)) at n length t rule none (subst x v e) (now (made .exit)) c) ⌝ }
 {
-    let next = found.next;
-    let kept = found.to;
-    let from = value.from;
+    let from = body.from;
+    let next = body.end;
+    let kept = body.kept;
+    let first = value.from;
     let past = value.end;
-    let whole = length - (end - at) + (next - body);
+    let whole = length - (end - at) + (next - from);
     let put = put_in(
-        &s[body..next],
+        &s[from..next],
         &places[0..kept],
-        gap,
-        &s[from..past],
+        body.gap,
+        &s[first..past],
         value.nodes,
         nodes,
         whole,
@@ -124,15 +132,15 @@ pub fn both(
 {
     let body = b.end;
     let found = find_in(s, body, at + 2, middle, places);
-    let end = found.next;
+    let end = found.end;
     let first = a.from;
     let first_end = a.end;
     let name = middle + 1;
     let second = b.from;
     let put = in_turn(
         &s[body..end],
-        found.to,
-        middle - at,
+        found.kept,
+        found.gap,
         &s[first..first_end],
         a.nodes,
         &s[name..past],

@@ -1,15 +1,17 @@
 -- The turns of the walk, by the tag that it meets: what each call of a turn is asked, and that the walk stands at the next part, or has ended.
 -- Assumes nothing.
 use Prim.Native.Nat.{ℕ, _+_, _<_, _≤_, _/_, _%_}
-use mathlib.Core.Path.{_≡_, ap}
-use mathlib.Core.List.{List, [], _∷_, _++_}
+use mathlib.Core.Path.{_≡_, sym, ap}
+use mathlib.Core.List.{List, [], _∷_, _++_, append-nil}
 use lib.ListN.{length, getD}
 use types.Run.{OneOf}
 use Rattle.rules.specs.Basic.{say}
 use Rattle.rules.specs.Name.{Name, encodeName}
 use Rattle.rules.specs.Term.{Term, var, one, two, abs, One, Two}
 use Rattle.words.specs.Prints.{Prints, brackets}
+use Rattle.rules.specs.Text.{text}
 use Rattle.words.specs.Task.{Task, Done}
+use Rattle.words.specs.Steps.{told-done}
 use Rattle.phrases.specs.Task.{TermTask, TermDone, nameAt, afterName, NameIn, Whole}
 use Rattle.phrases.specs.Words.{signOf, onePart, betweenOf}
 use Rattle.phrases.specs.Shapes.{Bracketed}
@@ -98,14 +100,28 @@ module _ {s : List ℕ} {at : ℕ} {out₀ : List ℕ} {to : ℕ} {T : Term} {ou
     pub one-next : {o₁ : List ℕ} {p : ℕ} → Prints out o (signOf (getD s i 0)) o₁ p → On s at out₀ to T o₁ (i + 1) p c
     one-next b = let v = a-one in record { t = v .1; stands = one-turn (v .0) (v .1) (v .2) b }
 
-  -- ---- any other
+  -- ---- a part of another shape, and its brackets
+  module _ {o₁ : List ℕ} {r : ℕ} (f : (t : Term) → TermTask s i out o t → TermDone i out o t o₁ r) where
+    pub part-room : (r / 65536 + c + 8 ≤ length o₁) × (r / 65536 + c < 65536)
+    part-room = brackets-room n (f (n .t) (here n))
+
+    pub part-ends : {o₂ : List ℕ} {q : ℕ} → Done (r % 65536) o₁ (r / 65536) [] (brackets c) o₂ q → TermDone at out₀ to T o₂ q
+    part-ends b = ends n (f (n .t) (here n)) b
+
+-- where no brackets come, what prints the part prints the whole
+module _ {s : List ℕ} {at : ℕ} {out₀ : List ℕ} {to : ℕ} {T : Term} {out : List ℕ} {i o : ℕ} (n : On s at out₀ to T out i o 0) where
+  alone : {o₁ : List ℕ} {r : ℕ} → TermDone i out o (n .t) o₁ r → TermDone at out₀ to T o₁ r
+  alone d = n .stands .gives (told-done (sym (append-nil (text (n .t)))) d)
+
+  pub any-here : (t : Term) × TermTask s i out o t
+  any-here = (n .t, here n)
+
+  pub any-ends : {o₁ : List ℕ} {r : ℕ} → ((t : Term) → TermTask s i out o t → TermDone i out o t o₁ r) → TermDone at out₀ to T o₁ r
+  any-ends f = alone (f (n .t) (here n))
+
   module _ (h : Rest (getD s i 0)) where
     pub whole-here : (t : Term) × Whole t × TermTask s i out o t
     whole-here = (n .t, is-whole (n .t) (here n) h, here n)
 
-    module _ {o₁ : List ℕ} {r : ℕ} (f : (t : Term) → Whole t → TermTask s i out o t → TermDone i out o t o₁ r) where
-      pub whole-room : (r / 65536 + c + 8 ≤ length o₁) × (r / 65536 + c < 65536)
-      whole-room = brackets-room n (f (n .t) (is-whole (n .t) (here n) h) (here n))
-
-      pub whole-ends : {o₂ : List ℕ} {q : ℕ} → Done (r % 65536) o₁ (r / 65536) [] (brackets c) o₂ q → TermDone at out₀ to T o₂ q
-      whole-ends b = ends n (f (n .t) (is-whole (n .t) (here n) h) (here n)) b
+    pub whole-ends : {o₁ : List ℕ} {r : ℕ} → ((t : Term) → Whole t → TermTask s i out o t → TermDone i out o t o₁ r) → TermDone at out₀ to T o₁ r
+    whole-ends f = alone (f (n .t) (is-whole (n .t) (here n) h) (here n))

@@ -82,8 +82,8 @@ pub fn bound_name(s: &[u8], x: usize, out: &mut [u8], to: usize) -> usize
     requires { ⌜ NameIn (now s) x × (to + getD (now s) x 0 + 28 ≤ length (now out)) ⌝ }
     ensures { λ r. ⌜ Prints (now (out .entry)) to (say "λ" ‥ nameAt (now (s .entry)) x ‥ say ". ") (now (out .exit)) r ⌝ }
 {
-    let a = word(out, to, b"\xce\xbb      ", 2);
-    named(s, x, out, a, b".       ", 2)
+    let a = word(out, to, b"\xce\xbb\x00\x00\x00\x00\x00\x00", 2);
+    named(s, x, out, a, b". \x00\x00\x00\x00\x00\x00", 2)
 }
 
 // The place after two names.

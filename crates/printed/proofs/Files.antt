@@ -16,7 +16,7 @@ use Rattle.rules.specs.Buffers.{Wrote, bytesOr, wrote}
 use Rattle.rules.specs.Calls.{loadCall, reduceCall}
 use Rattle.rules.specs.Program.{refusalLine, patchrun}
 use Rattle.printed.specs.Printing.{printedFor, termAfter, scratchAfter}
-use Rattle.printed.proofs.Starting.{starts-append, starts-inside}
+use Rattle.term_lines.proofs.Starting.{starts-append, starts-inside}
 
 -- a file that opens: its content stands at the start of the output, and is all that what follows depends on
 pub record Opened (file term scratch out₁ : Bytes) (n : ℕ) : Type 0 where

@@ -1,4 +1,2 @@
-pub mod Starting
-pub mod Texts
 pub mod Stopping
 pub mod Files

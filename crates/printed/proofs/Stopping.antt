@@ -24,7 +24,7 @@ use Rattle.reduction.specs.declared.Reduced.{Reduced}
 use Rattle.reduction.specs.declared.Reduced.the-variants.{Stopped, Refused}
 use Rattle.printed.specs.Printing.{printedFor}
 use Rattle.printed.specs.Reduct.{Sound, reduced-sound}
-use Rattle.printed.proofs.Starting.{starts-append, starts-inside}
+use Rattle.term_lines.proofs.Starting.{starts-append, starts-inside}
 
 -- the first bytes of the output are a term, and it and what is told are what is printed
 pub record Told (content out : Bytes) (a : Reduction) (t : Term) : Type 0 where

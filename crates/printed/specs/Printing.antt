@@ -1,7 +1,4 @@
 -- What printing leaves in its buffers. Assumes nothing: these are definitions.
-use Prim.Native.Nat.{ℕ}
-use mathlib.Core.Path.{_≡_}
-use lib.ListN.{length, take}
 use Rattle.rules.specs.Basic.{Bytes}
 use Rattle.rules.specs.Limits.{Limits}
 use Rattle.rules.specs.Refusal.{good, refused, _>>=_}
@@ -11,11 +8,6 @@ use Rattle.rules.specs.Calls.{reduceCall}
 use Rattle.rules.specs.Stored.{opened}
 use Rattle.rules.specs.Program.{programSteps, report, reducedReport}
 use Rattle.rules.specs.declared.Kind.the-variants.{Term as aTerm}
-
--- out starts with xs, and r is the place after it
-pub record Starts (out xs : Bytes) (r : ℕ) : Type 0 where
-  pub holds : take r out ≡ xs
-  pub ends : r ≡ length xs
 
 -- what is printed for a term's bytes
 unfoldable pub printedFor : Limits → (content : Bytes) → Bytes

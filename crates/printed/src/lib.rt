@@ -1,43 +1,23 @@
 // What the program patchrun prints for a stored term: its text when reduced, and the counts; or the refusal.
 ghost use mathlib.Core.Path.{_≡_};
-ghost use mathlib.Core.List.{_∷_};
 ghost use mathlib.Core.Option.{some};
 ghost use Prim.Native.Nat.{_≤_};
 ghost use lib.ListN.{length, take};
-ghost use Rattle.rules.specs.Basic.{_‥_};
 ghost use Rattle.rules.specs.Limits.{limits};
-ghost use Rattle.rules.specs.Term.{Term};
-ghost use Rattle.rules.specs.Text.{text};
 ghost use Rattle.rules.specs.Buffers.{filled};
 ghost use Rattle.rules.specs.Calls.{reduceCall};
-ghost use Rattle.rules.specs.Program.{countsLine, patchrun};
-ghost use Rattle.laws.specs.Decoding.{TermIn};
-ghost use Rattle.printed.specs.Printing.{Starts, printedFor, termAfter, scratchAfter};
+ghost use Rattle.rules.specs.Program.{patchrun};
+ghost use Rattle.term_lines.specs.Starts.{Starts};
+ghost use Rattle.printed.specs.Printing.{printedFor, termAfter, scratchAfter};
 use reduction::Reduced;
 use reduction::normalize_bounded;
-use report::put_counts;
 use report::put_refusal;
 use rules::Answer;
-use rules::Counts;
 use rules::Kind;
-use term_text::pretty;
+use term_lines::print_term;
 
 // Document 01's limit for the program.
 const STEPS: u32 = 1000;
-
-// The text of a term that can be read, and the line of the counts.
-fn print_term(term: &[u8], steps: u32, counts: Counts, normal: bool, out: &mut [u8]) -> usize
-    requires { ⌜ ((t : Term) × TermIn limits (now term) t) × (20992 ≤ length (now out)) ⌝ }
-    ensures { λ r. ⌜ ((t : Term) → TermIn limits (now (term .entry)) t → Starts (now (out .exit)) (text t ‥ 10 ∷ countsLine steps counts normal) r) ⌝ }
-{
-    match pretty(term, out) {
-        Answer::Refused(_) => 0,
-        Answer::Good(end) => {
-            out[end] = 10;
-            put_counts(steps, counts, normal, out, end + 1)
-        }
-    }
-}
 
 // What is printed for the bytes of a term, which stand at the start of out.
 fn print_reduced(n: usize, term: &mut [u8], scratch: &mut [u8], out: &mut [u8]) -> usize

@@ -17,7 +17,6 @@ use Rattle.gap.specs.Standing.{Standing, Finds}
 use Rattle.gap.specs.declared.place.Place.{Place}
 use Rattle.gap.proofs.Wholes.{stands-first}
 use Rattle.course.specs.Told.{repeatedOf}
-use Rattle.course.specs.declared.Course.{Course}
 use Rattle.course.specs.declared.Repeated.{Repeated}
 use Rattle.repeating.specs.Turning.{Carried, Stands, Room, Repeats}
 use Rattle.repeating.proofs.Turns.{rests}

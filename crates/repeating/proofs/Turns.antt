@@ -16,9 +16,9 @@ use Rattle.rules.specs.Step.{Stepped, isNormal}
 use Rattle.rules.specs.Reduction.{stopped, plus, reduceFrom, reduce}
 use Rattle.runs.specs.Wrote.{Wrote}
 use Rattle.gap.specs.Standing.{Ended, Reducing, Finds}
-use Rattle.gap.specs.Fired.{Firing, Fires, Lands, Over}
-use Rattle.gap.specs.declared.landing.Fired.{Fired}
-use Rattle.gap.specs.declared.landing.Fired.the-variants.{Made, Outgrown as TooLarge}
+use Rattle.landing.specs.Fired.{Firing, Fires, Lands, Over}
+use Rattle.landing.specs.declared.Fired.{Fired}
+use Rattle.landing.specs.declared.Fired.the-variants.{Made, Outgrown as TooLarge}
 use Rattle.gap.specs.declared.place.Place.{Place}
 use Rattle.gap.proofs.Redexes.{redex-steps}
 use Rattle.gap.proofs.Wholes.{join-long, join-bytes, join-room}

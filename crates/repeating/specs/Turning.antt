@@ -7,7 +7,6 @@ use lib.ListN.{length, take}
 use Rattle.rules.specs.Basic.{Bytes}
 use Rattle.rules.specs.Limits.{limits, outputRoom}
 use Rattle.rules.specs.Term.{Term, encode, nodes, size, fits}
-use Rattle.rules.specs.declared.Counts.{Counts}
 use Rattle.rules.specs.Reduction.{Reduced, stopped, outgrew, reduceFrom, reduce}
 use Rattle.gap.specs.Standing.{Standing, Reducing}
 use Rattle.gap.specs.declared.place.Place.{Place}

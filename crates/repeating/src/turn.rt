@@ -8,10 +8,10 @@ use course::at_limit;
 use course::at_rest;
 use course::cut_short;
 use course::one_more;
-use gap::landing::Fired;
-use gap::landing::fire;
 use gap::moves::seek;
 use gap::place::Place;
+use landing::Fired;
+use landing::fire;
 
 // A turn ends the reduction, or it goes on.
 pub enum Turned {

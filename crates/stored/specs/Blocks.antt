@@ -14,7 +14,7 @@ use Rattle.rules.specs.Limits.{blocksFor}
 use Rattle.rules.specs.declared.Kind.{Kind}
 use Rattle.rules.specs.Stored.{kindByte, usedIn, padded, allZero, check, blockBody, block, blocks, stored}
 use Rattle.runs.specs.Writing.{sets-app}
-use Rattle.block.specs.Weights.{are-zeros}
+use Rattle.block_sums.specs.Weights.{are-zeros}
 use Rattle.block.specs.Opening.{used-le}
 use Rattle.stored.specs.Writing.{PutBody}
 

@@ -1,8 +1,8 @@
 // One block, written: its head, its content and zeros, then the check of these.
 use block::BLOCK_CONTENT;
-use block::check_of;
 use block::kind_byte;
 use block::used_in;
+use block_sums::check_of;
 use rules::Kind;
 use runs::clear;
 use runs::copy;

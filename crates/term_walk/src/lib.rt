@@ -30,7 +30,7 @@ fn discard(s: &[u8], at: usize, out: &mut [u8], to: usize) -> usize
     ensures { λ r. ⌜ ((a : Term) → (b : Term) → TermTask (now (s .entry)) at (now (out .entry)) to (twoOf discardOf a b) → TermDone at (now (out .entry)) to (twoOf discardOf a b) (now (out .exit)) r) ⌝ }
 {
     let a = discard_words(out, to);
-    walk(&*s, walk::skip(s, at + 1, 1), out, a)
+    part(&*s, walk::skip(s, at + 1, 1), out, a)
 }
 
 fn let_pair(s: &[u8], at: usize, out: &mut [u8], to: usize) -> usize
@@ -39,9 +39,9 @@ fn let_pair(s: &[u8], at: usize, out: &mut [u8], to: usize) -> usize
 {
     let x = at + 1;
     let a = let_names(s, x, out, to);
-    let e = walk(&*s, past_names(s, x), out, a);
+    let e = part(&*s, past_names(s, x), out, a);
     let b = in_word(out, e / 65536);
-    walk(&*s, e % 65536, out, b)
+    part(&*s, e % 65536, out, b)
 }
 
 fn copy(s: &[u8], at: usize, out: &mut [u8], to: usize) -> usize
@@ -50,9 +50,9 @@ fn copy(s: &[u8], at: usize, out: &mut [u8], to: usize) -> usize
 {
     let x = at + 1;
     let a = copy_word(out, to);
-    let e = walk(&*s, past_names(s, x), out, a);
+    let e = part(&*s, past_names(s, x), out, a);
     let b = as_names(s, x, out, e / 65536);
-    walk(&*s, e % 65536, out, b)
+    part(&*s, e % 65536, out, b)
 }
 
 fn case(s: &[u8], at: usize, out: &mut [u8], to: usize) -> usize
@@ -62,15 +62,15 @@ fn case(s: &[u8], at: usize, out: &mut [u8], to: usize) -> usize
     let x = at + 1;
     let y = past(s, x);
     let a = case_word(out, to);
-    let e = walk(&*s, past_names(s, x), out, a);
+    let e = part(&*s, past_names(s, x), out, a);
     let b = left_name(s, x, out, e / 65536);
-    let l = walk(&*s, e % 65536, out, b);
+    let l = part(&*s, e % 65536, out, b);
     let c = right_name(s, y, out, l / 65536);
-    let r = walk(&*s, l % 65536, out, c);
+    let r = part(&*s, l % 65536, out, c);
     case_end(out, r)
 }
 
-// A leaf, let, copy, case or discard: one with whose last part `walk` does not go on.
+// A leaf, let, copy, case or discard: what neither `walk` nor `part` goes on with.
 fn whole(s: &[u8], at: usize, out: &mut [u8], to: usize) -> usize
     requires { ⌜ ((t : Term) × Whole t × TermTask (now s) at (now out) to t) ⌝ }
     ensures { λ r. ⌜ ((t : Term) → Whole t → TermTask (now (s .entry)) at (now (out .entry)) to t → TermDone at (now (out .entry)) to t (now (out .exit)) r) ⌝ }
@@ -84,8 +84,38 @@ fn whole(s: &[u8], at: usize, out: &mut [u8], to: usize) -> usize
     }
 }
 
-// Goes on with the last part in its own loop where nothing but brackets comes after it, and keeps count of these. The first part of a pair or an
-// application is mostly a variable, and needs no call.
+// A part of any shape: it goes on with the part of an abstraction or of a node of one part, and leaves variables, pairs and applications to `walk`,
+// which so has few places to keep over a call.
+fn part(s: &[u8], at: usize, out: &mut [u8], to: usize) -> usize
+    requires { ⌜ ((t : Term) × TermTask (now s) at (now out) to t) ⌝ }
+    ensures { λ r. ⌜ ((t : Term) → TermTask (now (s .entry)) at (now (out .entry)) to t → TermDone at (now (out .entry)) to t (now (out .exit)) r) ⌝ }
+{
+    let mut i = at;
+    let mut o = to;
+    loop {
+        let tag = s[i];
+        let x = i + 1;
+        match tag {
+            1 | 3 | 6 => return walk(&*s, i, out, o),
+            5 => {
+                i = past(s, x);
+                o = bound_name(s, x, out, o);
+                continue;
+            }
+            _ => {
+                if one_part(tag) == 1 {
+                    o = sign(tag, out, o);
+                    i = x;
+                    continue;
+                }
+                return whole(&*s, i, out, o);
+            }
+        }
+    }
+}
+
+// Goes on with the last part of a pair, an application or an abstraction in its own loop, and keeps count of the brackets to come. A first part is
+// mostly a variable, and needs no call.
 pub fn walk(s: &[u8], at: usize, out: &mut [u8], to: usize) -> usize
     requires { ⌜ ((t : Term) × TermTask (now s) at (now out) to t) ⌝ }
     ensures { λ r. ⌜ ((t : Term) → TermTask (now (s .entry)) at (now (out .entry)) to t → TermDone at (now (out .entry)) to t (now (out .exit)) r) ⌝ }
@@ -118,12 +148,7 @@ pub fn walk(s: &[u8], at: usize, out: &mut [u8], to: usize) -> usize
                 continue;
             }
             _ => {
-                if one_part(tag) == 1 {
-                    o = sign(tag, out, o);
-                    i = x;
-                    continue;
-                }
-                let r = whole(&*s, i, out, o);
+                let r = part(&*s, i, out, o);
                 return closed(out, r, brackets);
             }
         }

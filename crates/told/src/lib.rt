@@ -3,15 +3,9 @@
 ghost use mathlib.Core.Path.{_≡_};
 ghost use Rattle.told.specs.Told.{toldRefusal, toldAnswer};
 ghost use Rattle.told.specs.Child.{ordered, toldPiece};
-ghost use Rattle.told.specs.Straight.{toldVerdict};
-ghost use Rattle.told.specs.Extraction.{toldExtraction};
 use child::Piece;
-use extract::Extraction;
 use rules::Answer;
 use rules::Refusal;
-use straightness::Verdict;
-
-pub mod steps;
 
 // A refusal, told as numbers.
 pub fn tell_refusal(r: Refusal, told: &mut [u64; 16])
@@ -49,40 +43,6 @@ pub fn tell_piece(piece: Piece, told: &mut [u64; 16])
             *told = [0, 0, 0, start, length, 0, 0, 0, 0, 0, 0, 0, 0, 0, 0, 0];
         }
         Piece::Missing(r) => {
-            tell_refusal(r, told);
-        }
-    }
-}
-
-// Yes, no or a refusal, told as numbers.
-pub fn tell_verdict(v: Verdict, told: &mut [u64; 16])
-    ensures { λ _. ⌜ now (told .exit) ≡ toldVerdict v ⌝ }
-{
-    match v {
-        Verdict::Good(yes) => {
-            if yes {
-                *told = [0, 0, 0, 1, 0, 0, 0, 0, 0, 0, 0, 0, 0, 0, 0, 0];
-            } else {
-                *told = [0, 0, 0, 0, 0, 0, 0, 0, 0, 0, 0, 0, 0, 0, 0, 0];
-            }
-        }
-        Verdict::Refused(r) => {
-            tell_refusal(r, told);
-        }
-    }
-}
-
-// A length and a counter, or a refusal, told as numbers.
-pub fn tell_extraction(made: Extraction, told: &mut [u64; 16])
-    ensures { λ _. ⌜ now (told .exit) ≡ toldExtraction made ⌝ }
-{
-    match made {
-        Extraction::Made { bytes, counter } => {
-            let length = bytes as u64;
-            let next = counter as u64;
-            *told = [0, 0, 0, length, next, 0, 0, 0, 0, 0, 0, 0, 0, 0, 0, 0];
-        }
-        Extraction::Refused(r) => {
             tell_refusal(r, told);
         }
     }

@@ -26,9 +26,6 @@ sub-rest-2 c = let p = c .before .before .before .before .before .before .before
 sub-rest-3 : tie.Need-sub-rest-3
 sub-rest-3 c = let p = c .before .before .before .before .before .before .before .before .before .before .before .pre .0 in let o = c .before .before .before .before .before .find-in .ensures _ (case-left (p .6) (p .7) (p .8)) in omega (arith, left-nodes (p .6) (p .7) (p .8) o (c .before .before .span .ensures _ (left-other (p .6) (p .7) (p .8) o)))
 
-sub-put-here : tie.Need-sub-put-here
-sub-put-here c = omega (arith, case-inside (c .before .before .before .before .before .before .before .before .before .before .before .pre .0 .6) (c .before .before .before .before .before .before .before .before .before .before .before .pre .0 .7))
-
 put-here-requires : tie.Need-put-here-requires
 put-here-requires c κs = let p = c .before .before .before .before .before .before .before .before .before .before .before .before .before .pre .0 in let o = c .before .before .before .before .before .before .before .find-in .ensures _ (case-left (p .6) (p .7) (p .8)) in ((_, _, _, _, _, left-placing (p .6) (p .7) (p .8) o (c .before .before .before .before .span .ensures _ (left-other (p .6) (p .7) (p .8) o))), c .before .before .before .before .before .before .before .before .before .before .before .before .before .pre .1 .1)
 
@@ -52,7 +49,6 @@ left-spec =
     sub-rest
     sub-rest-2
     sub-rest-3
-    sub-put-here
     put-here-requires
     same-length
     same-length-2

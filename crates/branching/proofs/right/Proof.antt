@@ -26,12 +26,6 @@ sub-rest-2 c = let p = c .before .before .before .before .before .before .before
 sub-rest-3 : tie.Need-sub-rest-3
 sub-rest-3 c = let p = c .before .before .before .before .before .before .before .before .before .before .pre .0 in omega (arith, right-nodes (p .6) (p .7) (p .8) (c .before .before .before .before .before .before .span .ensures _ (case-left (p .6) (p .7) (p .8))))
 
-sub-put-here : tie.Need-sub-put-here
-sub-put-here c = search needs
-
-add-put-here : tie.Need-add-put-here
-add-put-here c = search needs
-
 put-here-requires : tie.Need-put-here-requires
 put-here-requires c κs = let p = c .before .before .before .before .before .before .before .before .before .before .before .before .pre .0 in let g = c .before .before .before .before .before .before .before .before .span .ensures _ (case-left (p .6) (p .7) (p .8)) in ((_, _, _, _, _, right-placing (p .6) (p .7) (p .8) g (c .before .before .before .before .before .before .find-in .ensures _ (case-right (p .6) (p .7) (p .8) g))), c .before .before .before .before .before .before .before .before .before .before .before .before .pre .1 .1)
 
@@ -55,8 +49,6 @@ right-spec =
     sub-rest
     sub-rest-2
     sub-rest-3
-    sub-put-here
-    add-put-here
     put-here-requires
     same-length
     same-length-2

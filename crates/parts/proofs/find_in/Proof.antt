@@ -29,11 +29,17 @@ first-places-requires c κs = let w = c .before .before .before .before .before 
 add-t8 : tie.Need-add-t8
 add-t8 c = let w = c .before .before .before .before .before .before .before .before .before .pre in omega (arith, found-room _ _ (w .1 .2) (w .0 .1), c .before .before .before .first-places .ensures _ (at-start _ _ (w .1 .2) (w .0 .1)) .0)
 
+sub-t12 : tie.Need-sub-t12
+sub-t12 c = search needs
+
+add-t17 : tie.Need-add-t17
+add-t17 c = search needs
+
 same-length : tie.Need-same-length
 same-length c = search needs
 
 returns : tie.Need-returns
-returns c e w = let b = c .before .before .before .before .before .before .before .before .before .pre in is-kept _ _ (b .1 .2) w (b .1 .3) (c .before .before .before .first-places .ensures e (at-start _ _ (b .1 .2) w))
+returns c = λ e w. let b = c .before .before .before .before .before .before .before .before .before .pre in is-kept _ _ (b .1 .2) w (b .1 .0) (b .1 .1) (b .1 .3) (c .before .before .before .first-places .ensures e (at-start _ _ (b .1 .2) w))
 
 pub find-in-spec : {M : Type 1} → statement M
 find-in-spec =
@@ -47,5 +53,7 @@ find-in-spec =
     part-first-places-end-2
     first-places-requires
     add-t8
+    sub-t12
+    add-t17
     same-length
     returns)

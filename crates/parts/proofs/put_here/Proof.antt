@@ -54,7 +54,7 @@ same-length : tie.Need-same-length
 same-length c = search needs
 
 returns : tie.Need-returns
-returns c n t x e v j = placed j (c .before .before .before .before .before .before .before .before .before .before .before .pre .1) (c .before .before .before .put-in .ensures _ _ _ (putting j)) (c .told .ensures)
+returns c = λ n t x e v j. placed j (c .before .before .before .before .before .before .before .before .before .before .before .pre .1) (c .before .before .before .put-in .ensures _ _ _ (putting j)) (c .told .ensures)
 
 pub put-here-spec : {M : Type 1} → statement M
 put-here-spec =

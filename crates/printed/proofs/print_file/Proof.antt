@@ -2,7 +2,7 @@
 use mathlib.Core.Path.{sym, _∙_}
 use native.Mathlib.Omega.{arith}
 use denote.Ref.{now}
-use Rattle.printed.proofs.Starting.{starts-line, starts-as}
+use Rattle.term_lines.proofs.Starting.{starts-line, starts-as}
 use Rattle.printed.proofs.Files.{opens, unopened}
 use borrow.Author.Needs.{needs}
 use Rattle.printed.proofs.print_file.Statement.{statement}

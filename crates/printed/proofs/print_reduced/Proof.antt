@@ -4,7 +4,7 @@ use native.Mathlib.Omega.{arith}
 use lib.ListN.{take}
 use lib.Seq.{length-take-le}
 use denote.Ref.{now}
-use Rattle.printed.proofs.Starting.{starts-line, starts-as}
+use Rattle.term_lines.proofs.Starting.{starts-line, starts-as}
 use Rattle.printed.proofs.Stopping.{told, refused-told}
 use borrow.Author.Needs.{needs}
 use Rattle.printed.proofs.print_reduced.Statement.{statement}

@@ -1,7 +1,7 @@
 -- `printed::printed` meets its contract: zeros behind what is printed. Assumes nothing.
 use native.Mathlib.Omega.{arith}
 use denote.Ref.{now}
-use Rattle.printed.proofs.Starting.{starts-inside, starts-filled}
+use Rattle.term_lines.proofs.Starting.{starts-inside, starts-filled}
 use borrow.Author.Needs.{needs}
 use Rattle.printed.proofs.printed.Statement.{statement}
 use Rattle.printed.proofs.printed.Tie as tie

@@ -1,0 +1,2 @@
+mod Waking
+mod Firings
