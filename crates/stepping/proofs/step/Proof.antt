@@ -44,7 +44,7 @@ returns-4 c =
     let a = c .before .before .before .before .before .before .before .before .before .before .before .before .before .before .before .before .args in
     let e = sym (c .before .before .before .before .before .before .before .before .before .before .term-input .ensures) ∙ c .before .before .before .before .before .before .before .before .nodes .given .1 in
     let w = read (now (a .term)) (now (a .out)) (now (a .scratch)) (c .before .before .before .before .before .before .before .before .before .before .before .before .if1 .left) (c .before .before .before .before .before .before .before .before .before .before .before .if2 .left) _ e in
-    stepped (now (a .term)) (now (a .out)) (now (a .scratch)) (c .before .before .before .before .before .before .before .before .before .before .before .before .if1 .left) (c .before .before .before .before .before .before .before .before .before .before .before .if2 .left) _ e _ _ _ (c .before .before .before .before .step-legal .ensures (w .0) (w .1 .0) (w .1 .1))
+    stepped (now (a .term)) (now (a .out)) (now (a .scratch)) (c .before .before .before .before .before .before .before .before .before .before .before .before .if1 .left) (c .before .before .before .before .before .before .before .before .before .before .before .if2 .left) _ e _ _ _ (c .before .before .before .before .step-legal .ensures (w .0) (w .1) (w .2))
 
 pub step-spec : {M : Type 1} → statement M
 step-spec =
