@@ -1,27 +1,24 @@
 // One step of a term, and whether there is one: the public calls.
 ghost use mathlib.Core.Path.{_≡_};
-ghost use mathlib.Core.Bool.{true};
 ghost use Prim.Native.Nat.{_≤_};
 ghost use lib.ListN.{length};
 ghost use Rattle.rules.specs.Limits.{limits, scratchRoom};
 ghost use Rattle.rules.specs.Refusal.{refuse};
-ghost use Rattle.rules.specs.Term.{Term, encode};
+ghost use Rattle.rules.specs.Term.{Term};
 ghost use Rattle.rules.specs.Legal.{Legal};
-ghost use Rattle.rules.specs.Step.{step as stepOf, isNormal};
+ghost use Rattle.rules.specs.Step.{step as stepOf};
 ghost use Rattle.rules.specs.Calls.{stepCall, isNormalCall};
 ghost use Rattle.spans.specs.Given.{Reads};
 ghost use Rattle.stepping.specs.Answers.{stepAnswered, normalAnswered, Stepping};
+use resting::rests;
+use resting::still;
 use rules::Answer;
 use rules::OUTPUT_ROOM;
 use rules::Refusal;
 use rules::Rule;
 use rules::SCRATCH_ROOM;
-use search::Sought;
-use search::find;
 use step::Taken;
 use step::take_step;
-use sweep::calm;
-use sweep::plain::plain;
 
 // The rule, its place (the offset of the contracted node's tag in the given term), and the length of the next term.
 pub struct Found {
@@ -51,17 +48,6 @@ fn refused(number: u8) -> Stepped
         place: 0,
         input: 0,
     })
-}
-
-// Whether a sweep sees that a legal term has no redex. The sweeps are cheaper than the search: the first is quick and is misled by two names, the second is not.
-fn still(s: &[u8]) -> bool
-    requires { ⌜ ((t : Term) × Legal t × (now s ≡ encode t)) ⌝ }
-    ensures { λ r. ⌜ ((t : Term) → Legal t → now (s .entry) ≡ encode t → r ≡ true → isNormal (stepOf t) ≡ true) ⌝ }
-{
-    if plain(s) {
-        return true;
-    }
-    calm(s)
 }
 
 // A step of a term that was read: zeros behind the next term, and in the scratch.
@@ -117,28 +103,6 @@ pub fn step(term: &[u8], out: &mut [u8], scratch: &mut [u8]) -> Stepped
         Answer::Refused(r) => Stepped::Refused(r),
         Answer::Good(nodes) => step_legal(term, nodes, out, scratch),
     }
-}
-
-// Whether a term that was read has no redex.
-pub fn none_left(s: &[u8]) -> bool
-    requires { ⌜ ((t : Term) × (now s ≡ encode t)) ⌝ }
-    ensures { λ r. ⌜ ((t : Term) → now (s .entry) ≡ encode t → r ≡ isNormal (stepOf t)) ⌝ }
-{
-    match find(s, 0) {
-        Sought::After(_) => true,
-        Sought::Redex(_) => false,
-    }
-}
-
-// Whether a legal term is normal.
-fn rests(s: &[u8]) -> bool
-    requires { ⌜ ((t : Term) × Legal t × (now s ≡ encode t)) ⌝ }
-    ensures { λ r. ⌜ ((t : Term) → Legal t → now (s .entry) ≡ encode t → r ≡ isNormal (stepOf t)) ⌝ }
-{
-    if still(s) {
-        return true;
-    }
-    none_left(s)
 }
 
 // Whether step finds nothing.

@@ -1,8 +1,8 @@
--- `stepping::rests` meets its contract: where a sweep sees no redex the term is normal, and else the search says. Assumes nothing.
+-- `resting::rests` meets its contract: where a sweep sees no redex the term is normal, and else the search says. Assumes nothing.
 use mathlib.Core.Path.{sym}
 use borrow.Author.Needs.{needs}
-use Rattle.stepping.proofs.rests.Statement.{statement}
-use Rattle.stepping.proofs.rests.Tie as tie
+use Rattle.resting.proofs.rests.Statement.{statement}
+use Rattle.resting.proofs.rests.Tie as tie
 
 still-requires : tie.Need-still-requires
 still-requires c κs = search needs

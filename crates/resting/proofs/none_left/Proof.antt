@@ -1,10 +1,10 @@
--- `stepping::none_left` meets its contract: where the search ends says whether the rules step. Assumes nothing.
+-- `resting::none_left` meets its contract: where the search ends says whether the rules step. Assumes nothing.
 use mathlib.Core.Path.{sym, _∙_}
 use Rattle.walk.proofs.Terms.{whole}
-use Rattle.stepping.proofs.Rest.{rests, moves}
+use Rattle.resting.proofs.Rest.{rests, moves}
 use borrow.Author.Needs.{needs}
-use Rattle.stepping.proofs.none_left.Statement.{statement}
-use Rattle.stepping.proofs.none_left.Tie as tie
+use Rattle.resting.proofs.none_left.Statement.{statement}
+use Rattle.resting.proofs.none_left.Tie as tie
 
 find-requires : tie.Need-find-requires
 find-requires c κs = let w = c .before .pre in (w .0, whole (w .0) _ (w .1))

@@ -1,8 +1,8 @@
--- `stepping::still` meets its contract: either sweep that sees no redex says so. Assumes nothing.
+-- `resting::still` meets its contract: either sweep that sees no redex says so. Assumes nothing.
 use mathlib.Core.Path.{_∙_}
 use borrow.Author.Needs.{needs}
-use Rattle.stepping.proofs.still.Statement.{statement}
-use Rattle.stepping.proofs.still.Tie as tie
+use Rattle.resting.proofs.still.Statement.{statement}
+use Rattle.resting.proofs.still.Tie as tie
 
 plain-requires : tie.Need-plain-requires
 plain-requires c κs = search needs
