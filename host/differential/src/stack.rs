@@ -52,6 +52,9 @@ fn deep(call: Call, part: usize) -> Vec<Vec<u8>> {
             nested(&[5, 1, b'x'], &[1, 1, b'x'], &[], of(511)),
             nested(&[4, 1, b'x', 1, b'y'], &[1, 1, b'z'], &[2], of(255)),
             nested(&[9, 1, b'x', 1, b'y'], &[1, 1, b'z'], &[2, 2], of(170)),
+            // a redex at the bottom, which the search has to go to
+            nested(&[14], &[15, 14, 2], &[], of(509)),
+            nested(&[3], &[15, 14, 2], &[2], of(254)),
         ],
     }
 }
