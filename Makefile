@@ -13,8 +13,9 @@ WARN := -Iinclude -Wall -Wextra -Wpedantic -Werror
 # rt waits until all of a batch is checked before it starts the next: two checks for each processor keep it busy meanwhile (1 GB each at most).
 export RT_JOBS ?= $(shell echo $$((2 * $$(nproc))))
 
-# The prover writes some hundred files for each check: an eighth of its time on a disk, and next to none in memory.
-export TMPDIR ?= $(shell test -w /dev/shm && echo /dev/shm || echo /tmp)
+# The prover writes some hundred files for each check: an eighth of its time on a disk, and next to none in memory, where 4 GB are free there.
+SHARED := $(shell df -Pk /dev/shm 2>/dev/null | awk 'NR == 2 && $$4 > 4000000 { print "/dev/shm" }')
+export TMPDIR ?= $(if $(SHARED),$(SHARED),/tmp)
 
 # AddressSanitizer's library has been made on aarch64 alone, so elsewhere the gate soaks the plain one.
 SOAK := $(if $(filter aarch64,$(shell uname -m)),soak,plain_soak)
