@@ -4,42 +4,56 @@ SHELL := /bin/bash
 
 CARGO := --release --offline --locked --quiet --manifest-path host/Cargo.toml
 VERDICT := host/target/verdict
+BESIDE := host/target/beside
 LIBRARY := host/target/library/libentry.a
 SANITIZED := host/target/sanitized/libentry.a
+SANITIZED_BUILD := host/target/sanitized/build
 PROGRAM := host/target/program
 TRIED := host/target/tried
 WARN := -Iinclude -Wall -Wextra -Wpedantic -Werror
 
-# rt waits until all of a batch is checked before it starts the next: two checks for each processor keep it busy meanwhile (1 GB each at most).
-export RT_JOBS ?= $(shell echo $$((2 * $$(nproc))))
+# rt waits until all of a batch is checked before it starts the next: four checks for each processor keep it busy meanwhile, or as many as
+# there are 1.5 GB of memory for.
+export RT_JOBS ?= $(shell awk -v n=$$(nproc) '/MemAvailable/ { m = int($$2 / 1500000); print m < n ? n : m < 4 * n ? m : 4 * n }' /proc/meminfo)
 
 # The prover writes some hundred files for each check: an eighth of its time on a disk, and next to none in memory, where 4 GB are free there.
 SHARED := $(shell df -Pk /dev/shm 2>/dev/null | awk 'NR == 2 && $$4 > 4000000 { print "/dev/shm" }')
 export TMPDIR ?= $(if $(SHARED),$(SHARED),/tmp)
 
 # AddressSanitizer's library has been made on aarch64 alone, so elsewhere the gate soaks the plain one.
-SOAK := $(if $(filter aarch64,$(shell uname -m)),soak,plain_soak)
+ON_AARCH64 := $(filter aarch64,$(shell uname -m))
+SOAK := $(if $(ON_AARCH64),soak,plain_soak)
 
-.PHONY: test hosted apart linked library program run try bench soak plain_soak stack cases vectors
+.PHONY: test hosted beside ported replayed linked library program run try bench soak plain_soak stack cases vectors
 
 # rt ci proves every crate from nothing; the static library is then built from what it has just proved. Its last line, the verdict, is kept
 # back until the runs over that library have passed too, so that it is the last line of all and nothing but the entry points is proved twice.
+# What needs nothing of rt runs beside it, where rt leaves a processor idle.
 test:
 	@mkdir -p $(dir $(VERDICT))
 	@rm -f $(LIBRARY)
-	@rt ci 2>&1 | tee $(VERDICT) | sed -u '$$d' || { tail -n 1 $(VERDICT); exit 1; }
-	@$(MAKE) --no-print-directory hosted
+	@nice -n 19 $(MAKE) --no-print-directory beside >$(BESIDE) 2>&1 & beside=$$!; \
+	    rt ci 2>&1 | tee $(VERDICT) | sed -u '$$d' || { wait $$beside; tail -n 1 $(VERDICT); exit 1; }; \
+	    wait $$beside || { cat $(BESIDE); exit 1; }; cat $(BESIDE)
+	@$(MAKE) --no-print-directory ported
 	@tail -n 1 $(VERDICT)
 
-# What is run and not proved: header and library fit, the model answers as document 01 says, the port and its program answer as the model does.
+# What is run and not proved: the model answers as document 01 says; header and library fit, the port and its program answer as the model does.
+hosted: beside ported
+
+# The model, as document 01 says and by second routes; and the crates below those that link the library, for the soak too.
+beside:
+	@cargo test $(CARGO) -p patch-model -p lolli-extract -p cases
+	@cargo run $(CARGO) -p apart -- model
+	@cargo build $(CARGO) --target-dir $(SANITIZED_BUILD) -p apart
+
 # rt proves the entry points again to make the library, on one processor; what needs no library runs beside it.
-hosted: program
-	@$(MAKE) --no-print-directory --jobs=2 --output-sync library apart
+ported: program
+	@$(MAKE) --no-print-directory --jobs=2 --output-sync $(if $(ON_AARCH64),$(SANITIZED),library) replayed
 	@$(MAKE) --no-print-directory linked
 
-apart:
-	@cargo test $(CARGO) -p patch-model -p lolli-extract -p cases
-	@cargo run $(CARGO) -p apart
+replayed:
+	@cargo run $(CARGO) -p apart -- program
 
 linked: library
 	@gcc -std=c99 $(WARN) host/c/smoke.c $(LIBRARY) -o host/target/smoke && host/target/smoke
@@ -76,9 +90,9 @@ bench: library
 CASES := 50000000
 SECONDS := 3600
 soak: $(SANITIZED)
-	@PATCH_LIBRARY=$(CURDIR)/$(dir $(SANITIZED)) cargo rustc $(CARGO) --target-dir host/target/sanitized/build -p differential --features sanitized \
+	@PATCH_LIBRARY=$(CURDIR)/$(dir $(SANITIZED)) cargo rustc $(CARGO) --target-dir $(SANITIZED_BUILD) -p differential --features sanitized \
 	    -- -C default-linker-libraries=yes -C link-arg=-fsanitize=address
-	@ASAN_OPTIONS=detect_leaks=0 host/target/sanitized/build/release/differential soak 2 $(CASES) $(SECONDS)
+	@ASAN_OPTIONS=detect_leaks=0 $(SANITIZED_BUILD)/release/differential soak 2 $(CASES) $(SECONDS)
 
 $(SANITIZED): $(LIBRARY)
 	@host/library.sh sanitized
