@@ -50,14 +50,14 @@ use Rattle.rules.specs.Extraction.{terms, joined}
 use Rattle.draft.specs.Draft.{Drafts}
 use Rattle.draft.specs.Made.{mostNumber}
 use Rattle.one_rule.specs.Place.{FormulaAt, ProofAt}
-use Rattle.one_rule.specs.Puts.{Open, Put}
-use Rattle.one_rule.specs.declared.Drafted.{Drafted}
-use Rattle.one_rule.proofs.Drafted as D
-use Rattle.one_rule.proofs.Drafted.Laws as D′
-use Rattle.one_rule.proofs.puts.put_pair as pair-of
-use Rattle.one_rule.proofs.puts.put_pair.Symbol as pair-def
-use Rattle.one_rule.proofs.puts.put_pair.Symbol.{name as #pair}
-use Rattle.one_rule.proofs.puts.put_pair.Met as pair-thm
+use Rattle.draft_rows.specs.Puts.{Open, Put}
+use Rattle.draft_rows.specs.declared.Drafted.{Drafted}
+use Rattle.draft_rows.proofs.Drafted as D
+use Rattle.draft_rows.proofs.Drafted.Laws as D′
+use Rattle.draft_rows.proofs.put_pair as pair-of
+use Rattle.draft_rows.proofs.put_pair.Symbol as pair-def
+use Rattle.draft_rows.proofs.put_pair.Symbol.{name as #pair}
+use Rattle.draft_rows.proofs.put_pair.Met as pair-thm
 use Rattle.entries.specs.declared.CutEntry.{CutEntry}
 use Rattle.entries.specs.Entries.{none}
 use Rattle.entries.proofs.CutEntry as T
@@ -1746,7 +1746,7 @@ module _ {M : Type 1} (𝓤 : URA M) (H : Heap 𝓤) (A : Atoms 𝓤) (W : Given
           drop ! $ split ! $ move ! (1 ∷ []) $ split ! $ move ! (1 ∷ []) $ move ! (2 ∷ 1 ∷ 0 ∷ []) $ rewrite ! 1 (λ (l : List CutEntry). P-cs l) (e0 .1 .1 .0) refl $
           assigns ! (addr ! (from ! (fld ! refl (hop ! (look-in ! 27 (sub ! 0 refl (whole !))) (stop !))))) (from ! (stop !)) (init ! 13 refl (tt, tt)) $
           assigns ! (agg ! (and-then ! (load ! (from ! (stop !)) (look ! 13 refl)) (and-then ! (load ! (from ! (fld ! refl (stop !))) (look-in ! 27 (sub ! 1 refl (whole !)))) (no-more !)))) (from ! (stop !)) (init ! 11 refl (tt, (tt, (record { fits = room-ws .0 }, tt)))) $
-          -- one_rule::puts::put_pair
+          -- draft_rows::put_pair
           move ! (2 ∷ []) $ use1 W (later (some (λ (p1 : Names). raw (PairC 𝓤 H A mem run .pre (to-pair p1 (r0 .1 .1) (d .part) (r0 .0))) ⊛ ‵ (Kept-pair p1 (r0 .1 .1))))) (before-pair (r0 .1 .1) (d .part) (r0 .0) (e0 .1 .0) (part-fits d g-d) (draft-is (r0 .0) is0) (pair-opens began (eqb→eq (g .act) 4 h0) (e0 .1 .1 .1) (e0 .1 .0 ∙ sym e0-ws ∙ began .long))) $ await ! tt $ pick ! (λ p1. split ! $
           calls-at ! fm (PairC 𝓤 H A mem run) known-pair (to-pair p1 (r0 .1 .1) (d .part) (r0 .0)) (and-then ! (load ! (from ! (fld ! refl (stop !))) (look-in ! 34 (sub ! 3 refl (whole !)))) (and-then ! (load ! (from ! (stop !)) (look ! 26 refl)) (and-then ! (load ! (from ! (stop !)) (look ! 12 refl)) (no-more !)))) (λ v1.
           use2 W (later (some (λ (r1 : Drafted × List (ℕ)). given ((length (r1 .1) ≡ m-ws) × (((s : Bytes) → (a : Term) → (b : Term) → Drafts s (r0 .1 .1) ((r0 .0) .used) (d .part) a → Drafts s (r0 .1 .1) ((r0 .0) .used) ((r0 .0) .part) b → Put s (r0 .1 .1) (r1 .1) ((r0 .0) .used) ((r0 .0) .counter) ((r0 .0) .next) (two pair a b, (r0 .0) .counter) (r1 .0)))) (‵ (D.the-row .own (r1 .0) (v1 ∷ [])) ⊛ P-ws (r1 .1))))) (after-pair p1 (r0 .1 .1) (d .part) (r0 .0) v1 (e0 .1 .0)) $ await ! tt $ pick ! (λ r1. learn ! (λ e1. split ! $
@@ -2068,7 +2068,7 @@ unfolding code.draft-consumer-routine code.draft-inside-routine code.draft-premi
     let known-plan : Triple 𝓤 (𝓣 .C #plan) (PlanC 𝓤 H (𝓖 .A) (𝓜 .mem) (𝓡 .run)) = cited 𝓤 H (PlanC 𝓤 H (𝓖 .A) (𝓜 .mem) (𝓡 .run)) 𝓜 𝓡 code.env #plan plan-def.routine code.calls-planning·plan·plan-at (plan-thm.met 𝓤 H 𝓜 𝓖 𝓡) in
     let known-alone : Triple 𝓤 (𝓣 .C #alone) (AloneC 𝓤 H (𝓖 .A) (𝓜 .mem) (𝓡 .run)) = cited 𝓤 H (AloneC 𝓤 H (𝓖 .A) (𝓜 .mem) (𝓡 .run)) 𝓜 𝓡 code.env #alone alone-def.routine code.calls-drafting·draft-alone (alone-thm.met 𝓤 H 𝓜 𝓖 𝓡) in
     let known-first : Triple 𝓤 (𝓣 .C #first) (FirstC 𝓤 H (𝓖 .A) (𝓜 .mem) (𝓡 .run)) = cited 𝓤 H (FirstC 𝓤 H (𝓖 .A) (𝓜 .mem) (𝓡 .run)) 𝓜 𝓡 code.env #first first-def.routine code.calls-planning·put·put-first (first-thm.met 𝓤 H 𝓜 𝓖 𝓡) in
-    let known-pair : Triple 𝓤 (𝓣 .C #pair) (PairC 𝓤 H (𝓖 .A) (𝓜 .mem) (𝓡 .run)) = cited 𝓤 H (PairC 𝓤 H (𝓖 .A) (𝓜 .mem) (𝓡 .run)) 𝓜 𝓡 code.env #pair pair-def.routine code.calls-one-rule·puts·put-pair (pair-thm.met 𝓤 H 𝓜 𝓖 𝓡) in
+    let known-pair : Triple 𝓤 (𝓣 .C #pair) (PairC 𝓤 H (𝓖 .A) (𝓜 .mem) (𝓡 .run)) = cited 𝓤 H (PairC 𝓤 H (𝓖 .A) (𝓜 .mem) (𝓡 .run)) 𝓜 𝓡 code.env #pair pair-def.routine code.calls-draft-rows·put-pair (pair-thm.met 𝓤 H 𝓜 𝓖 𝓡) in
     let known-of : Triple 𝓤 (𝓣 .C #of) (OfC 𝓤 H (𝓖 .A) (𝓜 .mem) (𝓡 .run)) = cited 𝓤 H (OfC 𝓤 H (𝓖 .A) (𝓜 .mem) (𝓡 .run)) 𝓜 𝓡 code.env #of of-def.routine code.calls-planning·entry-of (of-thm.met 𝓤 H 𝓜 𝓖 𝓡) in
     let known-swap : Triple 𝓤 (𝓣 .C #swap) (SwapC 𝓤 H (𝓖 .A) (𝓜 .mem) (𝓡 .run)) = cited 𝓤 H (SwapC 𝓤 H (𝓖 .A) (𝓜 .mem) (𝓡 .run)) 𝓜 𝓡 code.env #swap swap-def.routine code.calls-drafting·swap-entry (swap-thm.met 𝓤 H 𝓜 𝓖 𝓡) in
     let known-put : Triple 𝓤 (𝓣 .C #put) (PutC 𝓤 H (𝓖 .A) (𝓜 .mem) (𝓡 .run)) = cited 𝓤 H (PutC 𝓤 H (𝓖 .A) (𝓜 .mem) (𝓡 .run)) 𝓜 𝓡 code.env #put put-def.routine code.calls-entries·put-entry (put-thm.met 𝓤 H 𝓜 𝓖 𝓡) in
