@@ -3,7 +3,7 @@ use Prim.Native.Nat.{ℕ, zero, suc, _+_, _*_, _^_, _<_}
 use mathlib.Core.Path.{_≡_}
 use mathlib.Core.List.{List}
 use lib.ListN.{length, getD}
-use Rattle.rules.specs.Basic.{Bytes}
+use Rattle.rules.specs.Basic.{Bytes, if_then_else_, _==_}
 use Rattle.rules.specs.Term.{Term}
 use Rattle.draft.specs.Draft.{rowAt, Rows, Drafts, shaped, shapeOf}
 
@@ -15,6 +15,10 @@ either a b (suc i) = b
 -- the term that a row makes of its two parts
 abbrev pub made : Bytes → (kind : ℕ) (a b : Term) (number stem : ℕ) → Term
 made s kind a b number stem = shaped s (record { kind = kind; first = 0; second = 1; number = number; stem = stem }) (either a b) (shapeOf kind)
+
+-- a row over a term, or none where the kind is 12; it may count names from n on
+abbrev pub over : Bytes → (kind n : ℕ) → Term → Term
+over s k n t = if k == 12 then t else made s k t t n 0
 
 -- two lists whose first n rows are the same
 abbrev pub Same : (n : ℕ) → List ℕ → List ℕ → Type 0

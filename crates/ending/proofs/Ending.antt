@@ -2,13 +2,13 @@
 -- Assumes nothing.
 use Prim.Native.Nat.{ℕ, _+_, _<_, _≤_}
 use mathlib.Core.Path.{_≡_, refl, sym, ap, subst, _∙_}
-use mathlib.Core.Bool.{Bool, true, false, not, _&&_, _||_}
+use mathlib.Core.Bool.{Bool, true, false, not, _&&_}
 use mathlib.Core.List.{List, []}
 use native.Mathlib.Omega.{arith}
 use lib.Dec.{T}
 use lib.ListN.{length, replicate, length-replicate}
-use borrow.Author.Tests.{le-leb, lt-leb, ne-eqb}
-use Rattle.rules.specs.Basic.{Bytes, if_then_else_, _≤?_, _==_}
+use borrow.Author.Tests.{lt-leb}
+use Rattle.rules.specs.Basic.{Bytes, if_then_else_, _≤?_}
 use Rattle.rules.specs.Limits.{limits, entryRoom, mostCounter}
 use Rattle.rules.specs.Proof.{Proof, rules}
 use Rattle.rules.specs.Reading.{readProof}
@@ -18,7 +18,7 @@ use Rattle.rules.specs.declared.Answer.the-variants.{Good, Refused as Bad}
 use Rattle.laws.specs.Octets.{Octets}
 use Rattle.laws.specs.Numbers.{proof-spares}
 use Rattle.proof.specs.Accepted.{refuses-proof}
-use Rattle.one_rule.specs.declared.Drafted.{Drafted}
+use Rattle.draft_rows.specs.declared.Drafted.{Drafted}
 use Rattle.planning.specs.Walk.{Done, Starts, Ends}
 use Rattle.own_row.specs.Whole.{Whole}
 use Rattle.own_row.proofs.Starting.{whole-starts, whole-ends}
@@ -32,9 +32,9 @@ use Rattle.extract.proofs.Calling.{short-output, short-scratch, bad-proof, read
 use Rattle.extract.specs.declared.Extraction.{Extraction}
 use Rattle.extract.specs.declared.Extraction.the-variants.{Made, Refused}
 use Rattle.entries.specs.declared.CutEntry.{CutEntry}
-use Rattle.ending.specs.declared.Ended.{Ended}
+use Rattle.ended.specs.declared.Ended.{Ended}
 use Rattle.entries.specs.Entries.{none, zeroed, pairs}
-use Rattle.ending.specs.Ending.{clearsOf, endedOf, Extracts, Beside, Alone, Walks, Begins, Closes}
+use Rattle.ending.specs.Ending.{endedOf, Extracts, Beside, Alone, Walks, Begins, Closes}
 use Rattle.entries.proofs.Filling.{zeroed-all, length-pairs, pairs-zeroed}
 
 few-of : (b : Bool) (m : ℕ) → (if b then 0 else m) ≤ m
@@ -95,16 +95,6 @@ module _ (n : ℕ) (p out scratch : Bytes) where
           counts = ap (λ (z : Ended). z .counter) w ∙ counter-is (X .answer) (proofOutcome limits n p) n (length es);
         },
       )
-
--- which numbers spare the row
-pub spares-low : (k m : ℕ) → k < 8 → 0 ≡ clearsOf k m
-spares-low k m h = let i : k ≤ 7 = omega (arith, h) in sym (ap (λ (b : Bool). if b || (k == 9) then 0 else m) (le-leb k 7 i))
-
-pub spares-nine : (k m : ℕ) → k ≡ 9 → 0 ≡ clearsOf k m
-spares-nine k m e = sym (ap (λ (j : ℕ). clearsOf j m) e)
-
-pub spares-not : (k m : ℕ) → 8 ≤ k → (k ≡ 9 → ⊥) → m ≡ clearsOf k m
-spares-not k m h n = let i : 7 < k = omega (arith, h) in sym (ap (λ (b : Bool). if b || (k == 9) then 0 else m) (lt-leb k 7 i) ∙ ap (λ (b : Bool). if b then 0 else m) (ne-eqb k 9 n))
 
 -- the same, over the row itself
 over-row : (n : ℕ) (p out scratch : Bytes) {m : ℕ} (r : Ended) {out′ scratch′ : Bytes} (ys : List CutEntry) → length ys ≡ m → Beside n p out scratch m r out′ scratch′ → (zs : List CutEntry) → zs ≡ zeroed none (r .clears) ys

@@ -5,10 +5,9 @@ use mathlib.Core.Path.{_≡_}
 use mathlib.Core.Bool.{true, false}
 use mathlib.Core.List.{List, []}
 use lib.ListN.{length}
-use Rattle.rules.specs.Basic.{Bytes, if_then_else_}
-use Rattle.rules.specs.Refusal.{answered, sparesScratch}
+use Rattle.rules.specs.Basic.{Bytes}
+use Rattle.rules.specs.Refusal.{answered}
 use Rattle.rules.specs.declared.Answer.{Answer}
-use Rattle.rules.specs.declared.Answer.the-variants.{Good, Refused as Bad}
 use Rattle.rules.specs.Limits.{limits, entryRoom, mostCounter}
 use Rattle.rules.specs.Term.{Term}
 use Rattle.rules.specs.Proof.{Proof}
@@ -18,15 +17,12 @@ use Rattle.entries.specs.Entries.{zeroed}
 use Rattle.extract.specs.Whole.{extraction, Finished, Checked}
 use Rattle.extract.specs.declared.Extraction.{Extraction}
 use Rattle.extract.specs.declared.Extraction.the-variants.{Made, Refused}
-use Rattle.ending.specs.declared.Ended.{Ended}
-
--- a refusal by 1 to 7 or 9 leaves the row untouched
-abbrev pub clearsOf : (number room : ℕ) → ℕ
-clearsOf number room = if sparesScratch number then 0 else room
+use Rattle.ended.specs.Ends.{madeEnd, refusedEnd}
+use Rattle.ended.specs.declared.Ended.{Ended}
 
 abbrev pub endedOf : Extraction → (before room : ℕ) → Ended
-endedOf (Made b n) before room = record { answer = Good b; counter = n; clears = room; goes = false }
-endedOf (Refused q) before room = record { answer = Bad q; counter = before; clears = clearsOf (q .number) room; goes = false }
+endedOf (Made b n) before room = madeEnd b n room
+endedOf (Refused q) before room = refusedEnd q before room
 
 -- the answer, the output, the scratch, the entries and the counter are those of x
 pub record Extracts (x : Extracted) (r : Answer) (out scratch : Bytes) (entries : List Entry) (counter : ℕ) : Type 0 where

@@ -6,91 +6,43 @@ ghost use Rattle.rules.specs.Proof.{Proof};
 ghost use Rattle.rules.specs.Extraction.{terms, extract as extractOf};
 ghost use Rattle.planning.specs.Walk.{Done};
 ghost use Rattle.extract.specs.Whole.{Checked};
-ghost use Rattle.extract.specs.declared.Extraction.the-variants.{Refused};
-ghost use Rattle.ending.specs.Ending.{clearsOf, endedOf, Begins, Closes};
+ghost use Rattle.ending.specs.Ending.{endedOf, Begins, Closes};
+use draft_rows::Drafted;
+use ended::Ended;
 use extract::Extraction;
 use extract::finish;
-use one_rule::Drafted;
 use rules::Answer;
-use rules::ENTRY_ROOM;
 use rules::OUTPUT_ROOM;
-use rules::Refusal;
 use rules::SCRATCH_ROOM;
-
-// How an extraction ends: its answer, the counter after it, and how many entries of the row are set to zeros; or that it goes on.
-pub struct Ended {
-    pub answer: Answer,
-    pub counter: u32,
-    pub clears: usize,
-    pub goes: bool,
-}
-
-// How many entries a refusal sets to zeros: none by 1 to 7 and 9, else all.
-fn clears(number: u8, room: usize) -> usize
-    ensures { λ r. ⌜ r ≡ clearsOf number room ⌝ }
-{
-    if number < 8 {
-        return 0;
-    }
-    if number == 9 {
-        return 0;
-    }
-    room
-}
 
 // How an extraction ends, beside a row of so many entries.
 fn end_of(made: Extraction, before: u32, room: usize) -> Ended
     ensures { λ r. ⌜ r ≡ endedOf made before room ⌝ }
 {
     match made {
-        Extraction::Made { bytes, counter } => Ended {
-            answer: Answer::Good(bytes),
-            counter,
-            clears: room,
-            goes: false,
-        },
-        Extraction::Refused(r) => Ended {
-            answer: Answer::Refused(r),
-            counter: before,
-            clears: clears(r.number, room),
-            goes: false,
-        },
+        Extraction::Made { bytes, counter } => ended::made(bytes, counter, room),
+        Extraction::Refused(r) => ended::refused(r, before, room),
     }
-}
-
-// A refusal that is about no place of an input.
-fn stopped(number: u8, before: u32, room: usize) -> Ended
-    ensures { λ r. ⌜ r ≡ endedOf (Refused (record { number = number; place = 0; input = 0 })) before room ⌝ }
-{
-    end_of(
-        Extraction::Refused(Refusal {
-            number,
-            place: 0,
-            input: 0,
-        }),
-        before,
-        room,
-    )
 }
 
 // What is refused before anything is walked. A counter that is over the most stays so.
 pub fn begin(counter: u32, room: usize, proof: &[u8], out: &[u8], scratch: &[u8]) -> Ended
     ensures { λ r. ⌜ Begins counter room (now (proof .entry)) (now (out .entry)) (now (scratch .entry)) r ⌝ }
 {
-    if room < ENTRY_ROOM {
-        return stopped(1, counter, room);
+    if ended::short_row(room) {
+        return ended::stopped(1, counter, room);
     }
     if out.len() < OUTPUT_ROOM {
-        return stopped(1, counter, room);
+        return ended::stopped(1, counter, room);
     }
     if scratch.len() < SCRATCH_ROOM {
-        return stopped(1, counter, room);
+        return ended::stopped(1, counter, room);
     }
     match proof::proof_input(proof, 1) {
-        Answer::Refused(r) => end_of(Extraction::Refused(r), counter, room),
+        Answer::Refused(r) => ended::refused(r, counter, room),
         Answer::Good(rules) => {
             if 100_000_000 < counter {
-                return stopped(9, counter, room);
+                return ended::stopped(9, counter, room);
             }
             Ended {
                 answer: Answer::Good(rules),

@@ -20,7 +20,7 @@ use Rattle.draft.specs.Draft.{Drafts}
 use Rattle.draft.specs.Made.{Small}
 use Rattle.draft_term.specs.Measured.{Countable}
 use Rattle.draft_term.specs.Writing.{Writable}
-use Rattle.one_rule.specs.declared.Drafted.{Drafted}
+use Rattle.draft_rows.specs.declared.Drafted.{Drafted}
 use Rattle.extract.specs.declared.Extraction.{Extraction}
 use Rattle.extract.specs.declared.Extraction.the-variants.{Made}
 use Rattle.extract.specs.Whole.{decided, outcome, told, Finishes, Finished}

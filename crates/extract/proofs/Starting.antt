@@ -14,7 +14,7 @@ use Rattle.rules.specs.Proof.{Proof, encodeProof}
 use Rattle.rules.specs.Extraction.{terms, extract}
 use Rattle.rules.specs.Buffers.{filled, cleared}
 use Rattle.rules.specs.Calls.{extractEnding}
-use Rattle.one_rule.specs.declared.Drafted.{Drafted}
+use Rattle.draft_rows.specs.declared.Drafted.{Drafted}
 use Rattle.planning.specs.Walk.{Done}
 use Rattle.own_row.specs.Whole.{Whole}
 use Rattle.extract.specs.Legals.{extract-fine}

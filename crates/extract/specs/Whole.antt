@@ -16,7 +16,7 @@ use Rattle.rules.specs.Calls.{extractEnding}
 use Rattle.laws.specs.DecodingProof.{ProofIn}
 use Rattle.draft.specs.Draft.{Drafts}
 use Rattle.draft.specs.Made.{Small}
-use Rattle.one_rule.specs.declared.Drafted.{Drafted}
+use Rattle.draft_rows.specs.declared.Drafted.{Drafted}
 use Rattle.extract.specs.declared.Extraction.{Extraction}
 use Rattle.extract.specs.declared.Extraction.the-variants.{Made, Refused}
 

@@ -30,17 +30,17 @@ use denote.Triple.Walked.{says}
 use denote.Struct.Laws as LL
 use Rattle.rules.specs.Proof.{Proof}
 use Rattle.rules.specs.Extraction.{terms, extract}
-use Rattle.one_rule.specs.declared.Drafted.{Drafted}
-use Rattle.one_rule.proofs.Drafted as D
-use Rattle.one_rule.proofs.Drafted.Laws as D′
+use Rattle.draft_rows.specs.declared.Drafted.{Drafted}
+use Rattle.draft_rows.proofs.Drafted as D
+use Rattle.draft_rows.proofs.Drafted.Laws as D′
 use Rattle.entries.specs.declared.CutEntry.{CutEntry}
 use Rattle.entries.proofs.Row.{R}
 use Rattle.entries.proofs.Lent.{KeptRow, KeptShared, lend-row, row-back, share-row, shared-back}
 use Rattle.planning.specs.Walk.{Done}
 use Rattle.extract.specs.Whole.{Checked}
-use Rattle.ending.specs.declared.Ended.{Ended}
+use Rattle.ended.specs.declared.Ended.{Ended}
 use Rattle.ending.specs.Ending.{Closes}
-use Rattle.ending.proofs.Ended as K
+use Rattle.ended.proofs.Ended as K
 use Rattle.entries.specs.Entries.{none, zeroed}
 use Rattle.ending.proofs.start_of as start-of
 use Rattle.ending.proofs.close as close-of

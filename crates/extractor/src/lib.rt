@@ -11,7 +11,7 @@ ghost use Rattle.entries.specs.Entries.{none, zeroed, pairs};
 ghost use Rattle.extract.specs.Whole.{Checked};
 ghost use Rattle.ending.specs.Ending.{Extracts, Closes};
 use drafting::draft_rule;
-use ending::Ended;
+use ended::Ended;
 use ending::begin;
 use ending::close;
 use ending::start_of;

@@ -2,5 +2,3 @@
 pub mod Items
 pub mod Formulas
 pub mod Rules
-pub mod Acting
-pub mod Putting

@@ -15,7 +15,7 @@ use Rattle.laws.specs.WrittenProof.{headOf, head-at, carried, rule-bytes}
 use Rattle.walk.proofs.Names.{drop-app, head-byte, long}
 use Rattle.one_rule.specs.Place.{FormulaAt, FormulasAt, ProofAt, formulasLong}
 use Rattle.one_rule.specs.Shape.{ruleOf, linearOf, premisesOf, listed, ruleTag, proofHead, Sees}
-use Rattle.one_rule.specs.declared.look.Looked.{Looked}
+use Rattle.one_rule.specs.declared.Looked.{Looked}
 use Rattle.one_rule.proofs.Items.{Spelt, Some, SkipIs, skip-one, at-bytes, at-inside, some-alone}
 
 -- ---- a proof is its head, then its premises

@@ -1,4 +1,2 @@
 pub mod Place
 pub mod Shape
-pub mod Acts
-pub mod Puts

@@ -11,7 +11,7 @@ use Rattle.laws.specs.Lists.{joined}
 use Rattle.laws.specs.WrittenProof.{tagOfRule, headOf, carried}
 use Rattle.walk.specs.Node.{packed}
 use Rattle.walk.specs.declared.Row.{Row}
-use Rattle.one_rule.specs.declared.look.Looked.{Looked}
+use Rattle.one_rule.specs.declared.Looked.{Looked}
 
 abbrev pub formulaTag : Formula → ℕ
 formulaTag (atom k x) = signTag k

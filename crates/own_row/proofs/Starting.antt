@@ -8,7 +8,7 @@ use lib.ListN.{length}
 use Rattle.rules.specs.Basic.{Bytes}
 use Rattle.rules.specs.Proof.{Proof}
 use Rattle.draft.specs.Steady.{rows-none, small-none}
-use Rattle.one_rule.specs.declared.Drafted.{Drafted}
+use Rattle.draft_rows.specs.declared.Drafted.{Drafted}
 use Rattle.entries.specs.declared.CutEntry.{CutEntry}
 use Rattle.planning.specs.Walk.{Task, Done, Starts, Ends}
 use Rattle.own_row.specs.Whole.{Whole}

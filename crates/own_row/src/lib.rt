@@ -4,9 +4,9 @@ ghost use mathlib.Core.List.{[]};
 ghost use Rattle.rules.specs.Proof.{Proof};
 ghost use Rattle.planning.specs.Walk.{Done};
 ghost use Rattle.own_row.specs.Whole.{Whole};
+use draft_rows::Drafted;
 use drafting::draft_rule;
 use entries::CutEntry;
-use one_rule::Drafted;
 
 // A proof of few rules. An array is set to zeros where it is made, so that a row for the most rules would cost more than the work.
 pub fn draft_few(s: &[u8], rows: &mut [usize], counter: usize) -> Drafted

@@ -11,8 +11,8 @@ use Rattle.rules.specs.Extraction.{terms, identity}
 use Rattle.draft.specs.Draft.{nameOf}
 use Rattle.draft.specs.Made.{made, mostNumber, Added}
 use Rattle.draft.specs.Steady.{drafts-unit}
-use Rattle.one_rule.specs.Puts.{Open, Put}
-use Rattle.one_rule.proofs.Putting.{put-is, put-new}
+use Rattle.draft_rows.specs.Puts.{Open, Put}
+use Rattle.draft_rows.proofs.Putting.{put-is, put-new}
 use Rattle.seeking.specs.Searching.{nameSaid}
 use Rattle.seeking.specs.declared.Search.{Search}
 

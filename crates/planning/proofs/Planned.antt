@@ -12,15 +12,15 @@ use Rattle.rules.specs.Term.{Term, leaf, unit, two, pair}
 use Rattle.rules.specs.Proof.{Proof, encodeProof}
 use Rattle.rules.specs.Extraction.{terms, Entries, identity, axiomName, joined}
 use Rattle.draft.specs.Draft.{Drafts}
-use Rattle.draft.specs.Made.{made, mostNumber}
+use Rattle.draft.specs.Made.{made, mostNumber, over}
 use Rattle.one_rule.specs.Place.{FormulaAt, ProofAt}
 use Rattle.one_rule.specs.Shape.{Sees}
-use Rattle.one_rule.specs.Acts.{Does, over}
-use Rattle.one_rule.specs.Puts.{Open, Put}
-use Rattle.one_rule.specs.declared.Drafted.{Drafted}
-use Rattle.one_rule.specs.declared.look.Looked.{Looked}
-use Rattle.one_rule.specs.declared.act.Act.{Act}
-use Rattle.one_rule.specs.declared.act.Act.the-variants.{Leaf, Bare, Axiom, First, Pair, Cut}
+use Rattle.acts.specs.Acts.{Does}
+use Rattle.draft_rows.specs.Puts.{Open, Put}
+use Rattle.draft_rows.specs.declared.Drafted.{Drafted}
+use Rattle.one_rule.specs.declared.Looked.{Looked}
+use Rattle.acts.specs.declared.Act.{Act}
+use Rattle.acts.specs.declared.Act.the-variants.{Leaf, Bare, Axiom, First, Pair, Cut}
 use Rattle.one_rule.proofs.Items.{Some, SkipIs}
 use Rattle.entries.specs.declared.CutEntry.{CutEntry}
 use Rattle.seeking.specs.Entry.{EntriesAt, inRow}

@@ -12,13 +12,12 @@ use Rattle.rules.specs.Proof.{Proof, encodeProof}
 use Rattle.rules.specs.Extraction.{terms, Entries, fresh, stemFor, extract, joined}
 use Rattle.laws.specs.Lists.{joined as row}
 use Rattle.draft.specs.Draft.{Drafts}
-use Rattle.draft.specs.Made.{mostNumber, Small}
+use Rattle.draft.specs.Made.{mostNumber, over, Small}
 use Rattle.one_rule.specs.Place.{FormulaAt, ProofsAt, proofsLong}
 use Rattle.seeking.specs.Entry.{EntriesAt}
-use Rattle.one_rule.specs.Acts.{over}
-use Rattle.one_rule.specs.Puts.{Open, Put}
+use Rattle.draft_rows.specs.Puts.{Open, Put}
 use Rattle.planning.specs.Walk.{Task, Premises, Past, Starts, Ends, overFirst, pairOf, cutOf}
-use Rattle.one_rule.specs.declared.Drafted.{Drafted}
+use Rattle.draft_rows.specs.declared.Drafted.{Drafted}
 use Rattle.entries.specs.declared.CutEntry.{CutEntry}
 use Rattle.one_rule.proofs.Items.{Some, SkipIs, first, others}
 

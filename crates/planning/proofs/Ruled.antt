@@ -17,13 +17,13 @@ use Rattle.one_rule.specs.Place.{FormulaAt, FormulasAt, ProofAt, ProofsAt, proo
 use Rattle.one_rule.specs.Shape.{listed, Sees}
 use Rattle.entries.specs.declared.CutEntry.{CutEntry}
 use Rattle.seeking.specs.Entry.{EntriesAt}
-use Rattle.one_rule.specs.Acts.{leafAt, Leaves, Bares, Names, Overs, Pairs, Cuts, Acts, Does}
-use Rattle.one_rule.specs.Puts.{Open, Put}
+use Rattle.acts.specs.Acts.{leafAt, Leaves, Bares, Names, Overs, Pairs, Cuts, Acts, Does}
+use Rattle.draft_rows.specs.Puts.{Open, Put}
 use Rattle.planning.specs.Walk.{Task, Done, Premises, Past, Starts, overFirst, pairOf, cutOf}
-use Rattle.one_rule.specs.declared.Drafted.{Drafted}
-use Rattle.one_rule.specs.declared.look.Looked.{Looked}
-use Rattle.one_rule.specs.declared.act.Act.{Act}
-use Rattle.one_rule.specs.declared.act.Act.the-variants.{Leaf, Bare, Axiom, First, Pair, Cut}
+use Rattle.draft_rows.specs.declared.Drafted.{Drafted}
+use Rattle.one_rule.specs.declared.Looked.{Looked}
+use Rattle.acts.specs.declared.Act.{Act}
+use Rattle.acts.specs.declared.Act.the-variants.{Leaf, Bare, Axiom, First, Pair, Cut}
 use Rattle.one_rule.proofs.Items.{Some, SkipIs, at-parts, at-inside, apart-size}
 use Rattle.one_rule.proofs.Rules.{proofs-spelt, linear-many, linear-inside, formulas-here, cut-formula}
 use Rattle.planning.proofs.Premised.{FirstOf, TwoOf, CutOf}

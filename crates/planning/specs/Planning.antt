@@ -7,11 +7,11 @@ use Rattle.rules.specs.Basic.{Bytes}
 use Rattle.rules.specs.Proof.{Proof}
 use Rattle.one_rule.specs.Place.{ProofAt}
 use Rattle.one_rule.specs.Shape.{Sees}
-use Rattle.one_rule.specs.Acts.{Does}
-use Rattle.one_rule.specs.declared.Drafted.{Drafted}
-use Rattle.one_rule.specs.declared.look.Looked.{Looked}
-use Rattle.one_rule.specs.declared.act.Act.{Act}
-use Rattle.one_rule.specs.declared.act.Act.the-variants.{Leaf, Bare, Axiom, First, Pair, Cut}
+use Rattle.acts.specs.Acts.{Does}
+use Rattle.draft_rows.specs.declared.Drafted.{Drafted}
+use Rattle.one_rule.specs.declared.Looked.{Looked}
+use Rattle.acts.specs.declared.Act.{Act}
+use Rattle.acts.specs.declared.Act.the-variants.{Leaf, Bare, Axiom, First, Pair, Cut}
 use Rattle.entries.specs.declared.CutEntry.{CutEntry}
 use Rattle.planning.specs.Walk.{Starts, Ends}
 use Rattle.planning.specs.declared.plan.Plan.{Plan}

@@ -10,10 +10,9 @@ use Rattle.rules.specs.Proof.{Proof, rules, encodeProof}
 use Rattle.rules.specs.Extraction.{terms, Entries, extract, paired, cutting}
 use Rattle.laws.specs.Lists.{total}
 use Rattle.draft.specs.Draft.{Rows, Drafts}
-use Rattle.draft.specs.Made.{Small}
+use Rattle.draft.specs.Made.{over, Small}
 use Rattle.one_rule.specs.Place.{ProofAt, ProofsAt, proofsLong}
-use Rattle.one_rule.specs.Acts.{over}
-use Rattle.one_rule.specs.declared.Drafted.{Drafted}
+use Rattle.draft_rows.specs.declared.Drafted.{Drafted}
 use Rattle.entries.specs.declared.CutEntry.{CutEntry}
 use Rattle.seeking.specs.Entry.{EntriesAt}
 

@@ -3,10 +3,10 @@ ghost use mathlib.Core.Path.{_≡_};
 ghost use Rattle.rules.specs.Proof.{Proof};
 ghost use Rattle.one_rule.specs.Place.{ProofAt};
 ghost use Rattle.planning.specs.Planning.{planOf, Planned};
-use one_rule::act::Act;
-use one_rule::act::act_of;
-use one_rule::look::Looked;
-use one_rule::look::look_rule;
+use acts::Act;
+use acts::act_of;
+use one_rule::Looked;
+use one_rule::look_rule;
 
 // 0 a part with which a draft begins, 1 a row over Unit, 2 Axiom, 3 the first premise, 4 a pair, 5 a Cut; the part or the kind of the row, and
 // the names that are taken before the first premise.

@@ -10,18 +10,18 @@ ghost use Rattle.rules.specs.Extraction.{terms, identity, joined};
 ghost use Rattle.draft.specs.Draft.{Drafts};
 ghost use Rattle.draft.specs.Made.{mostNumber};
 ghost use Rattle.one_rule.specs.Place.{FormulaAt};
-ghost use Rattle.one_rule.specs.Puts.{Open, Put};
+ghost use Rattle.draft_rows.specs.Puts.{Open, Put};
 ghost use Rattle.entries.specs.declared.CutEntry.{CutEntry};
 ghost use Rattle.seeking.specs.Searching.{nameSaid, Takes};
 ghost use Rattle.planning.specs.Walk.{Starts, Ends};
 ghost use Rattle.planning.specs.Planning.{Planned, Began};
 use crate::plan::Plan;
 use draft::put_row;
-use one_rule::Drafted;
-use one_rule::look::skip_proofs;
-use one_rule::puts::put_bare;
-use one_rule::puts::put_join;
-use one_rule::puts::put_over;
+use draft_rows::Drafted;
+use draft_rows::put_bare;
+use draft_rows::put_join;
+use draft_rows::put_over;
+use one_rule::skip_proofs;
 use seeking::Search;
 
 // A rule that reads no premise: a part with which a draft begins, or a row over Unit.

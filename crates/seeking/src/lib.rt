@@ -14,7 +14,7 @@ ghost use Rattle.seeking.specs.Entry.{inRow};
 ghost use Rattle.seeking.specs.Searching.{nameSaid, Row, Takes, Seeks, weight};
 use entries::CutEntry;
 use entries::entry_at;
-use one_rule::look::skip_formulas;
+use one_rule::skip_formulas;
 
 // The atom, how many formulas there are from it on, and how many entries are left for it. With none left the search is over, and has a name or none.
 pub struct Search {

@@ -38,11 +38,11 @@ use denote.Triple.Statement.{Triple}
 use denote.Triple.Table.{cited}
 use denote.Triple.Walked.{needs, goes-none, goes-none-slice, goes-slice, walked-at, walk-meets-at}
 use denote.Struct.Laws as LL
-use Rattle.one_rule.proofs.Drafted as D
-use Rattle.one_rule.proofs.Drafted.Laws as D′
-use Rattle.one_rule.proofs.puts.put_pair.Symbol as pair-def
-use Rattle.one_rule.proofs.puts.put_pair.Symbol.{name as #pair}
-use Rattle.one_rule.proofs.puts.put_pair.Met as pair-thm
+use Rattle.draft_rows.proofs.Drafted as D
+use Rattle.draft_rows.proofs.Drafted.Laws as D′
+use Rattle.draft_rows.proofs.put_pair.Symbol as pair-def
+use Rattle.draft_rows.proofs.put_pair.Symbol.{name as #pair}
+use Rattle.draft_rows.proofs.put_pair.Met as pair-thm
 use Rattle.entries.proofs.CutEntry as T
 use Rattle.entries.proofs.CutEntry.Laws as T′
 use Rattle.entries.proofs.Row.{R}
@@ -135,7 +135,7 @@ unfolding code.draft-consumer-routine code.draft-inside-routine code.draft-premi
     let known-plan : Triple 𝓤 (𝓣 .C #plan) (PlanC 𝓤 H (𝓖 .A) (𝓜 .mem) (𝓡 .run)) = cited 𝓤 H (PlanC 𝓤 H (𝓖 .A) (𝓜 .mem) (𝓡 .run)) 𝓜 𝓡 code.env #plan plan-def.routine code.calls-planning·plan·plan-at (plan-thm.met 𝓤 H 𝓜 𝓖 𝓡) in
     let known-alone : Triple 𝓤 (𝓣 .C #alone) (AloneC 𝓤 H (𝓖 .A) (𝓜 .mem) (𝓡 .run)) = cited 𝓤 H (AloneC 𝓤 H (𝓖 .A) (𝓜 .mem) (𝓡 .run)) 𝓜 𝓡 code.env #alone alone-def.routine code.calls-drafting·draft-alone (alone-thm.met 𝓤 H 𝓜 𝓖 𝓡) in
     let known-first : Triple 𝓤 (𝓣 .C #first) (FirstC 𝓤 H (𝓖 .A) (𝓜 .mem) (𝓡 .run)) = cited 𝓤 H (FirstC 𝓤 H (𝓖 .A) (𝓜 .mem) (𝓡 .run)) 𝓜 𝓡 code.env #first first-def.routine code.calls-planning·put·put-first (first-thm.met 𝓤 H 𝓜 𝓖 𝓡) in
-    let known-pair : Triple 𝓤 (𝓣 .C #pair) (PairC 𝓤 H (𝓖 .A) (𝓜 .mem) (𝓡 .run)) = cited 𝓤 H (PairC 𝓤 H (𝓖 .A) (𝓜 .mem) (𝓡 .run)) 𝓜 𝓡 code.env #pair pair-def.routine code.calls-one-rule·puts·put-pair (pair-thm.met 𝓤 H 𝓜 𝓖 𝓡) in
+    let known-pair : Triple 𝓤 (𝓣 .C #pair) (PairC 𝓤 H (𝓖 .A) (𝓜 .mem) (𝓡 .run)) = cited 𝓤 H (PairC 𝓤 H (𝓖 .A) (𝓜 .mem) (𝓡 .run)) 𝓜 𝓡 code.env #pair pair-def.routine code.calls-draft-rows·put-pair (pair-thm.met 𝓤 H 𝓜 𝓖 𝓡) in
     let known-of : Triple 𝓤 (𝓣 .C #of) (OfC 𝓤 H (𝓖 .A) (𝓜 .mem) (𝓡 .run)) = cited 𝓤 H (OfC 𝓤 H (𝓖 .A) (𝓜 .mem) (𝓡 .run)) 𝓜 𝓡 code.env #of of-def.routine code.calls-planning·entry-of (of-thm.met 𝓤 H 𝓜 𝓖 𝓡) in
     let known-swap : Triple 𝓤 (𝓣 .C #swap) (SwapC 𝓤 H (𝓖 .A) (𝓜 .mem) (𝓡 .run)) = cited 𝓤 H (SwapC 𝓤 H (𝓖 .A) (𝓜 .mem) (𝓡 .run)) 𝓜 𝓡 code.env #swap swap-def.routine code.calls-drafting·swap-entry (swap-thm.met 𝓤 H 𝓜 𝓖 𝓡) in
     let known-put : Triple 𝓤 (𝓣 .C #put) (PutC 𝓤 H (𝓖 .A) (𝓜 .mem) (𝓡 .run)) = cited 𝓤 H (PutC 𝓤 H (𝓖 .A) (𝓜 .mem) (𝓡 .run)) 𝓜 𝓡 code.env #put put-def.routine code.calls-entries·put-entry (put-thm.met 𝓤 H 𝓜 𝓖 𝓡) in

@@ -47,10 +47,10 @@ use Rattle.entries.proofs.Row.{R}
 use Rattle.entries.proofs.Rules.{if-then, free-at}
 use Rattle.entries.proofs.Lent.{KeptRow, KeptShared, lend-row, row-back, share-row, shared-back}
 use Rattle.extract.specs.Whole.{Checked}
-use Rattle.ending.specs.declared.Ended.{Ended}
+use Rattle.ended.specs.declared.Ended.{Ended}
 use Rattle.ending.specs.Ending.{Extracts, Begins, Closes}
-use Rattle.ending.proofs.Ended as K
-use Rattle.ending.proofs.Ended.Laws as K′
+use Rattle.ended.proofs.Ended as K
+use Rattle.ended.proofs.Ended.Laws as K′
 use Rattle.ending.proofs.Ending.{walk-needs, walk-gives, stop-gives}
 use Rattle.ending.proofs.begin as begin-of
 use Rattle.ending.proofs.begin.Symbol as begin-def

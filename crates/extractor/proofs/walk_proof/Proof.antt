@@ -39,9 +39,9 @@ use denote.Triple.Walked.{says, needs, Stays, stay-none, stay-none-slice, stay-s
 use denote.Struct.Laws as LL
 use Rattle.rules.specs.Proof.{Proof}
 use Rattle.rules.specs.Extraction.{terms, extract}
-use Rattle.one_rule.specs.declared.Drafted.{Drafted}
-use Rattle.one_rule.proofs.Drafted as D
-use Rattle.one_rule.proofs.Drafted.Laws as D′
+use Rattle.draft_rows.specs.declared.Drafted.{Drafted}
+use Rattle.draft_rows.proofs.Drafted as D
+use Rattle.draft_rows.proofs.Drafted.Laws as D′
 use Rattle.entries.specs.declared.CutEntry.{CutEntry}
 use Rattle.entries.proofs.Row.{R}
 use Rattle.entries.proofs.Rules.{free-at}
@@ -53,10 +53,10 @@ use Rattle.own_row.proofs.Locals.{big-lit, row-typed, Away, lend-local, local-b
 use Rattle.own_row.proofs.Walking as walking
 use Rattle.own_row.proofs.Walking.{Names}
 use Rattle.extract.specs.Whole.{Checked}
-use Rattle.ending.specs.declared.Ended.{Ended}
+use Rattle.ended.specs.declared.Ended.{Ended}
 use Rattle.ending.specs.Ending.{Closes}
-use Rattle.ending.proofs.Ended as K
-use Rattle.ending.proofs.Ended.Laws as K′
+use Rattle.ended.proofs.Ended as K
+use Rattle.ended.proofs.Ended.Laws as K′
 use Rattle.ending.proofs.Ending.{noRows, walk-starts, walk-done, closes-few}
 use Rattle.entries.specs.Entries.{none, zeroed}
 use Rattle.extractor.proofs.Closing as closing

@@ -28,11 +28,11 @@ use Rattle.rules.specs.Term.{Term, two, pair}
 use Rattle.rules.specs.Proof.{Proof}
 use Rattle.draft.specs.Draft.{Drafts}
 use Rattle.one_rule.specs.Place.{ProofAt}
-use Rattle.one_rule.specs.Puts.{Open, Put}
-use Rattle.one_rule.specs.declared.Drafted.{Drafted}
-use Rattle.one_rule.proofs.Drafted as D
-use Rattle.one_rule.proofs.Drafted.Laws as D′
-use Rattle.one_rule.proofs.puts.put_pair as pair-of
+use Rattle.draft_rows.specs.Puts.{Open, Put}
+use Rattle.draft_rows.specs.declared.Drafted.{Drafted}
+use Rattle.draft_rows.proofs.Drafted as D
+use Rattle.draft_rows.proofs.Drafted.Laws as D′
+use Rattle.draft_rows.proofs.put_pair as pair-of
 use Rattle.entries.specs.declared.CutEntry.{CutEntry}
 use Rattle.entries.proofs.Row.{R}
 use Rattle.entries.proofs.Lent.{KeptRow, KeptShared, lend-row, row-back, share-row, shared-back}

@@ -36,10 +36,10 @@ use Rattle.rules.specs.Term.{Term}
 use Rattle.rules.specs.Extraction.{terms, joined}
 use Rattle.draft.specs.Draft.{Drafts}
 use Rattle.one_rule.specs.Place.{FormulaAt}
-use Rattle.one_rule.specs.Puts.{Put}
-use Rattle.one_rule.specs.declared.Drafted.{Drafted}
-use Rattle.one_rule.proofs.Drafted as D
-use Rattle.one_rule.proofs.Drafted.Laws as D′
+use Rattle.draft_rows.specs.Puts.{Put}
+use Rattle.draft_rows.specs.declared.Drafted.{Drafted}
+use Rattle.draft_rows.proofs.Drafted as D
+use Rattle.draft_rows.proofs.Drafted.Laws as D′
 use Rattle.entries.specs.declared.CutEntry.{CutEntry}
 use Rattle.entries.proofs.CutEntry as T
 use Rattle.entries.proofs.CutEntry.Laws as T′

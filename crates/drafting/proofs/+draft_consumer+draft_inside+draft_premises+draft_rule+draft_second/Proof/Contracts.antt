@@ -16,8 +16,8 @@ use denote.Triple.Cycle.{Graded, measured}
 use denote.Triple.Spec.{tripleOf}
 use denote.Triple.Statement.{Contract}
 use denote.Triple.Walked.{Stays, stay-none, stay-none-slice, stay-slice}
-use Rattle.one_rule.proofs.Drafted as D
-use Rattle.one_rule.proofs.puts.put_pair as pair-of
+use Rattle.draft_rows.proofs.Drafted as D
+use Rattle.draft_rows.proofs.put_pair as pair-of
 use Rattle.entries.proofs.Row.{R}
 use Rattle.entries.proofs.put_entry as put-of
 use Rattle.planning.proofs.plan.Plan as G

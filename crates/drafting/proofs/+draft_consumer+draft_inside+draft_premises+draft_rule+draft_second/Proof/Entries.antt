@@ -29,10 +29,10 @@ use Rattle.rules.specs.Extraction.{terms, joined}
 use Rattle.draft.specs.Draft.{Drafts}
 use Rattle.draft.specs.Made.{mostNumber}
 use Rattle.one_rule.specs.Place.{FormulaAt}
-use Rattle.one_rule.specs.Puts.{Open, Put}
-use Rattle.one_rule.specs.declared.Drafted.{Drafted}
-use Rattle.one_rule.proofs.Drafted as D
-use Rattle.one_rule.proofs.Drafted.Laws as D′
+use Rattle.draft_rows.specs.Puts.{Open, Put}
+use Rattle.draft_rows.specs.declared.Drafted.{Drafted}
+use Rattle.draft_rows.proofs.Drafted as D
+use Rattle.draft_rows.proofs.Drafted.Laws as D′
 use Rattle.entries.specs.declared.CutEntry.{CutEntry}
 use Rattle.entries.specs.Entries.{none}
 use Rattle.entries.proofs.CutEntry as T

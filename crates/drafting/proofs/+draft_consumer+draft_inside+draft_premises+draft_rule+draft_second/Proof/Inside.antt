@@ -31,9 +31,9 @@ use denote.Triple.Entry.{onEntry}
 use denote.Triple.Statement.{Triple}
 use denote.Triple.Walked.{says, walkOf, ends-at}
 use denote.Struct.Laws as LL
-use Rattle.one_rule.specs.declared.Drafted.{Drafted}
-use Rattle.one_rule.proofs.Drafted as D
-use Rattle.one_rule.proofs.Drafted.Laws as D′
+use Rattle.draft_rows.specs.declared.Drafted.{Drafted}
+use Rattle.draft_rows.proofs.Drafted as D
+use Rattle.draft_rows.proofs.Drafted.Laws as D′
 use Rattle.entries.specs.declared.CutEntry.{CutEntry}
 use Rattle.entries.specs.Entries.{none}
 use Rattle.entries.proofs.CutEntry as T

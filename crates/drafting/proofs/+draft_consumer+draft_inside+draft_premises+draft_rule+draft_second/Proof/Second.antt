@@ -35,11 +35,11 @@ use denote.Struct.Laws as LL
 use Rattle.rules.specs.Basic.{Bytes}
 use Rattle.rules.specs.Term.{Term, two, pair}
 use Rattle.draft.specs.Draft.{Drafts}
-use Rattle.one_rule.specs.Puts.{Put}
-use Rattle.one_rule.specs.declared.Drafted.{Drafted}
-use Rattle.one_rule.proofs.Drafted as D
-use Rattle.one_rule.proofs.Drafted.Laws as D′
-use Rattle.one_rule.proofs.puts.put_pair.Symbol.{name as #pair}
+use Rattle.draft_rows.specs.Puts.{Put}
+use Rattle.draft_rows.specs.declared.Drafted.{Drafted}
+use Rattle.draft_rows.proofs.Drafted as D
+use Rattle.draft_rows.proofs.Drafted.Laws as D′
+use Rattle.draft_rows.proofs.put_pair.Symbol.{name as #pair}
 use Rattle.entries.specs.declared.CutEntry.{CutEntry}
 use Rattle.entries.proofs.Row.{R}
 use Rattle.entries.proofs.Rules.{if-then, free-at}
@@ -176,7 +176,7 @@ module _ {M : Type 1} (𝓤 : URA M) (H : Heap 𝓤) (A : Atoms 𝓤) (W : Given
           drop ! $ split ! $ move ! (1 ∷ []) $ split ! $ move ! (1 ∷ []) $ move ! (2 ∷ 1 ∷ 0 ∷ []) $ rewrite ! 1 (λ (l : List CutEntry). (P-cs ρ) l) (e0 .1 .1 .0) refl $
           assigns ! (addr ! (from ! (fld ! refl (hop ! (look-in ! 27 (sub ! 0 refl (whole !))) (stop !))))) (from ! (stop !)) (init ! 13 refl (tt, tt)) $
           assigns ! (agg ! (and-then ! (load ! (from ! (stop !)) (look ! 13 refl)) (and-then ! (load ! (from ! (fld ! refl (stop !))) (look-in ! 27 (sub ! 1 refl (whole !)))) (no-more !)))) (from ! (stop !)) (init ! 11 refl (tt, (tt, (record { fits = (ρ .room-ws) .0 }, tt)))) $
-          -- one_rule::puts::put_pair
+          -- draft_rows::put_pair
           move ! (2 ∷ []) $ use1 W (later (some (λ (p1 : Names). raw (PairC 𝓤 H A mem run .pre ((to-pair 𝓤 H A W mem run ρ) p1 (r0 .1 .1) (d .part) (r0 .0))) ⊛ ‵ ((Kept-pair 𝓤 H A W mem run ρ) p1 (r0 .1 .1))))) ((before-pair 𝓤 H A W mem run ρ) (r0 .1 .1) (d .part) (r0 .0) (e0 .1 .0) (part-fits d g-d) (draft-is (r0 .0) is0) (pair-opens began (eqb→eq (g .act) 4 h0) (e0 .1 .1 .1) (e0 .1 .0 ∙ sym e0-ws ∙ began .long))) $ await ! tt $ pick ! (λ p1. split ! $
           calls-at ! fm (PairC 𝓤 H A mem run) known-pair ((to-pair 𝓤 H A W mem run ρ) p1 (r0 .1 .1) (d .part) (r0 .0)) (and-then ! (load ! (from ! (fld ! refl (stop !))) (look-in ! 34 (sub ! 3 refl (whole !)))) (and-then ! (load ! (from ! (stop !)) (look ! 26 refl)) (and-then ! (load ! (from ! (stop !)) (look ! 12 refl)) (no-more !)))) (λ v1.
           use2 W (later (some (λ (r1 : Drafted × List (ℕ)). given ((length (r1 .1) ≡ ρ .m-ws) × (((s : Bytes) → (a : Term) → (b : Term) → Drafts s (r0 .1 .1) ((r0 .0) .used) (d .part) a → Drafts s (r0 .1 .1) ((r0 .0) .used) ((r0 .0) .part) b → Put s (r0 .1 .1) (r1 .1) ((r0 .0) .used) ((r0 .0) .counter) ((r0 .0) .next) (two pair a b, (r0 .0) .counter) (r1 .0)))) (‵ (D.the-row .own (r1 .0) (v1 ∷ [])) ⊛ (P-ws ρ) (r1 .1))))) ((after-pair 𝓤 H A W mem run ρ) p1 (r0 .1 .1) (d .part) (r0 .0) v1 (e0 .1 .0)) $ await ! tt $ pick ! (λ r1. learn ! (λ e1. split ! $

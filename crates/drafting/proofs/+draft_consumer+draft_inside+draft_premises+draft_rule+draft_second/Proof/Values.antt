@@ -8,9 +8,9 @@ use denote.Laws.{Is}
 use denote.Steps.{owned}
 use denote.Struct.Steps.{spelt}
 use denote.Struct.Laws as LL
-use Rattle.one_rule.specs.declared.Drafted.{Drafted}
-use Rattle.one_rule.proofs.Drafted as D
-use Rattle.one_rule.proofs.Drafted.Laws as D′
+use Rattle.draft_rows.specs.declared.Drafted.{Drafted}
+use Rattle.draft_rows.proofs.Drafted as D
+use Rattle.draft_rows.proofs.Drafted.Laws as D′
 use Rattle.entries.specs.declared.CutEntry.{CutEntry}
 use Rattle.entries.proofs.CutEntry as T
 use Rattle.entries.proofs.CutEntry.Laws as T′

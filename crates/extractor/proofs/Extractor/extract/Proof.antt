@@ -46,13 +46,13 @@ use Rattle.rules.proofs.Answer as B
 use Rattle.rules.proofs.Answer.Laws as B′
 use Rattle.entries.specs.declared.CutEntry.{CutEntry}
 use Rattle.extractor.specs.declared.Extractor.{Extractor}
-use Rattle.ending.specs.declared.Ended.{Ended}
+use Rattle.ended.specs.declared.Ended.{Ended}
 use Rattle.entries.specs.Entries.{pairs}
 use Rattle.ending.specs.Ending.{Extracts}
 use Rattle.extractor.proofs.Extractor as X
 use Rattle.extractor.proofs.Extractor.Laws as X′
-use Rattle.ending.proofs.Ended as K
-use Rattle.ending.proofs.Ended.Laws as K′
+use Rattle.ended.proofs.Ended as K
+use Rattle.ended.proofs.Ended.Laws as K′
 use Rattle.entries.proofs.Row.{R}
 use Rattle.entries.proofs.Rules.{free-at}
 use Rattle.entries.proofs.Lent.{KeptRow, lend-row, row-back}

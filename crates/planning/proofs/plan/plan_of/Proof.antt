@@ -1,6 +1,6 @@
 -- `planning::plan::plan_of` meets its contract: in each arm the numbers are those of the act. Assumes nothing.
 use mathlib.Core.Path.{sym, ap, _∙_}
-use Rattle.one_rule.specs.declared.act.Act.{Act}
+use Rattle.acts.specs.declared.Act.{Act}
 use Rattle.planning.specs.Planning.{planOf}
 use borrow.Author.Needs.{needs}
 use Rattle.planning.proofs.plan.plan_of.Statement.{statement}

@@ -1,0 +1,10 @@
+-- `ended::made` meets its contract: its record is the definition's. Assumes nothing.
+use mathlib.Core.Path.{refl}
+use Rattle.ended.proofs.made.Statement.{statement}
+use Rattle.ended.proofs.made.Tie as tie
+
+returns : tie.Need-returns
+returns c = refl
+
+pub made-spec : {M : Type 1} → statement M
+made-spec = tie.close (tie.spec returns)
