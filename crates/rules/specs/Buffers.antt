@@ -1,12 +1,12 @@
 -- What a call leaves in the buffers that it is lent (01, "Buffers").
 -- Assumes nothing: these are definitions.
 use Prim.Native.Nat.{ℕ, _-_}
-use mathlib.Core.Bool.{Bool, true, false, _&&_}
-use mathlib.Core.List.{List, [], _∷_}
+use mathlib.Core.Bool.{Bool, true, false}
+use mathlib.Core.List.{List}
 use mathlib.Core.Option.{Option, none, some}
 use lib.ListN.{length, replicate}
-use Rattle.rules.specs.Basic.{Bytes, if_then_else_, _≤?_, _‥_}
-use Rattle.rules.specs.Refusal.{Refusal, Outcome, good, refused, refuse, shortBuffer, sparesScratch}
+use Rattle.rules.specs.Basic.{Bytes, if_then_else_, _‥_}
+use Rattle.rules.specs.Refusal.{Outcome, good, refused, refuse, shortBuffer, sparesScratch}
 
 -- A call ends with an answer or a refusal, and writes something to the output or leaves it untouched.
 pub record Ending (A : Type 0) : Type 0 where

@@ -1,17 +1,17 @@
 -- Every public call: its answer, its output and its scratch, of all inputs and all lent buffers.
 -- Assumes nothing: these are definitions.
-use Prim.Native.Nat.{ℕ, _+_}
-use mathlib.Core.Bool.{Bool, true, false, _&&_}
-use mathlib.Core.List.{List, [], _∷_}
+use Prim.Native.Nat.{ℕ}
+use mathlib.Core.Bool.{Bool, _&&_}
+use mathlib.Core.List.{List, []}
 use mathlib.Core.Option.{Option, none, some}
 use lib.ListN.{length, getElem?}
 use Rattle.rules.specs.Basic.{Bytes, if_then_else_, _≤?_}
 use Rattle.rules.specs.Limits.{Limits, outputRoom, textRoom, formulaTextRoom, storedRoom, scratchRoom, entryRoom}
 use Rattle.rules.specs.Refusal.{Refusal, Outcome, good, refused, refuse, _>>=_, mapped, outgrows}
 use Rattle.rules.specs.Name.{encodeNames}
-use Rattle.rules.specs.Formula.{Formula, formulaNodes}
+use Rattle.rules.specs.Formula.{formulaNodes}
 use Rattle.rules.specs.Term.{Term, encode, nodes, parts, fits}
-use Rattle.rules.specs.Proof.{Proof, rules}
+use Rattle.rules.specs.Proof.{rules}
 use Rattle.rules.specs.Reading.{readTerm, readFormula, readProof, readName}
 use Rattle.rules.specs.Text.{text, formulaText}
 use Rattle.rules.specs.Free.{free}

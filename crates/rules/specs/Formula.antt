@@ -1,6 +1,6 @@
 -- Formulas, grouped by shape: 1 Atom; 2 NegAtom; 3 Tensor; 4 Par; 5 One; 6 Bottom; 7 With; 8 Plus; 9 Top; 10 Zero; 11 OfCourse; 12 WhyNot; 13 Lolli.
 -- Assumes nothing: these are definitions.
-use Prim.Native.Nat.{ℕ, zero, suc, _+_}
+use Prim.Native.Nat.{ℕ, _+_}
 use mathlib.Core.List.{List, [], _∷_}
 use Rattle.rules.specs.Basic.{Bytes, _‥_}
 use Rattle.rules.specs.Name.{Name, atomMost, encodeName}

@@ -1,8 +1,8 @@
 -- Terms and formulas are written alike, parent first: a tag, then names, then parts (01, "Terms, formulas and proofs as bytes").
 -- Assumes nothing: these are definitions.
 use Prim.Native.Nat.{ℕ, zero, suc}
-use mathlib.Core.List.{List, [], _∷_}
-use mathlib.Core.Option.{Option, none, some}
+use mathlib.Core.List.{List}
+use mathlib.Core.Option.{Option, none}
 use lib.ListN.{getElem?}
 use Rattle.rules.specs.Name.{Name}
 

@@ -7,7 +7,6 @@ use mathlib.Core.List.{[], _∷_}
 use Rattle.rules.specs.Basic.{Bytes, say, decimal, _‥_}
 use Rattle.rules.specs.Limits.{Limits}
 use Rattle.rules.specs.Refusal.{Refusal, Outcome, good, refused, refuse, _>>=_, outgrows}
-use Rattle.rules.specs.Term.{Term}
 use Rattle.rules.specs.Reading.{readTerm}
 use Rattle.rules.specs.Text.{text}
 use Rattle.rules.specs.Reduction.{Counts, Reduced, stopped, outgrew, reduce}

@@ -1,6 +1,6 @@
 -- Proofs: a rule, the formulas of `linear`, the premises; and the rules' tags, 1 to 18 in the order of `Rule`.
 -- Assumes nothing: these are definitions.
-use Prim.Native.Nat.{ℕ, zero, suc, _+_}
+use Prim.Native.Nat.{ℕ, suc, _+_}
 use mathlib.Core.List.{List, [], _∷_}
 use lib.ListN.{length}
 use Rattle.rules.specs.Basic.{Bytes, _‥_, low-high}

@@ -1,12 +1,11 @@
 -- Bounded reduction: the steps taken, one count for each of the eight rules, and whether no step remains (01, "Step", "8 is given exactly when").
 -- Assumes nothing: these are definitions.
-use Prim.Native.Nat.{ℕ, zero, suc, _+_}
+use Prim.Native.Nat.{ℕ, zero, suc}
 use mathlib.Core.Bool.{Bool, true, false}
-use Rattle.rules.specs.Basic.{if_then_else_}
 use Rattle.rules.specs.Limits.{Limits}
 use Rattle.rules.specs.Term.{Term}
 pub use Rattle.rules.specs.declared.Counts.{Counts}
-use Rattle.rules.specs.Step.{Rule, App, Let, Case, Fst, Snd, Derelict, Copy, Discard, Stepped, normal, found, step, isNormal, stepFits}
+use Rattle.rules.specs.Step.{Rule, App, Let, Case, Fst, Snd, Derelict, Copy, Discard, normal, found, step, isNormal, stepFits}
 
 -- one count for each rule
 abbrev pub noCounts : Counts

@@ -4,10 +4,9 @@ use Prim.Native.Nat.{ℕ, _+_}
 use mathlib.Core.Bool.{Bool, true, false, _&&_}
 use mathlib.Core.Option.{Option, none, some}
 use lib.ListN.{length}
-use Rattle.rules.specs.Basic.{if_then_else_, _‥_}
 use Rattle.rules.specs.Limits.{Limits}
 use Rattle.rules.specs.Name.{Name, encodeName}
-use Rattle.rules.specs.Term.{Term, var, leaf, one, two, abs, both, branch, One, inl, inr, fst, snd, abort, promote, derelict, Two, pair, app, discard, Both, letPair, copy, size, fits}
+use Rattle.rules.specs.Term.{Term, var, leaf, one, two, abs, both, branch, One, inl, inr, fst, snd, abort, promote, derelict, pair, app, discard, letPair, copy, size, fits}
 use Rattle.rules.specs.Substitution.{subst}
 pub use Rattle.rules.specs.declared.Rule.{Rule}
 pub use Rattle.rules.specs.declared.Rule.the-variants.{App, Let, Case, Fst, Snd, Derelict, Copy, Discard}

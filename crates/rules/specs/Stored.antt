@@ -1,12 +1,12 @@
 -- The stored form: blocks of 512 bytes (01, "Stored form", refusals 10 to 13).
 -- Assumes nothing: these are definitions.
 use Prim.Native.Nat.{ℕ, zero, suc, _+_, _-_, _*_, _/_, _%_}
-use mathlib.Core.Bool.{Bool, true, false, not, _&&_, _||_}
-use mathlib.Core.List.{List, [], _∷_}
+use mathlib.Core.Bool.{Bool, true, not, _&&_, _||_}
+use mathlib.Core.List.{[], _∷_}
 use lib.ListN.{length, take, drop, getD, replicate}
-use Rattle.rules.specs.Basic.{Bytes, if_then_else_, _<?_, _≤?_, _==_, between, _‥_, low-high}
+use Rattle.rules.specs.Basic.{Bytes, if_then_else_, _<?_, _==_, between, _‥_, low-high}
 use Rattle.rules.specs.Limits.{Limits, blockBytes, blockContent, blocksFor, storedRoom}
-use Rattle.rules.specs.Refusal.{Refusal, Outcome, good, refused, refuse, _>>=_, mapped}
+use Rattle.rules.specs.Refusal.{Outcome, good, refuse, _>>=_, mapped}
 use Rattle.rules.specs.Reading.{readTerm, readProof}
 pub use Rattle.rules.specs.declared.Kind.{Kind}
 use Rattle.rules.specs.declared.Kind.the-variants.{Term, Proof}

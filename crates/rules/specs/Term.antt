@@ -1,7 +1,7 @@
 -- Terms, grouped by shape (tag, names, parts): 1 Var n; 2 Unit; 3 Pair a b; 4 LetPair x y pair body; 5 Abs x body; 6 App f arg; 7 Inl e; 8 Inr e;
 -- 9 Case x y scrut left right; 10 Trivial; 11 Fst e; 12 Snd e; 13 Abort e; 14 Promote e; 15 Derelict e; 16 Discard e body; 17 Copy x y src body.
 -- Assumes nothing: these are definitions.
-use Prim.Native.Nat.{ℕ, zero, suc, _+_}
+use Prim.Native.Nat.{ℕ, _+_}
 use mathlib.Core.List.{List, [], _∷_}
 use mathlib.Core.Bool.{Bool, _&&_}
 use lib.ListN.{length}
