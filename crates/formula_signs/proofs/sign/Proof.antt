@@ -1,8 +1,8 @@
--- `formula_walk::sign` meets its contract. Assumes nothing.
-use Rattle.formula_walk.proofs.Shapes.{word-few}
+-- `formula_signs::sign` meets its contract. Assumes nothing.
+use Rattle.formula_signs.proofs.Few.{word-few}
 use borrow.Author.Needs.{needs}
-use Rattle.formula_walk.proofs.sign.Statement.{statement}
-use Rattle.formula_walk.proofs.sign.Tie as tie
+use Rattle.formula_signs.proofs.sign.Statement.{statement}
+use Rattle.formula_signs.proofs.sign.Tie as tie
 
 word-of-requires : tie.Need-word-of-requires
 word-of-requires c κs = search needs

@@ -1,7 +1,7 @@
--- `formula_walk::kept` meets its contract. Assumes nothing.
+-- `formula_signs::kept` meets its contract. Assumes nothing.
 use borrow.Author.Tests.{ne-eqb}
-use Rattle.formula_walk.proofs.kept.Statement.{statement}
-use Rattle.formula_walk.proofs.kept.Tie as tie
+use Rattle.formula_signs.proofs.kept.Statement.{statement}
+use Rattle.formula_signs.proofs.kept.Tie as tie
 
 returns : tie.Need-returns
 returns c = rw (c .if1 .taken)

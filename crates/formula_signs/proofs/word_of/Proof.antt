@@ -1,7 +1,7 @@
--- `formula_walk::word_of` meets its contract: the words handed to `chosen` are those of the list. Assumes nothing.
+-- `formula_signs::word_of` meets its contract: the words handed to `chosen` are those of the list. Assumes nothing.
 use borrow.Author.Needs.{needs}
-use Rattle.formula_walk.proofs.word_of.Statement.{statement}
-use Rattle.formula_walk.proofs.word_of.Tie as tie
+use Rattle.formula_signs.proofs.word_of.Statement.{statement}
+use Rattle.formula_signs.proofs.word_of.Tie as tie
 
 chosen-requires : tie.Need-chosen-requires
 chosen-requires c κs = search needs

@@ -1,7 +1,7 @@
--- `formula_walk::opening` meets its contract. Assumes nothing.
+-- `formula_signs::opening` meets its contract. Assumes nothing.
 use borrow.Author.Tests.{ne-eqb}
-use Rattle.formula_walk.proofs.opening.Statement.{statement}
-use Rattle.formula_walk.proofs.opening.Tie as tie
+use Rattle.formula_signs.proofs.opening.Statement.{statement}
+use Rattle.formula_signs.proofs.opening.Tie as tie
 
 returns : tie.Need-returns
 returns c = rw (c .if1 .taken)
