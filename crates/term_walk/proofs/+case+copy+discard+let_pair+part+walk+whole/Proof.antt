@@ -54,7 +54,7 @@ use Rattle.phrases.proofs.one_part.Reads as one-part-reads
 use Rattle.phrases.proofs.past_names.Reads as past-names-reads
 use Rattle.phrases.proofs.right_name.Reads as right-name-reads
 use Rattle.phrases.proofs.sign.Reads as sign-reads
-use Rattle.walk.proofs.skip.Reads as skip-reads
+use Rattle.second_part.proofs.second_part.Reads as second-part-reads
 use Rattle.words.proofs.byte.Reads as byte-reads
 use Rattle.words.proofs.closed.Reads as closed-reads
 use Rattle.term_walk.proofs.+case+copy+discard+let_pair+part+walk+whole.{statement}
@@ -131,7 +131,7 @@ abbrev copy-claims : ℕ → copy-lts.Claims
 copy-claims t = (copy-word-reads.Asked, copy-word-reads.Learnt, past-names-reads.Asked, past-names-reads.Learnt, part-below t, part.Post, as-names-reads.Asked, as-names-reads.Learnt)
 
 abbrev discard-claims : ℕ → discard-lts.Claims
-discard-claims t = (discard-words-reads.Asked, discard-words-reads.Learnt, skip-reads.Asked, skip-reads.Learnt, part-below t, part.Post)
+discard-claims t = (discard-words-reads.Asked, discard-words-reads.Learnt, second-part-reads.Asked, second-part-reads.Learnt, part-below t, part.Post)
 
 abbrev let-pair-claims : ℕ → let-pair-lts.Claims
 let-pair-claims t = (let-names-reads.Asked, let-names-reads.Learnt, past-names-reads.Asked, past-names-reads.Learnt, part-below t, part.Post, in-word-reads.Asked, in-word-reads.Learnt)
@@ -288,21 +288,16 @@ discard-discard-words-requires t c κs =
     let w = c .before .before .before .pre .1 in
     discard-room (w .0) (w .1) (w .2)
 
-discard-add-skip : (t : ℕ) → discard-lts.Need-add-skip (discard-claims t) (discard-at t) discard.Post
-discard-add-skip t c =
+discard-second-part-requires : (t : ℕ) → discard-lts.Need-second-part-requires (discard-claims t) (discard-at t) discard.Post
+discard-second-part-requires t c κs =
     let w = c .before .before .before .before .before .before .pre .1 in
-    omega (arith, begun (twoOf discardOf (w .0) (w .1)) (w .2))
-
-discard-skip-requires : (t : ℕ) → discard-lts.Need-skip-requires (discard-claims t) (discard-at t) discard.Post
-discard-skip-requires t c κs =
-    let w = c .before .before .before .before .before .before .pre .1 in
-    (w .0 ∷ [], discard-terms (w .0) (w .1) (w .2))
+    (begun (twoOf discardOf (w .0) (w .1)) (w .2), (w .0 ∷ [], discard-terms (w .0) (w .1) (w .2)))
 
 discard-part-requires : (t : ℕ) → discard-lts.Need-part-requires (discard-claims t) (discard-at t) discard.Post
 discard-part-requires t c κs =
     let w = c .before .before .before .before .before .before .before .before .pre .1 in
     let a = c .before .before .before .before .discard-words .ensures in
-    let h = c .before .skip .ensures (w .0 ∷ []) (discard-terms (w .0) (w .1) (w .2)) in
+    let h = c .before .second-part .ensures (w .0 ∷ []) (discard-terms (w .0) (w .1) (w .2)) in
     (omega (arith, c .before .before .before .before .before .before .before .before .pre .0, begun (twoOf discardOf (w .0) (w .1)) (w .2), discard-further (w .0) (w .1) (w .2) a h), (w .1, discard-part (w .0) (w .1) (w .2) a h))
 
 discard-same-length : (t : ℕ) → discard-lts.Need-same-length (discard-claims t) (discard-at t) discard.Post
@@ -311,7 +306,7 @@ discard-same-length t c = omega (arith, c .before .before .before .before .befor
 discard-returns : (t : ℕ) → discard-lts.Need-returns (discard-claims t) (discard-at t) discard.Post
 discard-returns t c f g w =
     let a = c .before .before .before .before .before .before .before .discard-words .ensures in
-    let h = c .before .before .before .before .skip .ensures (f ∷ []) (discard-terms f g w) in
+    let h = c .before .before .before .before .second-part .ensures (f ∷ []) (discard-terms f g w) in
     discard-done f g w a h (c .before .before .part .ensures g (discard-part f g w a h))
 
 let-pair-add-x : (t : ℕ) → let-pair-lts.Need-add-x (let-pair-claims t) (let-pair-at t) let-pair.Post
@@ -678,8 +673,7 @@ pub +case+copy+discard+let-pair+part+walk+whole-spec : {M : Type 1} → statemen
     (λ t. discard-lts.spec (discard-claims t) (discard-at t)
     discard.Post
     (discard-discard-words-requires t)
-    (discard-add-skip t)
-    (discard-skip-requires t)
+    (discard-second-part-requires t)
     (discard-part-requires t)
     (discard-same-length t)
     (discard-returns t))
