@@ -1,4 +1,4 @@
--- `report::put_decimal` meets its contract: the digits of a tenth, then the last one. Assumes nothing.
+-- `digits::put_decimal` meets its contract: the digits of a tenth, then the last one. Assumes nothing.
 use mathlib.Core.Path.{sym, ap, _∙_}
 use mathlib.Core.List.{[], _∷_}
 use Prim.Native.Nat.{_+_, _/_, _%_}
@@ -7,15 +7,15 @@ use lib.ListN.{length, length-set, length-append}
 use denote.Ref.{now}
 use Rattle.rules.specs.Basic.{decimal}
 use Rattle.runs.specs.Writing.{chain}
-use Rattle.report.specs.Digits.{decimal-one, decimal-more, wrote-one, wrote-as}
+use Rattle.digits.specs.Digits.{decimal-one, decimal-more, wrote-one, wrote-as}
 use Prim.Native.Nat.{ℕ, _<_}
 use borrow.Fn.Kinds.{In}
 use borrow.Fn.PlainCycle.{Measures, is, falls, and}
-use Rattle.report.proofs.put_decimal.Reads as put-decimal
-use Rattle.report.proofs.put_decimal.Kinds as put-decimal-kinds
-use Rattle.report.proofs.+put_decimal.Lts-put_decimal as put-decimal-lts
-use Rattle.report.proofs.+put_decimal.{statement}
-use Rattle.report.proofs.+put_decimal.Tie.{close}
+use Rattle.digits.proofs.put_decimal.Reads as put-decimal
+use Rattle.digits.proofs.put_decimal.Kinds as put-decimal-kinds
+use Rattle.digits.proofs.+put_decimal.Lts-put_decimal as put-decimal-lts
+use Rattle.digits.proofs.+put_decimal.{statement}
+use Rattle.digits.proofs.+put_decimal.Tie.{close}
 
 abbrev μ-put-decimal : Measures 1 put-decimal-kinds.ps ℕ
 μ-put-decimal κs a = a .0

@@ -2,7 +2,7 @@
 use Prim.Native.Nat.{ℕ, zero, suc, _+_, _/_, _%_, _^_, _≤_, _<_}
 use mathlib.Core.Path.{_≡_, refl, sym, ap, _∙_}
 use mathlib.Core.Bool.{Bool, true, false}
-use mathlib.Core.List.{[], _∷_, _++_, append-assoc}
+use mathlib.Core.List.{[], _∷_, _++_}
 use native.Mathlib.Nat.{div-lt-iff-lt-mul, pow-suc}
 use native.Mathlib.Omega.{arith}
 use lib.Dec.{ltb}
@@ -60,13 +60,3 @@ wrote-one out at b = record { holds = refl; ends = refl }
 
 pub wrote-as : {out out′ xs ys : Bytes} {at past : ℕ} → xs ≡ ys → Wrote out at xs out′ past → Wrote out at ys out′ past
 wrote-as e w = rw e at w
-
--- fields in threes are fields in a row
-three : (a b c r : Bytes) → (a ++ (b ++ c)) ++ r ≡ a ++ (b ++ (c ++ r))
-three a b c r = append-assoc a (b ++ c) r ∙ ap (λ (s : Bytes). a ++ s) (append-assoc b c r)
-
-pub nine : (a b c d e f g h i r : Bytes)
-    → (a ++ (b ++ c)) ++ ((d ++ (e ++ f)) ++ ((g ++ (h ++ i)) ++ r)) ≡ a ++ (b ++ (c ++ (d ++ (e ++ (f ++ (g ++ (h ++ (i ++ r))))))))
-nine a b c d e f g h i r =
-    three a b c ((d ++ (e ++ f)) ++ ((g ++ (h ++ i)) ++ r))
-    ∙ ap (λ (s : Bytes). a ++ (b ++ (c ++ s))) (three d e f ((g ++ (h ++ i)) ++ r) ∙ ap (λ (s : Bytes). d ++ (e ++ (f ++ s))) (three g h i r))
