@@ -7,7 +7,7 @@ use lib.ListN.{length, set, length-append}
 use Rattle.rules.specs.Basic.{Bytes, decimal}
 use Rattle.runs.specs.Wrote.{Wrote}
 use Rattle.runs.specs.Writing.{chain}
-use Rattle.report.specs.Digits.{decimal-one, decimal-more, decimal-few, wrote-one}
+use Rattle.digits.specs.Digits.{decimal-one, decimal-more, decimal-few, wrote-one}
 use Rattle.draft.specs.Draft.{numbered, lastTwo, xName}
 
 -- one digit more than a tenth has

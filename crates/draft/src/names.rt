@@ -1,5 +1,5 @@
 // The names of a draft: a stem and a number.
-use report::put_decimal;
+use digits::put_decimal;
 ghost use mathlib.Core.Path.{_≡_};
 ghost use Prim.Native.Nat.{_+_, _-_, _≤_};
 ghost use lib.ListN.{length};

@@ -7,7 +7,7 @@ use Rattle.rules.specs.Basic.{Bytes}
 use Rattle.rules.specs.Term.{Term, encode}
 use Rattle.runs.specs.Wrote.{Wrote}
 use Rattle.runs.specs.Writing.{chain}
-use Rattle.report.specs.Digits.{wrote-as, wrote-one}
+use Rattle.digits.specs.Digits.{wrote-as, wrote-one}
 use Rattle.draft.specs.Draft.{Row, rowAt, shapeOf, Drafts}
 use Rattle.draft.specs.Steady.{drafts-unit, drafts-trivial, drafts-one}
 use Rattle.draft_heads.specs.Heads.{front, partsOf, written}

@@ -14,7 +14,7 @@ use Rattle.words.specs.Prints.{Prints}
 use Rattle.words.specs.Task.{places}
 use Rattle.words.specs.Steps.{chain, finish, passed, no-more, Named, named}
 use Rattle.formula_walk.specs.Task.{FormulaTask, FormulaDone, Leaf}
-use Rattle.formula_walk.specs.Words.{signOf, shapeOf}
+use Rattle.formula_signs.specs.Words.{signOf, shapeOf}
 use Rattle.formula_walk.proofs.Shapes.{sign-word, constant-word, tag-at, shape-at, begun}
 
 -- The leaf f at `at`: m is 1 where it has a name, and n is that name's length.

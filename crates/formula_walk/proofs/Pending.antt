@@ -10,7 +10,7 @@ use lib.Seq.{getD-set-same, getD-set-other}
 use Rattle.rules.specs.Formula.{Formula, atom, constant, exponential, connective, encodeFormula, formulaNodes}
 use Rattle.rules.specs.Text.{formulaText}
 use Rattle.words.specs.Prints.{brackets}
-use Rattle.formula_walk.specs.Words.{signOf}
+use Rattle.formula_signs.specs.Words.{signOf}
 
 -- the brackets, then for each open connective its sign, its second part and the brackets after that
 abbrev pub later : (row : List ℕ) (depth c : ℕ) → List Formula → List ℕ

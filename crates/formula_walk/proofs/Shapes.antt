@@ -6,27 +6,12 @@ use mathlib.Core.Bool.{Bool, true, _&&_}
 use mathlib.Core.List.{List, [], _∷_}
 use native.Mathlib.Omega.{arith}
 use lib.ListN.{length, getD}
-use borrow.Author.Tests.{leb-true}
 use Rattle.rules.specs.Basic.{say, _≤?_}
 use Rattle.rules.specs.Formula.{Formula, atom, constant, exponential, connective, Sign, plain, negated, Constant, One, Bottom, Top, Zero, Exponential, OfCourse, WhyNot, Connective, Tensor, Par, With, Plus, Lolli, signTag, constantTag, exponentialTag, connectiveTag, encodeFormula}
 use Rattle.rules.specs.Text.{signText, constantText, exponentialText, connectiveText}
-use Rattle.laws.specs.Same.{both-true}
 use Rattle.formula_walk.specs.Task.{FormulaTask, Leaf}
-use Rattle.formula_walk.specs.Words.{words, longOf, wordOf, signOf, shapeOf, openingOf}
+use Rattle.formula_signs.specs.Words.{words, longOf, wordOf, signOf, shapeOf, openingOf}
 use Rattle.words.specs.Steps.{first-byte, ends-in}
-
--- no word is longer than the eight bytes that it is written with
-abbrev few : List ℕ → Bool
-few [] = true
-few (w ∷ ws) = (longOf w ≤? 8) && few ws
-
-few-at : (ws : List ℕ) (k : ℕ) → few ws ≡ true → longOf (getD ws k 0) ≤ 8
-few-at [] k h = omega arith
-few-at (w ∷ ws) zero h = leb-true (longOf w) 8 (both-true (longOf w ≤? 8) (few ws) h .0)
-few-at (w ∷ ws) (suc k) h = few-at ws k (both-true (longOf w ≤? 8) (few ws) h .1)
-
-pub word-few : (k : ℕ) → longOf (wordOf k) ≤ 8
-word-few k = few-at words (k % 16) refl
 
 pub sign-word : (k : Sign) → signOf (signTag k) ≡ say (signText k)
 sign-word plain = refl

@@ -19,7 +19,7 @@ use Rattle.words.specs.Prints.{Prints, brackets}
 use Rattle.words.specs.Task.{Task}
 use Rattle.words.specs.Steps.{passed, printed, part-of, part-end, part-prints, after-part, no-more, print-on, spelt, told}
 use Rattle.formula_walk.specs.Task.{FormulaTask, FormulaDone, Leaf, textOf, said}
-use Rattle.formula_walk.specs.Words.{signOf, shapeOf, openingOf, keptOf}
+use Rattle.formula_signs.specs.Words.{signOf, shapeOf, openingOf, keptOf}
 use Rattle.formula_walk.proofs.Shapes.{connective-word, exponential-opens, connective-opens, tag-at, tag-below, shape-at, leaf-shape, begun}
 use Rattle.formula_walk.proofs.Pending.{later, owed, parts, counts, counted, counts-most, owed-most, later-most, later-same, owed-same, later-opened, owed-opened, Last, last}
 use Rattle.formula_walk.specs.Read.{task}

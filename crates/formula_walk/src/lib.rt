@@ -8,98 +8,17 @@ ghost use Rattle.rules.specs.Reading.{readFormula};
 ghost use Rattle.rules.specs.Refusal.{good};
 ghost use Rattle.words.specs.Prints.{Prints};
 ghost use Rattle.formula_walk.specs.Task.{Leaf, FormulaTask, FormulaDone, said};
-ghost use Rattle.formula_walk.specs.Words.{wordOf, signOf, shapeOf, openingOf, keptOf};
+use formula_signs::brackets_of;
+use formula_signs::entry;
+use formula_signs::kept;
+use formula_signs::opening;
+use formula_signs::shape;
+use formula_signs::sign;
+use formula_signs::tag_of;
 use names::few;
 use words::byte;
-use words::chosen;
 use words::closes;
-use words::number;
 use words::places;
-
-// The word of each tag from 0 on, low byte first, and its length in the highest byte.
-fn word_of(tag: u8) -> u64
-    ensures { λ r. ⌜ r ≡ wordOf tag ⌝ }
-{
-    chosen(
-        tag,
-        0,
-        0x0000000000a58ae2,
-        0x0300000000a58ae2,
-        0x05000020978ae220,
-        0x050000208b85e220,
-        0x0100000000000031,
-        0x0300000000a58ae2,
-        0x0300000000202620,
-        0x05000020958ae220,
-        0x0300000000a48ae2,
-        0x0100000000000030,
-        0x0100000000000021,
-        0x010000000000003f,
-        0x05000020b88ae220,
-        0,
-        0,
-    )
-}
-
-fn sign(tag: u8, out: &mut [u8], to: usize) -> usize
-    requires { ⌜ to + 8 ≤ length (now out) ⌝ }
-    ensures { λ r. ⌜ Prints (now (out .entry)) to (signOf tag) (now (out .exit)) r ⌝ }
-{
-    let w = word_of(tag);
-    number(out, to, w, (w / 72057594037927936) as usize)
-}
-
-// 0 for an atom, 1 for a constant, 2 for an exponential, 3 for a connective: two bits a tag.
-fn shape(tag: usize) -> usize
-    requires { ⌜ tag < 16 ⌝ }
-    ensures { λ r. ⌜ r ≡ shapeOf tag ⌝ }
-{
-    (244832192usize >> (tag * 2)) % 4
-}
-
-// What is printed before the parts of an exponential or a connective.
-fn opening(tag: u8) -> u8
-    ensures { λ r. ⌜ r ≡ openingOf tag ⌝ }
-{
-    if tag == 11 {
-        return 33;
-    }
-    if tag == 12 {
-        return 63;
-    }
-    40
-}
-
-// The brackets to come after the next part: a connective keeps them for its second part.
-fn kept(shape: usize, brackets: usize) -> usize
-    ensures { λ r. ⌜ r ≡ keptOf shape brackets ⌝ }
-{
-    if shape == 3 {
-        return 0;
-    }
-    brackets
-}
-
-// A connective that is open: its tag, and the brackets that come after its own.
-fn entry(brackets: usize, tag: u8) -> u16
-    requires { ⌜ (brackets < 4095) × (tag < 16) ⌝ }
-    ensures { λ r. ⌜ r ≡ brackets * 16 + tag ⌝ }
-{
-    (brackets * 16 + tag as usize) as u16
-}
-
-fn tag_of(entry: u16) -> u8
-    ensures { λ r. ⌜ r ≡ entry % 16 ⌝ }
-{
-    (entry % 16) as u8
-}
-
-// The brackets after its second part, its own among them.
-fn brackets_of(entry: u16) -> usize
-    ensures { λ r. ⌜ r ≡ entry / 16 + 1 ⌝ }
-{
-    entry as usize / 16 + 1
-}
 
 // An atom or a constant. A constant is taken for one with a name of no bytes, so that there is no branch.
 fn leaf(s: &[u8], at: usize, out: &mut [u8], to: usize) -> usize

@@ -1,8 +1,9 @@
 -- The call by its tests: short buffers, the reader, then the reduction. Assumes nothing.
-use Prim.Native.Nat.{ℕ, _≤_, _<_}
+use Prim.Native.Nat.{ℕ, _≤_}
 use mathlib.Core.Path.{_≡_, refl, sym, _∙_}
+use mathlib.Core.Bool.{false}
 use lib.ListN.{length, replicate}
-use borrow.Author.Tests.{le-leb, lt-leb}
+use borrow.Author.Tests.{le-leb}
 use Rattle.rules.specs.Basic.{Bytes}
 use Rattle.rules.specs.Limits.{limits}
 use Rattle.rules.specs.declared.Refusal.{Refusal}
@@ -12,7 +13,7 @@ use Rattle.rules.specs.Term.{Term, nodes}
 use Rattle.rules.specs.Reading.{readTerm}
 use Rattle.rules.specs.Reduction as rules
 use Rattle.rules.specs.Buffers.{cleared}
-use Rattle.rules.specs.Calls.{reduceEnding, reduceCall}
+use Rattle.rules.specs.Calls.{workRoom, reduceEnding, reduceCall}
 use Rattle.laws.specs.Decoding.{term-sound}
 use Rattle.laws.specs.Fits.{accepted-fits}
 use Rattle.laws.specs.Numbers.{term-spares}
@@ -30,18 +31,11 @@ module _ (term : Bytes) (limit : ℕ) (out scratch : Bytes) where
       × ((out′ ≡ reduceCall limits term limit out scratch .output)
       × (scratch′ ≡ reduceCall limits term limit out scratch .scratch))
 
-  pub short-out : (a : Reduced) → length out < 4096 → a ≡ reducedBy (refuse 1 0 0) 0 → Is a out scratch
+  pub too-short : (a : Reduced) → workRoom limits out scratch ≡ false → a ≡ reducedBy (refuse 1 0 0) 0 → Is a out scratch
   unfolding reduceCall
-  short-out a h e = (rw (lt-leb 4096 (length out) h) e, (rw (lt-leb 4096 (length out) h), rw (lt-leb 4096 (length out) h)))
+  too-short a h e = (rw h e, (rw h, rw h))
 
   module _ (h : 4096 ≤ length out) where
-    pub short-scratch : (a : Reduced) → length scratch < 8192 → a ≡ reducedBy (refuse 1 0 0) 0 → Is a out scratch
-    unfolding reduceCall
-    short-scratch a k e =
-        let p = le-leb 4096 (length out) h in
-        let q = lt-leb 8192 (length scratch) k in
-        (rw (p, q) e, (rw (p, q), rw (p, q)))
-
     module _ (k : 8192 ≤ length scratch) where
       pub not-read : (r : Refusal) → answered (mapped nodes (readTerm limits 1 term)) ≡ Refused r → Is (IsRefused r 0) out scratch
       unfolding reduceCall

@@ -9,13 +9,13 @@ ghost use Rattle.rules.specs.Reduction.{reduce};
 ghost use Rattle.rules.specs.Calls.{reduceCall};
 ghost use Rattle.spans.specs.Given.{Reads};
 ghost use Rattle.reduction.specs.Answers.{reducedBy, Reducing};
+use buffers::leave;
+use buffers::short;
 use course::Repeated;
 use repeating::repeat_steps;
 use rules::Answer;
 use rules::Counts;
-use rules::OUTPUT_ROOM;
 use rules::Refusal;
-use rules::SCRATCH_ROOM;
 
 // The steps taken, one count for each rule, whether no step remains, and the length of the term in the output.
 pub struct Reduction {
@@ -51,7 +51,6 @@ fn reduce_read(term: &[u8], nodes: usize, limit: u32, out: &mut [u8], scratch: &
     ensures { λ r. ⌜ ((t : Term) → Reads (now (term .entry)) nodes (now (out .entry)) t → Reducing (reduce limits limit t) (now (out .entry)) (now (scratch .entry)) r (now (out .exit)) (now (scratch .exit))) ⌝ }
 {
     let repeated = repeat_steps(term, nodes, limit, out, scratch);
-    runs::clear(scratch, 0);
     match repeated {
         Repeated::Stopped {
             steps,
@@ -59,7 +58,7 @@ fn reduce_read(term: &[u8], nodes: usize, limit: u32, out: &mut [u8], scratch: &
             normal,
             length,
         } => {
-            runs::clear(out, length);
+            leave(out, length, scratch);
             Reduced::Stopped(Reduction {
                 steps,
                 counts,
@@ -71,7 +70,7 @@ fn reduce_read(term: &[u8], nodes: usize, limit: u32, out: &mut [u8], scratch: &
             steps,
             length: last,
         } => {
-            runs::clear(out, last);
+            leave(out, last, scratch);
             Reduced::Refused {
                 refusal: Refusal {
                     number: 8,
@@ -90,10 +89,7 @@ pub fn normalize_bounded(term: &[u8], limit: u32, out: &mut [u8], scratch: &mut 
     ensures { λ _. ⌜ now (out .exit) ≡ reduceCall limits (now (term .entry)) limit (now (out .entry)) (now (scratch .entry)) .output ⌝ }
     ensures { λ _. ⌜ now (scratch .exit) ≡ reduceCall limits (now (term .entry)) limit (now (out .entry)) (now (scratch .entry)) .scratch ⌝ }
 {
-    if out.len() < OUTPUT_ROOM {
-        return refused();
-    }
-    if scratch.len() < SCRATCH_ROOM {
+    if short(out.len(), scratch.len()) {
         return refused();
     }
     match reader::term_input(term, 1) {

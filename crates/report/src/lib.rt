@@ -1,4 +1,5 @@
 // What the program patchrun prints besides a term: numbers, fields, and the two lines that report a run.
+use digits::put_decimal;
 use rules::Counts;
 use rules::Refusal;
 use runs::copy;
@@ -9,20 +10,6 @@ ghost use Rattle.rules.specs.Basic.{say, decimal, _‥_};
 ghost use Rattle.rules.specs.Program.{yesNo, countsLine, refusalLine};
 ghost use Rattle.runs.specs.Wrote.{Wrote};
 ghost use Rattle.report.specs.Field.{Field, Three, Line};
-
-// The digits of a number, and the place after them.
-pub fn put_decimal(n: u64, out: &mut [u8], at: usize) -> usize
-    requires { ⌜ at + length (decimal n) ≤ length (now out) ⌝ }
-    ensures { λ r. ⌜ Wrote (now (out .entry)) at (decimal n) (now (out .exit)) r ⌝ }
-{
-    if n < 10 {
-        out[at] = 48 + n as u8;
-        return at + 1;
-    }
-    let past = put_decimal(n / 10, out, at);
-    out[past] = 48 + (n % 10) as u8;
-    past + 1
-}
 
 // A word, then a number, which has at most 20 digits.
 fn put_field(word: &[u8], n: u64, out: &mut [u8], at: usize) -> usize

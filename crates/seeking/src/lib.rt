@@ -12,6 +12,9 @@ ghost use Rattle.one_rule.specs.Place.{FormulaAt};
 ghost use Rattle.entries.specs.declared.CutEntry.{CutEntry};
 ghost use Rattle.seeking.specs.Entry.{inRow};
 ghost use Rattle.seeking.specs.Searching.{nameSaid, Row, Takes, Seeks, weight};
+use atoms::no_atom;
+use atoms::oldest_left;
+use atoms::own_name;
 use entries::CutEntry;
 use entries::entry_at;
 use one_rule::skip_formulas;
@@ -78,8 +81,8 @@ fn search_from(s: &[u8], at: usize, n: usize, k: usize) -> Search
     let mut i = at;
     let mut formulas = n;
     while 0 < formulas {
-        let tag = s[i] as usize;
-        if 2 < tag {
+        let tag = s[i];
+        if no_atom(tag) {
             i = skip_formulas(s, i, 1);
             formulas -= 1;
             continue;
@@ -87,7 +90,7 @@ fn search_from(s: &[u8], at: usize, n: usize, k: usize) -> Search
         if 0 < k {
             return going(i, formulas, k);
         }
-        if tag == 1 {
+        if own_name(tag) {
             return over(true, i + 1, 0);
         }
         i = skip_formulas(s, i, 1);
@@ -106,15 +109,6 @@ fn search_at(s: &[u8], linear: usize, k: usize) -> Search
     search_from(s, linear + 1, many, k)
 }
 
-// Of k entries, of which some are left, the oldest of those that are left.
-fn oldest_left(k: usize, left: usize) -> usize
-    requires { ⌜ (0 < left) × (left ≤ k) ⌝ }
-    ensures { λ r. ⌜ r ≡ k - left ⌝ }
-{
-    let entry = k - left;
-    entry
-}
-
 // The search after a look at the oldest entry that is left.
 fn compared(s: &[u8], k: usize, search: Search, entry: CutEntry) -> Search
     requires { ⌜ (0 < search .left) × ((row : List CutEntry) × (i : ℕ) × (n : ℕ) × Seeks (now s) row k i n search × (entry ≡ inRow row (k - search .left))) ⌝ }
@@ -128,7 +122,7 @@ fn compared(s: &[u8], k: usize, search: Search, entry: CutEntry) -> Search
     if 1 < search.left {
         return going(at, search.formulas, search.left - 1);
     }
-    if s[at] == 1 {
+    if own_name(s[at]) {
         return over(true, at + 1, 0);
     }
     let next = skip_formulas(s, at, 1);

@@ -21,6 +21,7 @@ use phrases::one_part;
 use phrases::past_names;
 use phrases::right_name;
 use phrases::sign;
+use second_part::second_part;
 use words::byte;
 use words::closed;
 
@@ -30,7 +31,7 @@ fn discard(s: &[u8], at: usize, out: &mut [u8], to: usize) -> usize
     ensures { λ r. ⌜ ((a : Term) → (b : Term) → TermTask (now (s .entry)) at (now (out .entry)) to (twoOf discardOf a b) → TermDone at (now (out .entry)) to (twoOf discardOf a b) (now (out .exit)) r) ⌝ }
 {
     let a = discard_words(out, to);
-    part(&*s, walk::skip(s, at + 1, 1), out, a)
+    part(&*s, second_part(s, at), out, a)
 }
 
 fn let_pair(s: &[u8], at: usize, out: &mut [u8], to: usize) -> usize

@@ -4,7 +4,7 @@ use mathlib.Core.Path.{ap, _∙_}
 use mathlib.Core.List.{_∷_}
 use lib.ListN.{length-set}
 use denote.Ref.{now}
-use Rattle.report.specs.Digits.{wrote-as}
+use Rattle.digits.specs.Digits.{wrote-as}
 use Rattle.draft.specs.Draft.{shapeOf}
 use Rattle.draft_heads.specs.Heads.{middle}
 use Rattle.draft.proofs.Numbering.{then-byte}

@@ -5,7 +5,7 @@ use native.Mathlib.Omega.{arith}
 use lib.ListN.{length}
 use denote.Ref.{now}
 use Rattle.runs.specs.Writing.{chain, wrote-none}
-use Rattle.report.specs.Digits.{wrote-one, wrote-as}
+use Rattle.digits.specs.Digits.{wrote-one, wrote-as}
 use Rattle.draft_heads.proofs.Sorts.{middle-named, middle-identity, middle-none, middle-discarding, middle-two, middle-copying, middle-room, copying-length, two-length}
 use borrow.Author.Needs.{needs}
 use Rattle.draft_heads.proofs.put_middle.Statement.{statement}

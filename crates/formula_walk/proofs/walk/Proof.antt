@@ -4,7 +4,7 @@ use native.Mathlib.Omega.{arith}
 use lib.ListN.{length, getD}
 use denote.Ref.{now}
 use borrow.Author.Needs.{needs}
-use Rattle.formula_walk.specs.Words.{shapeOf}
+use Rattle.formula_signs.specs.Words.{shapeOf}
 use Rattle.formula_walk.proofs.Walking.{Going, begin, here, inside, low-tag, to-room, entry-fits, depth-low, turn, leaf-here, further, closes-room, ended, next-room, next}
 use Rattle.formula_walk.proofs.walk.Statement.{statement}
 use Rattle.formula_walk.proofs.walk.Tie as tie

@@ -1,22 +1,19 @@
 -- `reduction::normalize_bounded` meets its contract, by its tests in the order of document 01. Assumes nothing.
 use mathlib.Core.Path.{sym, _∙_}
 use denote.Ref.{now}
-use Rattle.reduction.proofs.Calling.{short-out, short-scratch, not-read, read, reduced}
+use Rattle.reduction.proofs.Calling.{too-short, not-read, read, reduced}
 use borrow.Author.Needs.{needs}
 use Rattle.reduction.proofs.normalize_bounded.Statement.{statement}
 use Rattle.reduction.proofs.normalize_bounded.Tie as tie
+
+short-requires : tie.Need-short-requires
+short-requires c κs = search needs
 
 refused-requires : tie.Need-refused-requires
 refused-requires c κs = search needs
 
 returns : tie.Need-returns
-returns c = let a = c .before .before .before .before .before .args in short-out (now (a .term)) (a .limit) (now (a .out)) (now (a .scratch)) _ (c .before .if1 .taken) (c .refused .ensures)
-
-refused-requires-2 : tie.Need-refused-requires-2
-refused-requires-2 c κs = search needs
-
-returns-2 : tie.Need-returns-2
-returns-2 c = let a = c .before .before .before .before .before .before .args in short-scratch (now (a .term)) (a .limit) (now (a .out)) (now (a .scratch)) (c .before .before .if1 .left) _ (c .before .if2 .taken) (c .refused2 .ensures)
+returns c = let a = c .before .before .before .before .before .before .args in too-short (now (a .term)) (a .limit) (now (a .out)) (now (a .scratch)) _ (c .before .before .short .ensures .few (c .before .if1 .taken)) (c .refused .ensures)
 
 term-input-requires : tie.Need-term-input-requires
 term-input-requires c κs = search needs
@@ -28,10 +25,14 @@ enum-known-nodes : tie.Need-enum-known-nodes
 enum-known-nodes c = search needs
 
 reduce-read-requires : tie.Need-reduce-read-requires
-reduce-read-requires c κs = let a = c .before .before .before .before .before .before .before .before .before .before .before .args in (read (now (a .term)) (a .limit) (now (a .out)) (now (a .scratch)) (c .before .before .before .before .before .before .before .if1 .left) (c .before .before .before .before .before .before .if2 .left) _ (sym (c .before .before .before .before .before .term-input .ensures) ∙ c .before .before .before .nodes .given .1), c .before .before .before .before .before .before .if2 .left)
+reduce-read-requires c κs = let a = c .before .before .before .before .before .before .before .before .before .before .before .args in
+    let (h, k) = c .before .before .before .before .before .before .before .short .ensures .many (c .before .before .before .before .before .before .if1 .left) in
+    (read (now (a .term)) (a .limit) (now (a .out)) (now (a .scratch)) h k _ (sym (c .before .before .before .before .before .term-input .ensures) ∙ c .before .before .before .nodes .given .1), k)
 
-returns-3 : tie.Need-returns-3
-returns-3 c = let a = c .before .before .before .before .before .before .before .before .before .args in not-read (now (a .term)) (a .limit) (now (a .out)) (now (a .scratch)) (c .before .before .before .before .before .if1 .left) (c .before .before .before .before .if2 .left) _ (sym (c .before .before .before .term-input .ensures) ∙ c .before .refusal .given .1)
+returns-2 : tie.Need-returns-2
+returns-2 c = let a = c .before .before .before .before .before .before .before .before .before .args in
+    let (h, k) = c .before .before .before .before .before .short .ensures .many (c .before .before .before .before .if1 .left) in
+    not-read (now (a .term)) (a .limit) (now (a .out)) (now (a .scratch)) h k _ (sym (c .before .before .before .term-input .ensures) ∙ c .before .refusal .given .1)
 
 same-length : tie.Need-same-length
 same-length c = search needs
@@ -39,26 +40,25 @@ same-length c = search needs
 same-length-2 : tie.Need-same-length-2
 same-length-2 c = search needs
 
-returns-4 : tie.Need-returns-4
-returns-4 c =
-    let a = c .before .before .before .before .before .before .before .before .before .before .before .before .before .before .before .before .args in
+returns-3 : tie.Need-returns-3
+returns-3 c = let a = c .before .before .before .before .before .before .before .before .before .before .before .before .before .before .before .before .args in
+    let (h, k) = c .before .before .before .before .before .before .before .before .before .before .before .before .short .ensures .many (c .before .before .before .before .before .before .before .before .before .before .before .if1 .left) in
     let e = sym (c .before .before .before .before .before .before .before .before .before .before .term-input .ensures) ∙ c .before .before .before .before .before .before .before .before .nodes .given .1 in
-    let w = read (now (a .term)) (a .limit) (now (a .out)) (now (a .scratch)) (c .before .before .before .before .before .before .before .before .before .before .before .before .if1 .left) (c .before .before .before .before .before .before .before .before .before .before .before .if2 .left) _ e in
-    reduced (now (a .term)) (a .limit) (now (a .out)) (now (a .scratch)) (c .before .before .before .before .before .before .before .before .before .before .before .before .if1 .left) (c .before .before .before .before .before .before .before .before .before .before .before .if2 .left) _ e _ _ _ (c .before .before .before .before .reduce-read .ensures (w .0) (w .1))
+    let w = read (now (a .term)) (a .limit) (now (a .out)) (now (a .scratch)) h k _ e in
+    reduced (now (a .term)) (a .limit) (now (a .out)) (now (a .scratch)) h k _ e _ _ _ (c .before .before .before .before .reduce-read .ensures (w .0) (w .1))
 
 pub normalize-bounded-spec : {M : Type 1} → statement M
 normalize-bounded-spec =
     tie.close
     (tie.spec
+    short-requires
     refused-requires
     returns
-    refused-requires-2
-    returns-2
     term-input-requires
     enum-known-refusal
     enum-known-nodes
     reduce-read-requires
-    returns-3
+    returns-2
     same-length
     same-length-2
-    returns-4)
+    returns-3)

@@ -1,14 +1,6 @@
 -- `report::put_counts` meets its contract: three times three fields, and the end of the line. Assumes nothing.
-use Prim.Native.Nat.{_≤_}
-use mathlib.Core.Bool.{Bool, true, false}
-use mathlib.Core.List.{[], _∷_}
-use native.Mathlib.Omega.{arith}
-use lib.ListN.{length}
-use Rattle.rules.specs.Basic.{say, _‥_}
-use Rattle.rules.specs.Program.{yesNo, field, countsLine}
-use Rattle.runs.specs.Writing.{chain}
-use Rattle.report.specs.Digits.{wrote-as, nine}
 use borrow.Author.Needs.{needs}
+use Rattle.report.proofs.Counted.{counted}
 use Rattle.report.proofs.put_counts.Statement.{statement}
 use Rattle.report.proofs.put_counts.Tie as tie
 
@@ -54,27 +46,14 @@ put-normal-requires c κs = search needs
 same-length : tie.Need-same-length
 same-length c = search needs
 
-last-short : (b : Bool) → length (say " normal " ‥ say (yesNo b) ‥ 10 ∷ []) ≤ 12
-last-short true = omega arith
-last-short false = omega arith
-
 returns : tie.Need-returns
-unfolding countsLine
 returns c =
     let a = c .before .before .before .before .before .before .before .before .before .before .before .before .before .before .before .before .before .before .before .before .before .before .before .before .before .before .args in
-    let n = a .counts in
-    let x = c .before .before .before .before .before .before .before .before .before .before .before .before .before .before .before .before .before .before .before .before .put-three .ensures in
-    let y = c .before .before .before .before .before .before .before .before .before .before .before .before .before .put-three2 .ensures in
-    let z = c .before .before .before .before .before .before .put-three3 .ensures in
-    let end = c .before .before .put-normal .ensures in
-    record {
-      wrote =
-          wrote-as
-          (nine (field "steps " (a .steps)) (field " app " (n .app)) (field " let " (n .lets)) (field " case " (n .case)) (field " fst " (n .fst)) (field " snd " (n .snd))
-          (field " derelict " (n .derelict)) (field " copy " (n .copy)) (field " discard " (n .discard)) _)
-          (chain (x .wrote) (chain (y .wrote) (chain (z .wrote) end)));
-      most = omega (arith, x .most, y .most, z .most, end .ends, last-short (a .normal));
-    }
+    counted (a .steps) (a .counts) (a .normal)
+    (c .before .before .before .before .before .before .before .before .before .before .before .before .before .before .before .before .before .before .before .before .put-three .ensures)
+    (c .before .before .before .before .before .before .before .before .before .before .before .before .before .put-three2 .ensures)
+    (c .before .before .before .before .before .before .put-three3 .ensures)
+    (c .before .before .put-normal .ensures)
 
 pub put-counts-spec : {M : Type 1} → statement M
 put-counts-spec =

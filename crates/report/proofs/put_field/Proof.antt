@@ -5,7 +5,7 @@ use lib.ListN.{length}
 use lib.Seq.{take-length}
 use denote.Ref.{now}
 use Rattle.runs.specs.Writing.{chain}
-use Rattle.report.specs.Digits.{decimal-few, wrote-as}
+use Rattle.digits.specs.Digits.{decimal-few, wrote-as}
 use borrow.Author.Needs.{needs}
 use Rattle.report.proofs.put_field.Statement.{statement}
 use Rattle.report.proofs.put_field.Tie as tie

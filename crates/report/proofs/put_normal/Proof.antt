@@ -4,7 +4,7 @@ use mathlib.Core.Bool.{Bool}
 use mathlib.Core.List.{[], _∷_}
 use Rattle.rules.specs.Basic.{say, _‥_}
 use Rattle.rules.specs.Program.{yesNo}
-use Rattle.report.specs.Digits.{wrote-as}
+use Rattle.digits.specs.Digits.{wrote-as}
 use borrow.Author.Needs.{needs}
 use Rattle.report.proofs.put_normal.Statement.{statement}
 use Rattle.report.proofs.put_normal.Tie as tie

@@ -4,7 +4,7 @@ use mathlib.Core.Path.{_∙_}
 use lib.ListN.{length-set}
 use Rattle.rules.specs.Program.{refusalLine}
 use Rattle.runs.specs.Writing.{chain}
-use Rattle.report.specs.Digits.{wrote-one}
+use Rattle.digits.specs.Digits.{wrote-one}
 use borrow.Author.Needs.{needs}
 use Rattle.report.proofs.put_refusal.Statement.{statement}
 use Rattle.report.proofs.put_refusal.Tie as tie

@@ -63,10 +63,10 @@ use Rattle.seeking.proofs.search_at as start-of
 use Rattle.seeking.proofs.search_at.Symbol as start-def
 use Rattle.seeking.proofs.search_at.Symbol.{name as #start}
 use Rattle.seeking.proofs.search_at.Met as start-thm
-use Rattle.seeking.proofs.oldest_left as oldest-of
-use Rattle.seeking.proofs.oldest_left.Symbol as oldest-def
-use Rattle.seeking.proofs.oldest_left.Symbol.{name as #oldest}
-use Rattle.seeking.proofs.oldest_left.Met as oldest-thm
+use Rattle.atoms.proofs.oldest_left as oldest-of
+use Rattle.atoms.proofs.oldest_left.Symbol as oldest-def
+use Rattle.atoms.proofs.oldest_left.Symbol.{name as #oldest}
+use Rattle.atoms.proofs.oldest_left.Met as oldest-thm
 use Rattle.seeking.proofs.compared as compared-of
 use Rattle.seeking.proofs.compared.Symbol as compared-def
 use Rattle.seeking.proofs.compared.Symbol.{name as #compared}
@@ -428,7 +428,7 @@ module _ {M : Type 1} (𝓤 : URA M) (H : Heap 𝓤) (A : Atoms 𝓤) (W : Given
             assigns ! (bin ! (lit ! tt) (load ! (from ! (fld ! refl (stop !))) (look-in ! 8 (sub ! 2 refl (whole !)))) (tt)) (from ! (stop !)) (init ! 4 refl (tt, tt)) $
             while-test ! (load ! (from ! (stop !)) (look ! 4 refl))
             (λ h. let some-left : 0 < x .0 .left = ltb→lt 0 (x .0 .left) h in
-            -- seeking::oldest_left
+            -- atoms::oldest_left
             use0 W (raw (OldestC 𝓤 H A mem run .pre (to-oldest k (x .0 .left)))) (goes-oldest k (x .0 .left) g-k (left-fits (x .0) (x .1)) (some-left, x .2 .few)) $
             calls-at ! fm (OldestC 𝓤 H A mem run) known-oldest (to-oldest k (x .0 .left)) (and-then ! (load ! (from ! (stop !)) (look ! 11 refl)) (and-then ! (load ! (from ! (fld ! refl (stop !))) (look-in ! 9 (sub ! 2 refl (whole !)))) (no-more !))) (λ v0.
             use1 W (later (some (λ (r0 : ℕ). given (r0 ≡ k - (x .0 .left)) (‵ (usize .own (r0) (v0 ∷ [])))))) (after-oldest k (x .0 .left) v0) $ await ! tt $ pick ! (λ r0. learn ! (λ e0.
@@ -491,6 +491,6 @@ axiom-name-spec 𝓤 H 𝓜 𝓖 𝓡 =
     (tables 𝓤 H 𝓜 𝓡 code.env .C) (tables 𝓤 H 𝓜 𝓡 code.env .Λ) #f code.function (code.unfolded 𝓤 H 𝓜 𝓡)
     (f-meets 𝓤 H (𝓖 .A) (givenOf 𝓤 H 𝓜 𝓖) (𝓜 .mem) (𝓡 .run) (tablesOf 𝓤 H 𝓜 (tables 𝓤 H 𝓜 𝓡 code.env))
     (cited 𝓤 H (StartC 𝓤 H (𝓖 .A) (𝓜 .mem) (𝓡 .run)) 𝓜 𝓡 code.env #start start-def.routine code.calls-seeking·search-at (start-thm.met 𝓤 H 𝓜 𝓖 𝓡))
-    (cited 𝓤 H (OldestC 𝓤 H (𝓖 .A) (𝓜 .mem) (𝓡 .run)) 𝓜 𝓡 code.env #oldest oldest-def.routine code.calls-seeking·oldest-left (oldest-thm.met 𝓤 H 𝓜 𝓖 𝓡))
+    (cited 𝓤 H (OldestC 𝓤 H (𝓖 .A) (𝓜 .mem) (𝓡 .run)) 𝓜 𝓡 code.env #oldest oldest-def.routine code.calls-atoms·oldest-left (oldest-thm.met 𝓤 H 𝓜 𝓖 𝓡))
     (cited 𝓤 H (EntryC 𝓤 H (𝓖 .A) (𝓜 .mem) (𝓡 .run)) 𝓜 𝓡 code.env #entry entry-def.routine code.calls-entries·entry-at (entry-thm.met 𝓤 H 𝓜 𝓖 𝓡))
     (cited 𝓤 H (ComparedC 𝓤 H (𝓖 .A) (𝓜 .mem) (𝓡 .run)) 𝓜 𝓡 code.env #compared compared-def.routine code.calls-seeking·compared (compared-thm.met 𝓤 H 𝓜 𝓖 𝓡)))

@@ -27,7 +27,7 @@ use Rattle.term_walk.proofs.+case+copy+discard+let_pair+part+walk+whole
 use Rattle.term_walk.proofs.+case+copy+discard+let_pair+part+walk+whole.Proof.Claims.{μ-case, μ-copy, μ-discard, μ-let-pair, μ-part, μ-walk, μ-whole, case-at, copy-at, discard-at, let-pair-at, part-at, walk-at, whole-at, case-claims, copy-claims, discard-claims, let-pair-claims, part-claims, walk-claims, whole-claims}
 use Rattle.term_walk.proofs.+case+copy+discard+let_pair+part+walk+whole.Proof.Case.{case-add-x, case-past-requires, case-case-word-requires, case-past-names-requires, case-part-requires, case-left-name-requires, case-part-requires-2, case-right-name-requires, case-part-requires-3, case-case-end-requires, case-same-length, case-returns}
 use Rattle.term_walk.proofs.+case+copy+discard+let_pair+part+walk+whole.Proof.Copy.{copy-add-x, copy-copy-word-requires, copy-past-names-requires, copy-part-requires, copy-as-names-requires, copy-part-requires-2, copy-same-length, copy-returns}
-use Rattle.term_walk.proofs.+case+copy+discard+let_pair+part+walk+whole.Proof.Discard.{discard-discard-words-requires, discard-add-skip, discard-skip-requires, discard-part-requires, discard-same-length, discard-returns}
+use Rattle.term_walk.proofs.+case+copy+discard+let_pair+part+walk+whole.Proof.Discard.{discard-discard-words-requires, discard-second-part-requires, discard-part-requires, discard-same-length, discard-returns}
 use Rattle.term_walk.proofs.+case+copy+discard+let_pair+part+walk+whole.Proof.LetPair.{let-pair-add-x, let-pair-let-names-requires, let-pair-past-names-requires, let-pair-part-requires, let-pair-in-word-requires, let-pair-part-requires-2, let-pair-same-length, let-pair-returns}
 use Rattle.term_walk.proofs.+case+copy+discard+let_pair+part+walk+whole.Proof.Part.{part-Inv-loop, part-μ-loop, part-loop-holds, part-shared-slice-read-tag, part-add-x, part-walk-requires, part-same-length, part-returns, part-past-requires, part-bound-name-requires, part-loop-less, part-loop-again, part-one-part-requires, part-sign-requires, part-loop-less-2, part-loop-again-2, part-whole-requires, part-same-length-2, part-returns-2}
 use Rattle.term_walk.proofs.+case+copy+discard+let_pair+part+walk+whole.Proof.Walk.{walk-Inv-loop, walk-μ-loop, walk-loop-holds, walk-shared-slice-read-tag, walk-add-x, walk-last-name-requires, walk-same-length, walk-returns, walk-add-brackets, walk-shared-slice-read-if1, walk-add-y, walk-past-requires, walk-first-name-requires, walk-loop-less, walk-loop-again, walk-byte-requires, walk-walk-requires, walk-between-requires, walk-loop-less-2, walk-loop-again-2, walk-past-requires-2, walk-bound-name-requires, walk-loop-less-3, walk-loop-again-3, walk-part-requires, walk-closed-requires, walk-same-length-2, walk-returns-2}
@@ -62,8 +62,7 @@ pub +case+copy+discard+let-pair+part+walk+whole-spec : {M : Type 1} → statemen
     (λ t. discard-lts.spec (discard-claims t) (discard-at t)
     discard.Post
     (discard-discard-words-requires t)
-    (discard-add-skip t)
-    (discard-skip-requires t)
+    (discard-second-part-requires t)
     (discard-part-requires t)
     (discard-same-length t)
     (discard-returns t))

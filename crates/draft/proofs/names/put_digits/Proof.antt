@@ -3,7 +3,7 @@ use mathlib.Core.Path.{sym, _∙_}
 use native.Mathlib.Omega.{arith}
 use lib.ListN.{length-set}
 use Rattle.runs.specs.Writing.{chain}
-use Rattle.report.specs.Digits.{decimal-one, wrote-one, wrote-as}
+use Rattle.digits.specs.Digits.{decimal-one, wrote-one, wrote-as}
 use Rattle.draft.proofs.Numbering.{count-one, count-below, count-two-more, two-digits, three-digits, last-two, then-byte}
 use borrow.Author.Needs.{needs}
 use Rattle.draft.proofs.names.put_digits.Statement.{statement}

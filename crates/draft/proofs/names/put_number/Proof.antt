@@ -3,7 +3,7 @@ use mathlib.Core.Path.{sym, ap}
 use native.Mathlib.Omega.{arith}
 use lib.ListN.{length}
 use Rattle.runs.specs.Writing.{wrote-none}
-use Rattle.report.specs.Digits.{wrote-as}
+use Rattle.digits.specs.Digits.{wrote-as}
 use Rattle.draft.proofs.Numbering.{numbered-none, numbered-some}
 use borrow.Author.Needs.{needs}
 use Rattle.draft.proofs.names.put_number.Statement.{statement}

@@ -7,7 +7,7 @@ use lib.Seq.{slice}
 use denote.Ref.{now}
 use Rattle.rules.specs.Name.{lower}
 use Rattle.runs.specs.Writing.{wrote-none}
-use Rattle.report.specs.Digits.{wrote-one, wrote-as}
+use Rattle.digits.specs.Digits.{wrote-one, wrote-as}
 use Rattle.draft.proofs.Stems.{stem-x, stem-none, stem-within, stem-slice}
 use borrow.Author.Needs.{needs}
 use Rattle.draft.proofs.names.put_stem.Statement.{statement}

@@ -3,7 +3,7 @@ use Prim.Native.Nat.{_+_, _/_, _%_}
 use native.Mathlib.Omega.{arith}
 use lib.ListN.{set, length-set}
 use denote.Ref.{now}
-use Rattle.report.specs.Digits.{wrote-one}
+use Rattle.digits.specs.Digits.{wrote-one}
 use Rattle.draft.proofs.Numbering.{then-byte}
 use borrow.Author.Needs.{needs}
 use Rattle.draft.proofs.names.put_two_digits.Statement.{statement}

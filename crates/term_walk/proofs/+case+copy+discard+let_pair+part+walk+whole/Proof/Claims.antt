@@ -44,7 +44,7 @@ use Rattle.phrases.proofs.one_part.Reads as one-part-reads
 use Rattle.phrases.proofs.past_names.Reads as past-names-reads
 use Rattle.phrases.proofs.right_name.Reads as right-name-reads
 use Rattle.phrases.proofs.sign.Reads as sign-reads
-use Rattle.walk.proofs.skip.Reads as skip-reads
+use Rattle.second_part.proofs.second_part.Reads as second-part-reads
 use Rattle.words.proofs.byte.Reads as byte-reads
 use Rattle.words.proofs.closed.Reads as closed-reads
 
@@ -119,7 +119,7 @@ abbrev pub copy-claims : ℕ → copy-lts.Claims
 copy-claims t = (copy-word-reads.Asked, copy-word-reads.Learnt, past-names-reads.Asked, past-names-reads.Learnt, part-below t, part.Post, as-names-reads.Asked, as-names-reads.Learnt)
 
 abbrev pub discard-claims : ℕ → discard-lts.Claims
-discard-claims t = (discard-words-reads.Asked, discard-words-reads.Learnt, skip-reads.Asked, skip-reads.Learnt, part-below t, part.Post)
+discard-claims t = (discard-words-reads.Asked, discard-words-reads.Learnt, second-part-reads.Asked, second-part-reads.Learnt, part-below t, part.Post)
 
 abbrev pub let-pair-claims : ℕ → let-pair-lts.Claims
 let-pair-claims t = (let-names-reads.Asked, let-names-reads.Learnt, past-names-reads.Asked, past-names-reads.Learnt, part-below t, part.Post, in-word-reads.Asked, in-word-reads.Learnt)

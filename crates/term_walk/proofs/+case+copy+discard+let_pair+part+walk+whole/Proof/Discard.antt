@@ -13,21 +13,16 @@ discard-discard-words-requires t c κs =
     let w = c .before .before .before .pre .1 in
     discard-room (w .0) (w .1) (w .2)
 
-pub discard-add-skip : (t : ℕ) → discard-lts.Need-add-skip (discard-claims t) (discard-at t) discard.Post
-discard-add-skip t c =
+pub discard-second-part-requires : (t : ℕ) → discard-lts.Need-second-part-requires (discard-claims t) (discard-at t) discard.Post
+discard-second-part-requires t c κs =
     let w = c .before .before .before .before .before .before .pre .1 in
-    omega (arith, begun (twoOf discardOf (w .0) (w .1)) (w .2))
-
-pub discard-skip-requires : (t : ℕ) → discard-lts.Need-skip-requires (discard-claims t) (discard-at t) discard.Post
-discard-skip-requires t c κs =
-    let w = c .before .before .before .before .before .before .pre .1 in
-    (w .0 ∷ [], discard-terms (w .0) (w .1) (w .2))
+    (begun (twoOf discardOf (w .0) (w .1)) (w .2), (w .0 ∷ [], discard-terms (w .0) (w .1) (w .2)))
 
 pub discard-part-requires : (t : ℕ) → discard-lts.Need-part-requires (discard-claims t) (discard-at t) discard.Post
 discard-part-requires t c κs =
     let w = c .before .before .before .before .before .before .before .before .pre .1 in
     let a = c .before .before .before .before .discard-words .ensures in
-    let h = c .before .skip .ensures (w .0 ∷ []) (discard-terms (w .0) (w .1) (w .2)) in
+    let h = c .before .second-part .ensures (w .0 ∷ []) (discard-terms (w .0) (w .1) (w .2)) in
     (omega (arith, c .before .before .before .before .before .before .before .before .pre .0, begun (twoOf discardOf (w .0) (w .1)) (w .2), discard-further (w .0) (w .1) (w .2) a h), (w .1, discard-part (w .0) (w .1) (w .2) a h))
 
 pub discard-same-length : (t : ℕ) → discard-lts.Need-same-length (discard-claims t) (discard-at t) discard.Post
@@ -36,5 +31,5 @@ discard-same-length t c = omega (arith, c .before .before .before .before .befor
 pub discard-returns : (t : ℕ) → discard-lts.Need-returns (discard-claims t) (discard-at t) discard.Post
 discard-returns t c f g w =
     let a = c .before .before .before .before .before .before .before .discard-words .ensures in
-    let h = c .before .before .before .before .skip .ensures (f ∷ []) (discard-terms f g w) in
+    let h = c .before .before .before .before .second-part .ensures (f ∷ []) (discard-terms f g w) in
     discard-done f g w a h (c .before .before .part .ensures g (discard-part f g w a h))

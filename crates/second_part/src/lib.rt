@@ -1,0 +1,16 @@
+// Where the second part of a node without names stands.
+ghost use mathlib.Core.Path.{_≡_};
+ghost use mathlib.Core.List.{List};
+ghost use Prim.Native.Nat.{_+_, _<_};
+ghost use lib.ListN.{length};
+ghost use Rattle.rules.specs.Term.{Term};
+ghost use Rattle.walk.specs.Node.{encodeAll};
+ghost use Rattle.walk.specs.Place.{TermsAt};
+
+// The position after the first part of the node at `at`.
+pub fn second_part(s: &[u8], at: usize) -> usize
+    requires { ⌜ (at < length (now s)) × ((ts : List Term) × TermsAt (now s) (at + 1) 1 ts) ⌝ }
+    ensures { λ r. ⌜ ((ts : List Term) → TermsAt (now (s .entry)) (at + 1) 1 ts → r ≡ at + 1 + length (encodeAll ts)) ⌝ }
+{
+    walk::skip(s, at + 1, 1)
+}
