@@ -18,7 +18,6 @@ use rules::MOST_FORMULA_NODES;
 use rules::MOST_RULES;
 use rules::Refusal;
 
-mod conclusion;
 mod premises;
 
 // Whether s is a proof of at most so many bytes, rules and formula nodes; with its count of rules.

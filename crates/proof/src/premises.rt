@@ -6,7 +6,7 @@ ghost use Rattle.rules.specs.Formula.{formulas as formulaLayout};
 ghost use Rattle.rules.specs.Reading.{many, proofAt};
 ghost use Rattle.letters.specs.Classes.{Classes};
 ghost use Rattle.rule_bytes.specs.Seen.{seen, found, reachedAt, within};
-use crate::conclusion::read_conclusion;
+use conclusion::read_conclusion;
 use rule_bytes::Most;
 use rule_bytes::Reached;
 use rule_bytes::Reading;
