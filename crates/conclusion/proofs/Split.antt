@@ -31,7 +31,7 @@ module _ (L : Limits) where
   abbrev pub above : ℕ → Top → Reader Met Proof
   above d x u p r = andThen (many (proofAt L d) (x .premises) u p r) (λ ps. pure (proof (x .rule) (x .linear) (row ps)))
 
-  in-stages : (d : ℕ) (u : Met) (at : ℕ) (r : Bytes) → andThen (topOf L u at r) (above d) ≡ proofAt L (suc d) u at r
+  pub in-stages : (d : ℕ) (u : Met) (at : ℕ) (r : Bytes) → andThen (topOf L u at r) (above d) ≡ proofAt L (suc d) u at r
   unfolding proofAt topOf ownOf linearOf rowOf countOf
   in-stages d u at r =
       regroup (ownOf L u at r) _ (above d)

@@ -1,4 +1,5 @@
--- `check_within` meets its contract: each return is a case of what a whole input is. Assumes nothing.
+-- `check_within` meets its contract: the rules that are still owed come to what the proof comes to, and each return is a case of what a
+-- whole input is. Assumes nothing.
 use native.Mathlib.Omega.{arith}
 use mathlib.Core.Path.{sym, _∙_}
 use Rattle.laws.specs.Octets.{octets}
@@ -13,8 +14,11 @@ returns c = let a = c .before .before .args in λ L b m f. sym (whole-long (a .i
 table-of-requires : tie.Need-table-of-requires
 table-of-requires c κs = search needs
 
-read-rule-requires : tie.Need-read-rule-requires
-read-rule-requires c κs = (c .before .table-of .ensures, (c .before .before .before .before .pre, omega arith))
+go-ahead-requires : tie.Need-go-ahead-requires
+go-ahead-requires c κs = search needs
+
+read-premises-requires : tie.Need-read-premises-requires
+read-premises-requires c κs = search needs
 
 enum-known-end : tie.Need-enum-known-end
 enum-known-end c = search needs
@@ -26,15 +30,15 @@ enum-known-number : tie.Need-enum-known-number
 enum-known-number c = search needs
 
 returns-2 : tie.Need-returns-2
-returns-2 c = let a = c .before .before .before .before .before .before .before .before .before .args in
+returns-2 c = let a = c .before .before .before .before .before .before .before .before .before .before .before .args in
     λ L b m f. c .at-end .ensures ∙ sym (whole-end (a .input) (a .s .now) L b m f (omega arith)
-    (sym (c .before .before .before .before .read-rule .ensures (a .most .rules) (omega arith)) ∙ c .before .before .end .given .1)
-    (octets (a .s .now) (λ i. c .before .before .before .before .before .before .before .before .shared-slice-known .given i .fits)))
+    (sym (c .before .before .before .before .before .before .go-ahead .ensures .same (a .most .rules) (omega arith)) ∙ sym (c .before .before .before .before .read-premises .ensures (a .most .rules) (omega arith)) ∙ c .before .before .end .given .1)
+    (octets (a .s .now) (λ i. c .before .before .before .before .before .before .before .before .before .before .shared-slice-known .given i .fits)))
 
 returns-3 : tie.Need-returns-3
-returns-3 c = let a = c .before .before .before .before .before .before .before .before .args in
+returns-3 c = let a = c .before .before .before .before .before .before .before .before .before .before .args in
     λ L b m f. sym (whole-bad (a .input) (a .s .now) L b m f (omega arith)
-    (sym (c .before .before .before .read-rule .ensures (a .most .rules) (omega arith)) ∙ c .before .number .given .1))
+    (sym (c .before .before .before .before .before .go-ahead .ensures .same (a .most .rules) (omega arith)) ∙ sym (c .before .before .before .read-premises .ensures (a .most .rules) (omega arith)) ∙ c .before .number .given .1))
 
 pub check-within-spec : {M : Type 1} → statement M
 check-within-spec =
@@ -42,7 +46,8 @@ check-within-spec =
     (tie.spec
     returns
     table-of-requires
-    read-rule-requires
+    go-ahead-requires
+    read-premises-requires
     enum-known-end
     at-end-requires
     enum-known-number

@@ -1,0 +1,5 @@
+-- What the proofs of several functions use.
+mod Carried
+mod Parts
+mod Depth
+mod Onward

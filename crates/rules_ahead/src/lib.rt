@@ -1,0 +1,167 @@
+// Goes over the rules of a proof in one loop, by few tests: a rule stands before its premises, so it is enough to count the rules that are owed.
+// It stops before the first rule that is not good, which is left to those who know what is wrong with it.
+ghost use mathlib.Core.Path.{_≡_};
+ghost use Prim.Native.Nat.{ℕ, _+_, _≤_, _<_};
+ghost use lib.ListN.{length, getD};
+ghost use Rattle.rules.specs.Formula.{formulas as formulaLayout};
+ghost use Rattle.rules.specs.Layout.{headAt};
+ghost use Rattle.rules.specs.Proof.{ruleHeads};
+ghost use Rattle.letters.specs.Classes.{Classes};
+ghost use Rattle.rule_bytes.specs.Seen.{kindAt, reachedAt, within};
+ghost use Rattle.rule_bytes.specs.Stages.{rowOf, ownOf};
+ghost use Rattle.rules_ahead.specs.Still.{Comes, Leads, Still};
+use letters::Form;
+use letters::Read;
+use nodes::read_row;
+use rule_bytes::Most;
+use rule_bytes::Reached;
+
+// What a rule carries, two bits a tag: 1 for nothing, 2 for a formula, 3 for an index, and 0 where there is no such rule.
+const KINDS: usize = 134575641956;
+
+fn kind_of(tag: usize) -> usize
+    requires { ⌜ tag < 32 ⌝ }
+    ensures { λ r. ⌜ r ≡ kindAt (headAt ruleHeads tag) ⌝ }
+{
+    (KINDS >> (tag * 2)) % 4
+}
+
+// Where a part of a rule ends, and the formula nodes met by then. A part that is not good ends where the bytes do: no rule ends with it.
+struct Part {
+    next: usize,
+    formulas: usize,
+}
+
+// n formulas, one after the other.
+fn past_row(s: &[u8], t: &[u8; 256], most: Most, next: usize, formulas: usize, n: usize) -> Part
+    requires { ⌜ Classes formulaLayout (now t) ⌝ }
+    requires { ⌜ (most .formulas ≤ 65536) × (n ≤ 256) ⌝ }
+    ensures { λ r. ⌜ (r .next < length (now (s .entry)) → (rules : ℕ) → Comes (rowOf (within most) n) (now (s .entry)) (reachedAt next rules formulas) (reachedAt (r .next) rules (r .formulas))) ⌝ }
+{
+    if n == 0 {
+        return Part { next, formulas };
+    }
+    match read_row(s, Form::Formula, t, next, formulas, most.formulas, n) {
+        Read::Whole { next, met } => Part {
+            next,
+            formulas: met,
+        },
+        Read::Bad { number, place } => Part {
+            next: s.len(),
+            formulas,
+        },
+    }
+}
+
+// A rule's tag, and what it carries. It is not looked at what an index is.
+fn past_own(s: &[u8], t: &[u8; 256], most: Most, at: usize, formulas: usize, kind: usize) -> Part
+    requires { ⌜ Classes formulaLayout (now t) ⌝ }
+    requires { ⌜ (most .formulas ≤ 65536) × (at < length (now s)) × (0 < kind) × (kind ≡ kindAt (headAt ruleHeads (getD (now s) at 0))) ⌝ }
+    ensures { λ r. ⌜ (r .next < length (now (s .entry)) → (rules : ℕ) → rules < most .rules → Comes (ownOf (within most)) (now (s .entry)) (reachedAt at rules formulas) (reachedAt (r .next) (rules + 1) (r .formulas))) ⌝ }
+{
+    let past = at + 1;
+    if kind == 2 {
+        return past_row(s, t, most, past, formulas, 1);
+    }
+    Part {
+        next: past + kind / 3 * 2,
+        formulas,
+    }
+}
+
+// Where a rule's premises begin, the formula nodes met by then, and how many premises there are: 4 where the rule is not good.
+struct Passed {
+    next: usize,
+    formulas: usize,
+    premises: usize,
+}
+
+fn not_good(at: usize) -> Passed
+    ensures { λ r. ⌜ r .premises ≡ 4 ⌝ }
+{
+    Passed {
+        next: at,
+        formulas: 0,
+        premises: 4,
+    }
+}
+
+// All that stands before a rule's premises.
+fn past_conclusion(s: &[u8], t: &[u8; 256], most: Most, at: usize, formulas: usize) -> Passed
+    requires { ⌜ Classes formulaLayout (now t) ⌝ }
+    requires { ⌜ (most .formulas ≤ 65536) × (at < length (now s)) ⌝ }
+    ensures { λ r. ⌜ (r .premises ≤ 3 → (rules : ℕ) → rules < most .rules → Leads (within most) (now (s .entry)) (reachedAt at rules formulas) (reachedAt (r .next) (rules + 1) (r .formulas)) (r .premises)) ⌝ }
+{
+    let tag = s[at] as usize;
+    if 31 < tag {
+        return not_good(at);
+    }
+    let kind = kind_of(tag);
+    if kind == 0 {
+        return not_good(at);
+    }
+    let own = past_own(s, t, most, at, formulas, kind);
+    if s.len() <= own.next {
+        return not_good(at);
+    }
+    let count = own.next;
+    let n = s[count] as usize;
+    let linear = past_row(s, t, most, count + 1, own.formulas, n);
+    if s.len() <= linear.next {
+        return not_good(at);
+    }
+    let end = linear.next;
+    Passed {
+        next: end + 1,
+        formulas: linear.formulas,
+        premises: s[end] as usize,
+    }
+}
+
+// Where it stopped, and how many rules with all their premises are still to be read there.
+pub struct Gone {
+    pub reached: Reached,
+    pub owed: usize,
+}
+
+fn stopped(next: usize, rules: usize, formulas: usize, owed: usize) -> Gone
+    ensures { λ r. ⌜ (r .reached ≡ reachedAt next rules formulas) × (r .owed ≡ owed) ⌝ }
+{
+    Gone {
+        reached: Reached {
+            next,
+            rules,
+            formulas,
+        },
+        owed,
+    }
+}
+
+// From the first rule on.
+pub fn go_ahead(s: &[u8], t: &[u8; 256], most: Most) -> Gone
+    requires { ⌜ Classes formulaLayout (now t) ⌝ }
+    requires { ⌜ (most .formulas ≤ 65536) × (most .rules ≤ 65536) ⌝ }
+    ensures { λ r. ⌜ Still (within most) (now (s .entry)) (r .reached) (r .owed) ⌝ }
+{
+    let mut next = 0;
+    let mut rules = 0;
+    let mut formulas = 0;
+    let mut owed = 1;
+    while 0 < owed {
+        if s.len() <= next {
+            return stopped(next, rules, formulas, owed);
+        }
+        if most.rules <= rules {
+            return stopped(next, rules, formulas, owed);
+        }
+        let passed = past_conclusion(s, t, most, next, formulas);
+        if 3 < passed.premises {
+            return stopped(next, rules, formulas, owed);
+        }
+        next = passed.next;
+        formulas = passed.formulas;
+        rules += 1;
+        owed = owed - 1 + passed.premises;
+    }
+    stopped(next, rules, formulas, owed)
+}
