@@ -21,8 +21,8 @@ use rules_ahead::go_ahead;
 
 mod premises;
 
-// Whether s is a proof of at most so many bytes, rules and formula nodes; with its count of rules. What is good is gone over first, and
-// the rules that are then still owed, none where all are good, are read exactly.
+// Whether s is a proof of at most so many bytes, rules and formula nodes; with its count of rules. What is good is gone over first; where
+// that is not all, what is left is read exactly.
 fn check_within(s: &[u8], bytes: usize, most: Most, input: u8) -> Answer
     requires { ⌜ (most .formulas ≤ 65536) × (most .rules ≤ 65536) ⌝ }
     ensures { λ r. ⌜ ((L : Limits) → L .bytes ≡ bytes → L .rules ≡ most .rules → L .formulas ≡ most .formulas →
@@ -37,6 +37,9 @@ fn check_within(s: &[u8], bytes: usize, most: Most, input: u8) -> Answer
     }
     let t = table_of(Form::Formula);
     let gone = go_ahead(s, &t, most);
+    if gone.owed == 0 {
+        return at_end(gone.reached, s.len(), input);
+    }
     match read_premises(s, &t, most, gone.reached, gone.owed) {
         Reading::To(end) => at_end(end, s.len(), input),
         Reading::Fault { number, place } => Answer::Refused(Refusal {

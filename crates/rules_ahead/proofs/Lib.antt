@@ -1,5 +1,6 @@
 -- What the proofs of several functions use.
 mod Carried
+mod Rows
 mod Parts
 mod Depth
 mod Onward

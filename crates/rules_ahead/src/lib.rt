@@ -2,22 +2,28 @@
 // It stops before the first rule that is not good, which is left to those who know what is wrong with it.
 ghost use mathlib.Core.Path.{_≡_};
 ghost use Prim.Native.Nat.{ℕ, _+_, _≤_, _<_};
-ghost use lib.ListN.{length, getD};
+ghost use lib.ListN.{length, getD, drop};
 ghost use Rattle.rules.specs.Formula.{formulas as formulaLayout};
 ghost use Rattle.rules.specs.Layout.{headAt};
 ghost use Rattle.rules.specs.Proof.{ruleHeads};
-ghost use Rattle.letters.specs.Classes.{Classes};
+ghost use Rattle.rules.specs.Reading.{times, name};
+ghost use Rattle.letters.specs.Classes.{Letters, Classes};
+ghost use Rattle.letters.specs.View.{view, skipped};
 ghost use Rattle.rule_bytes.specs.Seen.{kindAt, reachedAt, within};
 ghost use Rattle.rule_bytes.specs.Stages.{rowOf, ownOf};
 ghost use Rattle.rules_ahead.specs.Still.{Comes, Leads, Still};
 use letters::Form;
-use letters::Read;
-use nodes::read_row;
+use letters::classes::code_of;
+use letters::names::Skip;
+use letters::names::skip_name;
 use rule_bytes::Most;
 use rule_bytes::Reached;
 
 // What a rule carries, two bits a tag: 1 for nothing, 2 for a formula, 3 for an index, and 0 where there is no such rule.
 const KINDS: usize = 134575641956;
+
+// How many bytes an atom may have.
+const LONGEST: usize = 16;
 
 fn kind_of(tag: usize) -> usize
     requires { ⌜ tag < 32 ⌝ }
@@ -32,25 +38,52 @@ struct Part {
     formulas: usize,
 }
 
+fn ended(next: usize, formulas: usize) -> Part
+    ensures { λ r. ⌜ (r .next ≡ next) × (r .formulas ≡ formulas) ⌝ }
+{
+    Part { next, formulas }
+}
+
+// The place after a formula's name, where it has one; the end of the bytes where the name is not good.
+fn past_name(s: &[u8], t: &[u8; 256], at: usize, names: usize) -> usize
+    requires { ⌜ Letters (now t) ⌝ }
+    requires { ⌜ names ≤ 1 ⌝ }
+    ensures { λ r. ⌜ (r < length (now (s .entry)) → (u : ℕ) → skipped u (Skip.To r) ≡ view (times (name 16) names u at (drop at (now (s .entry))))) ⌝ }
+{
+    if names == 0 {
+        return at;
+    }
+    match skip_name(s, t, LONGEST, at) {
+        Skip::To(past) => past,
+        Skip::Fault { number, place } => s.len(),
+    }
+}
+
 // n formulas, one after the other.
 fn past_row(s: &[u8], t: &[u8; 256], most: Most, next: usize, formulas: usize, n: usize) -> Part
     requires { ⌜ Classes formulaLayout (now t) ⌝ }
     requires { ⌜ (most .formulas ≤ 65536) × (n ≤ 256) ⌝ }
     ensures { λ r. ⌜ (r .next < length (now (s .entry)) → (rules : ℕ) → Comes (rowOf (within most) n) (now (s .entry)) (reachedAt next rules formulas) (reachedAt (r .next) rules (r .formulas))) ⌝ }
 {
-    if n == 0 {
-        return Part { next, formulas };
+    let mut at = next;
+    let mut met = formulas;
+    let mut left = n;
+    while 0 < left {
+        if s.len() <= at {
+            return ended(s.len(), met);
+        }
+        if most.formulas <= met {
+            return ended(s.len(), met);
+        }
+        let code = code_of(Form::Formula, t, s[at]);
+        if code == 0 {
+            return ended(s.len(), met);
+        }
+        at = past_name(s, t, at + 1, code / 2 % 4);
+        met += 1;
+        left = left - 1 + code / 8;
     }
-    match read_row(s, Form::Formula, t, next, formulas, most.formulas, n) {
-        Read::Whole { next, met } => Part {
-            next,
-            formulas: met,
-        },
-        Read::Bad { number, place } => Part {
-            next: s.len(),
-            formulas,
-        },
-    }
+    ended(at, met)
 }
 
 // A rule's tag, and what it carries. It is not looked at what an index is.
