@@ -1,6 +1,3 @@
--- What the proofs of several functions use.
-mod Carried
-mod Rows
-mod Parts
+-- What the proof of the loop uses.
 mod Depth
 mod Onward

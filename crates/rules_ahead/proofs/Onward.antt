@@ -14,7 +14,8 @@ use Rattle.rule_bytes.specs.Stages.{Top}
 use Rattle.conclusion.proofs.Answers.{Reached}
 use Rattle.conclusion.proofs.Views.{seen-made}
 use Rattle.conclusion.proofs.Split.{split, topped}
-use Rattle.rules_ahead.specs.Still.{Leads, start, Still}
+use Rattle.good_rule.specs.Passing.{Leads}
+use Rattle.rules_ahead.specs.Still.{start, Still}
 use Rattle.rules_ahead.proofs.Depth.{many-same}
 
 module _ {A : Type 0} (m : Reader Met A) where

@@ -1,4 +1,4 @@
--- `rules_ahead::past_own` meets its contract: a formula is read as a row of one, and an index is two bytes. Assumes nothing.
+-- `good_rule::past_own` meets its contract: a formula is read as a row of one, and an index is two bytes. Assumes nothing.
 use Prim.Native.Nat.{_+_}
 use native.Mathlib.Omega.{arith}
 use mathlib.Core.Path.{refl}
@@ -6,11 +6,11 @@ use lib.ListN.{getD}
 use Rattle.rules.specs.Layout.{headAt}
 use Rattle.rules.specs.Proof.{ruleHeads}
 use Rattle.rule_bytes.specs.Seen.{within}
-use Rattle.rules_ahead.proofs.Carried.{kind-most}
-use Rattle.rules_ahead.proofs.Parts.{own-short, own-formula}
+use Rattle.good_rule.proofs.Carried.{kind-most}
+use Rattle.good_rule.proofs.Parts.{own-short, own-formula}
 use borrow.Author.Needs.{needs}
-use Rattle.rules_ahead.proofs.past_own.Statement.{statement}
-use Rattle.rules_ahead.proofs.past_own.Tie as tie
+use Rattle.good_rule.proofs.past_own.Statement.{statement}
+use Rattle.good_rule.proofs.past_own.Tie as tie
 
 add-past : tie.Need-add-past
 add-past c = search needs

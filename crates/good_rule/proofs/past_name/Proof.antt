@@ -1,14 +1,14 @@
--- `rules_ahead::past_name` meets its contract: one name is a row of one, and a name that is not good says nothing. Assumes nothing.
+-- `good_rule::past_name` meets its contract: one name is a row of one, and a name that is not good says nothing. Assumes nothing.
 use native.Mathlib.Omega.{arith}
 use mathlib.Core.Path.{sym, ap, _∙_}
 use lib.ListN.{drop}
 use Rattle.rules.specs.Reading.{name}
 use Rattle.letters.specs.View.{skipped}
 use Rattle.letters.proofs.Views.{times-none}
-use Rattle.rules_ahead.proofs.Rows.{one-name}
+use Rattle.good_rule.proofs.Rows.{one-name}
 use borrow.Author.Needs.{needs}
-use Rattle.rules_ahead.proofs.past_name.Statement.{statement}
-use Rattle.rules_ahead.proofs.past_name.Tie as tie
+use Rattle.good_rule.proofs.past_name.Statement.{statement}
+use Rattle.good_rule.proofs.past_name.Tie as tie
 
 returns : tie.Need-returns
 returns c = let a = c .before .before .args in λ h u. sym (times-none (name 16) (a .names) u (a .at) (drop (a .at) (a .s .now)) (c .if1 .taken))

@@ -1,8 +1,8 @@
--- `rules_ahead::kind_of` meets its contract: the bits of a tag are what its head carries. Assumes nothing.
-use Rattle.rules_ahead.proofs.Carried.{kind-is}
+-- `good_rule::kind_of` meets its contract: the bits of a tag are what its head carries. Assumes nothing.
+use Rattle.good_rule.proofs.Carried.{kind-is}
 use borrow.Author.Needs.{needs}
-use Rattle.rules_ahead.proofs.kind_of.Statement.{statement}
-use Rattle.rules_ahead.proofs.kind_of.Tie as tie
+use Rattle.good_rule.proofs.kind_of.Statement.{statement}
+use Rattle.good_rule.proofs.kind_of.Tie as tie
 
 mul-result : tie.Need-mul-result
 mul-result c = search needs

@@ -1,13 +1,13 @@
--- `rules_ahead::past_row` meets its contract: whatever the nodes that are still to be read come to, the row comes to. Assumes nothing.
+-- `good_rule::past_row` meets its contract: whatever the nodes that are still to be read come to, the row comes to. Assumes nothing.
 use Prim.Native.Nat.{_-_}
 use native.Mathlib.Omega.{arith}
 use lib.ListN.{getD}
 use Rattle.rules.specs.Layout.{headAt}
 use Rattle.rules.specs.Formula.{formulaHeads}
-use Rattle.rules_ahead.proofs.Rows.{few-names, few-parts, Left, left-all, left-on, left-none, same-left}
+use Rattle.good_rule.proofs.Rows.{few-names, few-parts, Left, left-all, left-on, left-none, same-left}
 use borrow.Author.Needs.{needs}
-use Rattle.rules_ahead.proofs.past_row.Statement.{statement}
-use Rattle.rules_ahead.proofs.past_row.Tie as tie
+use Rattle.good_rule.proofs.past_row.Statement.{statement}
+use Rattle.good_rule.proofs.past_row.Tie as tie
 
 abbrev Inv-loop : tie.InvT-loop
 Inv-loop s t most next formulas n at₀ met₀ left₀ at met left = Left (most .formulas) s n formulas next left met at

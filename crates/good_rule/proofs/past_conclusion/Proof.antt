@@ -1,11 +1,11 @@
--- `rules_ahead::past_conclusion` meets its contract: its stages, one after the other; what is not good says nothing. Assumes nothing.
+-- `good_rule::past_conclusion` meets its contract: its stages, one after the other; what is not good says nothing. Assumes nothing.
 use Prim.Native.Nat.{_+_}
 use native.Mathlib.Omega.{arith}
 use Rattle.rule_bytes.specs.Seen.{reachedAt, within}
-use Rattle.rules_ahead.proofs.Parts.{leads-on}
+use Rattle.good_rule.proofs.Parts.{leads-on}
 use borrow.Author.Needs.{needs}
-use Rattle.rules_ahead.proofs.past_conclusion.Statement.{statement}
-use Rattle.rules_ahead.proofs.past_conclusion.Tie as tie
+use Rattle.good_rule.proofs.past_conclusion.Statement.{statement}
+use Rattle.good_rule.proofs.past_conclusion.Tie as tie
 
 shared-slice-read-tag : tie.Need-shared-slice-read-tag
 shared-slice-read-tag c = search needs

@@ -20,7 +20,7 @@ use Rattle.conclusion.proofs.Views.{came}
 use Rattle.conclusion.proofs.Ways.{steady-own, steady-linear}
 use Rattle.conclusion.proofs.Owns.{own-plain, own-cut, own-focus}
 use Rattle.conclusion.proofs.Tops.{top-on}
-use Rattle.rules_ahead.specs.Still.{Comes, Leads}
+use Rattle.good_rule.specs.Passing.{Comes, Leads}
 
 module _ (L : Limits) (s : Bytes) (at rules formulas : ℕ) (inside : at < length s) (room : rules < L .rules) where
   headed : (h : RuleHead) → headAt ruleHeads (getD s at 0) ≡ some h → Headed s at rules (L .rules) (carries h)

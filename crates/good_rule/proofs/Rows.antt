@@ -19,7 +19,7 @@ use Rattle.rule_bytes.specs.Seen.{reachedAt, within}
 use Rattle.rule_bytes.specs.Stages.{rowOf}
 use Rattle.conclusion.proofs.Answers.{Most}
 use Rattle.conclusion.proofs.Rows.{afterRules, row-seen}
-use Rattle.rules_ahead.specs.Still.{Comes}
+use Rattle.good_rule.specs.Passing.{Comes}
 
 -- a formula has at most one name and two parts
 pub few-names : (o : Option FormulaHead) (code : ℕ) → code ≡ codeAt formulaLayout o → code / 2 % 4 ≤ 1
