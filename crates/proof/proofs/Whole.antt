@@ -17,10 +17,10 @@ use Rattle.laws.specs.Holds.{told}
 use Rattle.laws.specs.Octets.{Octets}
 use Rattle.laws.specs.SteadyProof.{steady-proof}
 use Rattle.laws.specs.SoundProof.{proof-reads}
-use Rattle.proof.proofs.Answers.{Reached, Most, To, Fault}
+use Rattle.conclusion.proofs.Answers.{Reached, Most, To, Fault}
 use Rattle.rule_bytes.specs.Seen.{metBy, seen, found, within, endOf}
 use Rattle.rule_bytes.proofs.Places.{rest-in, rest-out}
-use Rattle.proof.proofs.Views.{seen-bad, Came, came}
+use Rattle.conclusion.proofs.Views.{seen-bad, Came, came}
 
 -- the limits on bytes and on nodes of a term are not asked for
 pub proof-same : (L M : Limits) → L .rules ≡ M .rules → L .formulas ≡ M .formulas → (d : ℕ) → proofAt L d ≡ proofAt M d

@@ -6,14 +6,14 @@ ghost use Rattle.rules.specs.Formula.{formulas as formulaLayout};
 ghost use Rattle.rules.specs.Reading.{many, proofAt};
 ghost use Rattle.letters.specs.Classes.{Classes};
 ghost use Rattle.rule_bytes.specs.Seen.{seen, found, reachedAt, within};
-use crate::conclusion::read_conclusion;
+use conclusion::read_conclusion;
 use rule_bytes::Most;
 use rule_bytes::Reached;
 use rule_bytes::Reading;
 use rule_bytes::count::Conclusion;
 
 // A rule and all its premises, where so many rules and formula nodes were met before it: numbers, which need no room in memory.
-pub fn read_rule(
+fn read_rule(
     s: &[u8],
     t: &[u8; 256],
     most: Most,
@@ -36,8 +36,8 @@ pub fn read_rule(
     }
 }
 
-// The premises of a rule, n of them.
-fn read_premises(s: &[u8], t: &[u8; 256], most: Most, from: Reached, n: usize) -> Reading
+// The premises of a rule, n of them; or any n rules in a row.
+pub fn read_premises(s: &[u8], t: &[u8; 256], most: Most, from: Reached, n: usize) -> Reading
     requires { ⌜ Classes formulaLayout (now t) ⌝ }
     requires { ⌜ (most .formulas ≤ 65536) × (from .next ≤ length (now s)) ⌝ }
     ensures { λ r. ⌜ ((depth : ℕ) → most .rules ≤ from .rules + depth → r ≡ seen (found (many (proofAt (within most) depth) n) (now (s .entry)) from)) ⌝ }

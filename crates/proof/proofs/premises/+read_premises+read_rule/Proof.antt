@@ -6,7 +6,8 @@ use borrow.Author.Needs.{needs}
 use mathlib.Core.Path.{sym, _∙_}
 use lib.ListN.{length}
 use Rattle.rule_bytes.specs.Seen.{reachedAt, within}
-use Rattle.proof.proofs.Above.{topped, rule-off, rule-on, Going, going-start, going-done, going-off, going-on}
+use Rattle.conclusion.proofs.Split.{topped}
+use Rattle.proof.proofs.Above.{rule-off, rule-on, Going, going-start, going-done, going-off, going-on}
 use borrow.Fn.Kinds.{In}
 use borrow.Fn.PlainCycle.{Measures, is, falls, and}
 use Rattle.proof.proofs.premises.read_premises.Reads as read-premises
@@ -15,7 +16,7 @@ use Rattle.proof.proofs.premises.+read_premises+read_rule.Lts-read_prem
 use Rattle.proof.proofs.premises.read_rule.Reads as read-rule
 use Rattle.proof.proofs.premises.read_rule.Kinds as read-rule-kinds
 use Rattle.proof.proofs.premises.+read_premises+read_rule.Lts-read_rule as read-rule-lts
-use Rattle.proof.proofs.conclusion.read_conclusion.Reads as read-conclusion-reads
+use Rattle.conclusion.proofs.read_conclusion.Reads as read-conclusion-reads
 use Rattle.proof.proofs.premises.+read_premises+read_rule.{statement}
 use Rattle.proof.proofs.premises.+read_premises+read_rule.Tie.{close}
 

@@ -5,10 +5,10 @@ use mathlib.Core.Path.{_≡_, refl}
 use Rattle.rules.specs.Basic.{Bytes}
 use Rattle.rules.specs.Limits.{Limits}
 use Rattle.rules.specs.Reading.{Got, got, bad, Met, andThen}
-use Rattle.proof.proofs.Answers.{Reached, Conclusion, Fault, NoCount}
+use Rattle.conclusion.proofs.Answers.{Reached, Conclusion, Fault, NoCount}
 use Rattle.rule_bytes.specs.Seen.{seen, found, countSeen}
 use Rattle.rule_bytes.specs.Stages.{ownOf, linearOf, countOf, topOf}
-use Rattle.proof.proofs.Views.{seen-bad, Came}
+use Rattle.conclusion.proofs.Views.{seen-bad, Came}
 
 count-made : {A B : Type 0} (g : Got Met A) (f : A → B) (i : A → ℕ) (j : B → ℕ) → ((x : A) → j (f x) ≡ i x) → countSeen j (andThen g (λ x u p r. got (f x) u p r)) ≡ countSeen i g
 count-made (got x u p r) f i j e = rw (e x)

@@ -11,10 +11,10 @@ use Rattle.rules.specs.Reading.{Got, got, bad, Reader, andThen, pure, times, ma
 use Rattle.letters.specs.declared.Read.{Read}
 use Rattle.letters.specs.declared.Read.the-variants.{Whole, Bad}
 use Rattle.letters.specs.View.{view}
-use Rattle.proof.proofs.Answers.{Reached, Most, Reading, To, Fault}
+use Rattle.conclusion.proofs.Answers.{Reached, Most, Reading, To, Fault}
 use Rattle.rule_bytes.specs.Seen.{seen, found, within}
 use Rattle.rule_bytes.specs.Stages.{formulaOf, rowOf}
-use Rattle.proof.proofs.Views.{seen-made, many-none}
+use Rattle.conclusion.proofs.Views.{seen-made, many-none}
 
 -- what a row of nodes says, where k rules were met
 abbrev pub afterRules : ℕ → Read → Reading

@@ -11,10 +11,10 @@ use Rattle.rules.specs.Layout.{headAt}
 use Rattle.rules.specs.Formula.{Formula}
 use Rattle.rules.specs.Proof.{RuleHead, aPlain, aCut, aFocus, ruleHeads, cut, focus}
 use Rattle.rules.specs.Reading.{Got, got, bad, Reader, Met, andThen, many, byte, tag, ruleGot, ruleOf}
-use Rattle.proof.proofs.Answers.{Reached, To, Fault, Tag, Plain, Cut, Focus, NoTag}
+use Rattle.conclusion.proofs.Answers.{Reached, To, Fault, Tag, Plain, Cut, Focus, NoTag}
 use Rattle.rule_bytes.specs.Seen.{pastTag, seen, found, carries, tagSeen}
 use Rattle.rule_bytes.specs.Stages.{formulaOf, rowOf, indexOf, ownOf}
-use Rattle.proof.proofs.Views.{seen-made}
+use Rattle.conclusion.proofs.Views.{seen-made}
 use Rattle.rule_bytes.proofs.Tags.{Headed}
 
 -- one formula in a row

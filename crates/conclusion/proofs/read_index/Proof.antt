@@ -1,12 +1,12 @@
 -- `conclusion::read_index` meets its contract: each return is a case of what reading two bytes finds. Assumes nothing.
 use native.Mathlib.Omega.{arith}
 use mathlib.Core.Path.{sym, ap, _∙_}
-use Rattle.proof.proofs.Answers.{To, Fault}
+use Rattle.conclusion.proofs.Answers.{To, Fault}
 use Rattle.rule_bytes.specs.Seen.{pastByte}
 use Rattle.rule_bytes.proofs.Bytes.{index-out, index-cut, index-in}
 use borrow.Author.Needs.{needs}
-use Rattle.proof.proofs.conclusion.read_index.Statement.{statement}
-use Rattle.proof.proofs.conclusion.read_index.Tie as tie
+use Rattle.conclusion.proofs.read_index.Statement.{statement}
+use Rattle.conclusion.proofs.read_index.Tie as tie
 
 returns : tie.Need-returns
 returns c = let a = c .before .before .before .args in sym (index-out (a .s .now) (a .from) (omega arith))

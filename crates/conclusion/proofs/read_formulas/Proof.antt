@@ -1,9 +1,9 @@
 -- `conclusion::read_formulas` meets its contract: formulas in a row are nodes in a row. Assumes nothing.
 use mathlib.Core.Path.{sym, ap, _∙_}
-use Rattle.proof.proofs.Rows.{afterRules, row-none, row-seen}
+use Rattle.conclusion.proofs.Rows.{afterRules, row-none, row-seen}
 use borrow.Author.Needs.{needs}
-use Rattle.proof.proofs.conclusion.read_formulas.Statement.{statement}
-use Rattle.proof.proofs.conclusion.read_formulas.Tie as tie
+use Rattle.conclusion.proofs.read_formulas.Statement.{statement}
+use Rattle.conclusion.proofs.read_formulas.Tie as tie
 
 returns : tie.Need-returns
 returns c = let a = c .before .before .args in sym (row-none (a .s .now) (a .most) (a .from) (a .n) (c .if1 .taken))

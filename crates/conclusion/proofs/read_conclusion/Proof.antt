@@ -2,12 +2,12 @@
 use mathlib.Core.Path.{sym, _∙_}
 use Rattle.rule_bytes.specs.Seen.{within}
 use Rattle.rule_bytes.specs.Stages.{ownOf, linearOf}
-use Rattle.proof.proofs.Views.{came}
-use Rattle.proof.proofs.Ways.{steady-own, steady-linear}
-use Rattle.proof.proofs.Tops.{top-no-rule, top-no-linear, top-on}
+use Rattle.conclusion.proofs.Views.{came}
+use Rattle.conclusion.proofs.Ways.{steady-own, steady-linear}
+use Rattle.conclusion.proofs.Tops.{top-no-rule, top-no-linear, top-on}
 use borrow.Author.Needs.{needs}
-use Rattle.proof.proofs.conclusion.read_conclusion.Statement.{statement}
-use Rattle.proof.proofs.conclusion.read_conclusion.Tie as tie
+use Rattle.conclusion.proofs.read_conclusion.Statement.{statement}
+use Rattle.conclusion.proofs.read_conclusion.Tie as tie
 
 read-own-requires : tie.Need-read-own-requires
 read-own-requires c κs = search needs

@@ -6,8 +6,8 @@ use Rattle.rule_bytes.specs.Seen.{seen, found, within}
 use Rattle.rule_bytes.specs.Stages.{rowOf}
 use Rattle.rule_bytes.proofs.Bytes.{linear-out, linear-in}
 use borrow.Author.Needs.{needs}
-use Rattle.proof.proofs.conclusion.read_linear.Statement.{statement}
-use Rattle.proof.proofs.conclusion.read_linear.Tie as tie
+use Rattle.conclusion.proofs.read_linear.Statement.{statement}
+use Rattle.conclusion.proofs.read_linear.Tie as tie
 
 returns : tie.Need-returns
 returns c = let a = c .before .before .before .args in sym (linear-out (a .s .now) (a .from) (within (a .most)) (omega arith))

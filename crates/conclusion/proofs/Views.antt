@@ -8,7 +8,7 @@ use lib.ListN.{length, drop}
 use Rattle.rules.specs.Basic.{Bytes}
 use Rattle.rules.specs.Reading.{Got, got, bad, Reader, Met, andThen, many}
 use Rattle.laws.specs.Steady.{Steady, steady-got}
-use Rattle.proof.proofs.Answers.{Reached, To, Fault}
+use Rattle.conclusion.proofs.Answers.{Reached, To, Fault}
 use Rattle.rule_bytes.specs.Seen.{metBy, seen, found}
 
 -- A value made of the one read changes nothing.

@@ -1,14 +1,14 @@
 -- `conclusion::read_own` meets its contract: a case for each thing that a rule may carry. Assumes nothing.
 use native.Mathlib.Omega.{arith}
 use mathlib.Core.Path.{refl, sym, ap, _∙_}
-use Rattle.proof.proofs.Answers.{To, Plain, Cut, Focus}
+use Rattle.conclusion.proofs.Answers.{To, Plain, Cut, Focus}
 use Rattle.rule_bytes.specs.Seen.{seen, found, within}
 use Rattle.rule_bytes.specs.Stages.{rowOf, indexOf}
 use Rattle.rule_bytes.proofs.Tags.{headed}
-use Rattle.proof.proofs.Owns.{own-off, own-plain, own-cut, own-focus}
+use Rattle.conclusion.proofs.Owns.{own-off, own-plain, own-cut, own-focus}
 use borrow.Author.Needs.{needs}
-use Rattle.proof.proofs.conclusion.read_own.Statement.{statement}
-use Rattle.proof.proofs.conclusion.read_own.Tie as tie
+use Rattle.conclusion.proofs.read_own.Statement.{statement}
+use Rattle.conclusion.proofs.read_own.Tie as tie
 
 read-tag-requires : tie.Need-read-tag-requires
 read-tag-requires c κs = search needs

@@ -1,0 +1,8 @@
+-- What the proofs of several functions use, here and in the crates above.
+pub mod Answers
+pub mod Views
+pub mod Rows
+pub mod Ways
+pub mod Owns
+pub mod Tops
+pub mod Split

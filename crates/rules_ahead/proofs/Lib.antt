@@ -1,0 +1,3 @@
+-- What the proof of the loop uses.
+mod Depth
+mod Onward
