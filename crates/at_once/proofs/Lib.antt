@@ -1,0 +1,5 @@
+mod Shaped
+mod Values
+mod Turns
+mod Hits
+mod Finished
