@@ -71,5 +71,5 @@ module _ {s a : Bytes} {k : ℕ} {b : Bytes} {m n l : ℕ} {e v w : Term} (j : J
       let z : q ≡ size u = omega (arith, o .ends) in
       let p : fits limits h ≡ true = fits-yes h (omega (arith, no-fewer y w h, count, g .few)) (omega (arith, half-short)) in
       let r : fitsBeside (n - nodes e) (l - size e) u ≡ true =
-          beside-yes (n - nodes e) (l - size e) u (omega (arith, count, g .few)) (omega (arith, ends, z, f .ends, length-slice (c .from) (c .at) s (bounds .1))) in
+      beside-yes (n - nodes e) (l - size e) u (omega (arith, count, g .few)) (omega (arith, ends, z, f .ends, length-slice (c .from) (c .at) s (bounds .1))) in
       (ends, record { says = rw (p, r, z, count); leaves = rw (p, r) (o .holds) })

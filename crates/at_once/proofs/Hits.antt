@@ -109,9 +109,9 @@ module _ {s : Bytes} {x y : Name} {a : Bytes} {k : ℕ} {b : Bytes} {m n l : ℕ
   module _ (node : Node) (f : (t : Term) → TermAt s (c .at) t → Seen x (c .at) t node) where
     pub put-x : node .is ≡ true → {r : Course} {out′ : Bytes} → PutsValue s a (node .start) k (length a) c out r out′ → (c .at < r .at) × Doing s n x y e v w start r out′
     put-x hit p = (
-        let o = here (j .doing) (j .some) in omega (arith, p .at, f (o .0) (o .1) .start),
-        gave-by (j .doing) v (j .joint .first) (omega arith) p
-        (λ t o.
+      let o = here (j .doing) (j .some) in omega (arith, p .at, f (o .0) (o .1) .start),
+      gave-by (j .doing) v (j .joint .first) (omega arith) p
+          (λ t o.
           let q = var-subst x v t (is-var x node f hit t o) in
           record {
             becomes = ap (λ (u : Term). subst y w u) q ∙ subst-none y w v (j .lacks);
@@ -119,15 +119,15 @@ module _ {s : Bytes} {x y : Name} {a : Bytes} {k : ℕ} {b : Bytes} {m n l : ℕ
             ends = var-ends x node f hit t o;
             single = var-single x node f hit t o;
           })
-        (next (j .doing) (j .some)),
-      )
+          (next (j .doing) (j .some)),
+    )
 
     pub put-y : node .is ≡ false → (other : Node) (h : (t : Term) → TermAt s (c .at) t → Seen y (c .at) t other) → other .is ≡ true
         → {r : Course} {out′ : Bytes} → PutsValue s b (other .start) m 0 c out r out′ → (c .at < r .at) × Doing s n x y e v w start r out′
     put-y miss other h hit p = (
-        let o = here (j .doing) (j .some) in omega (arith, p .at, h (o .0) (o .1) .start),
-        gave-by (j .doing) w (j .joint .second) (omega arith) p
-        (λ t o.
+      let o = here (j .doing) (j .some) in omega (arith, p .at, h (o .0) (o .1) .start),
+      gave-by (j .doing) w (j .joint .second) (omega arith) p
+          (λ t o.
           let q = other-var x v y t (sym (f t o .is) ∙ miss) (is-var y other h hit t o) in
           record {
             becomes = ap (λ (u : Term). subst y w u) q ∙ var-subst y w t (is-var y other h hit t o);
@@ -135,5 +135,5 @@ module _ {s : Bytes} {x y : Name} {a : Bytes} {k : ℕ} {b : Bytes} {m n l : ℕ
             ends = var-ends y other h hit t o;
             single = var-single y other h hit t o;
           })
-        (next (j .doing) (j .some)),
-      )
+          (next (j .doing) (j .some)),
+    )

@@ -77,15 +77,15 @@ module _ {s : Bytes} {n : ℕ} {x y : Name} {e v w : Term} {start : Bytes} {c : 
           let q = f t a in
           let ps = parts t in
           let d : drop (c .at) s ≡ head t ++ (encodeAll ps ++ a .rest) =
-              a .bytes ∙ ap (λ (z : Bytes). z ++ a .rest) (apart t) ∙ append-assoc (head t) (encodeAll ps) (a .rest) in
+          a .bytes ∙ ap (λ (z : Bytes). z ++ a .rest) (apart t) ∙ append-assoc (head t) (encodeAll ps) (a .rest) in
           let both-all : all y w (all x v (ps ++ us)) ≡ all y w (all x v ps) ++ all y w (all x v us) =
-              ap (λ (ts : List Term). all y w ts) (all-append x v ps us) ∙ all-append y w (all x v ps) (all x v us) in
+          ap (λ (ts : List Term). all y w ts) (all-append x v ps us) ∙ all-append y w (all x v ps) (all x v us) in
           let new : Bytes = encodeAll (all y w (all x v ps)) in
           let rest : Bytes = encodeAll (all y w (all x v us)) in
           let run : slice (c .from) next-at s ≡ slice (c .from) (c .at) s ++ head t =
-              slice-split (c .from) (c .at) next-at s (g .behind) (omega (arith, q .1))
-              ∙ ap (λ (k : ℕ). slice (c .from) (c .at) s ++ slice (c .at) k s) (q .1)
-              ∙ ap (λ (z : Bytes). slice (c .from) (c .at) s ++ z) (slice-is (c .at) s (head t) _ d) in
+          slice-split (c .from) (c .at) next-at s (g .behind) (omega (arith, q .1))
+          ∙ ap (λ (k : ℕ). slice (c .from) (c .at) s ++ slice (c .at) k s) (q .1)
+          ∙ ap (λ (z : Bytes). slice (c .from) (c .at) s ++ z) (slice-is (c .at) s (head t) _ d) in
           record {
             row = ps ++ us;
             stand = unrolled s (c .at) (c .left) t us (h .stand) next-at _ (q .1) (ap (λ (k : ℕ). c .left - 1 + k) (q .2));
@@ -101,17 +101,17 @@ module _ {s : Bytes} {n : ℕ} {x y : Name} {e v w : Term} {start : Bytes} {c : 
                 ∙ h .bytes;
             count =
                 let i : nodesAll (all y w (all x v (ps ++ us))) ≡ nodesAll (all y w (all x v ps)) + nodesAll (all y w (all x v us)) =
-                    ap nodesAll both-all ∙ nodes-append (all y w (all x v ps)) (all y w (all x v us)) in
+                ap nodesAll both-all ∙ nodes-append (all y w (all x v ps)) (all y w (all x v us)) in
                 omega (arith, h .count, both-nodes (q .0) v w, nodes-parts t, nodes-append ps us);
             half =
                 let i : length (encodeAll (all x v (ps ++ us))) ≡ length (encodeAll (all x v ps)) + length (encodeAll (all x v us)) =
-                    ap (λ (ts : List Term). length (encodeAll ts)) (all-append x v ps us)
-                    ∙ ap (λ (z : Bytes). length z) (encodeAll-append (all x v ps) (all x v us))
-                    ∙ length-append (encodeAll (all x v ps)) (encodeAll (all x v us)) in
+                ap (λ (ts : List Term). length (encodeAll ts)) (all-append x v ps us)
+                ∙ ap (λ (z : Bytes). length z) (encodeAll-append (all x v ps) (all x v us))
+                ∙ length-append (encodeAll (all x v ps)) (encodeAll (all x v us)) in
                 omega (arith, h .half, first-size (q .0) v w, q .1);
             ends =
                 let i : length (encodeAll (ps ++ us)) ≡ length (encodeAll ps) + length (encodeAll us) =
-                    ap (λ (z : Bytes). length z) (encodeAll-append ps us) ∙ length-append (encodeAll ps) (encodeAll us) in
+                ap (λ (z : Bytes). length z) (encodeAll-append ps us) ∙ length-append (encodeAll ps) (encodeAll us) in
                 omega (arith, h .ends, apart-size t, q .1);
             few = g .few;
             short = g .short;
