@@ -20,17 +20,26 @@ fn before_last(name: &[u8]) -> u8
     name[n - 2]
 }
 
-// 1 where a and b are these, else what was seen before.
-fn noted(seen: u8, a: u8, b: u8, before: u8, last: u8) -> u8
-    ensures { λ r. ⌜ (r ≡ 0 → (seen ≡ 0) × (a ≡ before → b ≡ last → ⊥)) ⌝ }
+// 1 where a and b are these.
+fn pair_is(a: u8, b: u8, before: u8, last: u8) -> u8
+    ensures { λ r. ⌜ (r ≡ 0 → a ≡ before → b ≡ last → ⊥) ⌝ }
 {
     if a != before {
-        return seen;
+        return 0;
     }
     if b != last {
-        return seen;
+        return 0;
     }
     1
+}
+
+fn larger(x: u8, y: u8) -> u8
+    ensures { λ r. ⌜ (r ≡ 0 → (x ≡ 0) × (y ≡ 0)) ⌝ }
+{
+    if x < y {
+        return y;
+    }
+    x
 }
 
 // Whether the two last bytes of the name stand nowhere side by side in the term s: then it is not free there.
@@ -47,7 +56,7 @@ pub fn absent(s: &[u8], name: &[u8]) -> bool
     let mut i = 1;
     while i < s.len() {
         let j = i - 1;
-        seen = noted(seen, s[j], s[i], before, last);
+        seen = larger(seen, pair_is(s[j], s[i], before, last));
         i += 1;
     }
     seen == 0

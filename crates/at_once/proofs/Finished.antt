@@ -21,8 +21,8 @@ use Rattle.putting.specs.Beside.{fitsBeside}
 use Rattle.putting.specs.declared.Put.the-variants.{Written}
 use Rattle.putting.proofs.Puts.{fits-yes, beside-yes}
 use Rattle.putting.proofs.Turning.{no-fewer}
-use Rattle.at_once.specs.Joint.{all, nodesAll, Joint, Doing}
-use Rattle.at_once.specs.declared.Course.{Course}
+use Rattle.joint.specs.Joint.{all, nodesAll, Joint, Doing}
+use Rattle.joint.specs.declared.Course.{Course}
 
 module _ {s a : Bytes} {k : ℕ} {b : Bytes} {m n l : ℕ} {e v w : Term} (j : Joint s a k b m n l e v w)
     {x y : Name} {c : Course} {out₀ out : Bytes} (d : (c .left ≡ 0) × Doing s n x y e v w out₀ c out) where

@@ -1,5 +1,1 @@
-mod Shaped
-mod Values
-mod Turns
-mod Hits
 mod Finished

@@ -15,7 +15,7 @@ use Rattle.spans.proofs.Rows.{term-part}
 use Rattle.putting.specs.Put.{Putting, Turns, Puts}
 use Rattle.putting.specs.declared.Put.{Put}
 use Rattle.putting.specs.declared.Put.the-variants.{Written}
-use Rattle.at_once.specs.Joint.{Joint}
+use Rattle.joint.specs.Joint.{Joint}
 use Rattle.at_once.specs.declared.Joined.{Joined}
 use Rattle.parts.specs.Contracts.{Contracts, told}
 use Rattle.parts.specs.Parts.{Kept, PartIs, Placing, Pairing}

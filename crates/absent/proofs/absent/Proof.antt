@@ -33,14 +33,17 @@ loop-holds c = (omega arith, λ e j h. absurd (omega arith))
 sub-j : tie.Need-sub-j Inv-loop μ-loop
 sub-j c = omega arith
 
-shared-slice-read-noted : tie.Need-shared-slice-read-noted Inv-loop μ-loop
-shared-slice-read-noted c = omega arith
+shared-slice-read-pair-is : tie.Need-shared-slice-read-pair-is Inv-loop μ-loop
+shared-slice-read-pair-is c = omega arith
 
-shared-slice-read-noted-2 : tie.Need-shared-slice-read-noted-2 Inv-loop μ-loop
-shared-slice-read-noted-2 c = omega arith
+shared-slice-read-pair-is-2 : tie.Need-shared-slice-read-pair-is-2 Inv-loop μ-loop
+shared-slice-read-pair-is-2 c = omega arith
 
-noted-requires : tie.Need-noted-requires Inv-loop μ-loop
-noted-requires c κs = search needs
+pair-is-requires : tie.Need-pair-is-requires Inv-loop μ-loop
+pair-is-requires c κs = search needs
+
+larger-requires : tie.Need-larger-requires Inv-loop μ-loop
+larger-requires c κs = search needs
 
 add-i : tie.Need-add-i Inv-loop μ-loop
 add-i c = omega arith
@@ -49,7 +52,7 @@ loop-less : tie.Need-loop-less Inv-loop μ-loop
 loop-less c = omega arith
 
 loop-again : tie.Need-loop-again Inv-loop μ-loop
-loop-again c = (omega arith, looked-at _ _ (c .before .before .before .before .before .before .before .before .before .before .args .s .now) (c .before .before .before .before .loop .i) _ _ (c .before .before .before .before .loop .inv .0) (c .before .before .before .before .loop .inv .1) (c .noted .ensures))
+loop-again c = (omega arith, looked-at _ _ (c .before .before .before .before .before .before .before .before .before .before .before .args .s .now) (c .before .before .before .before .before .loop .i) _ _ (c .before .before .before .before .before .loop .inv .0) (c .before .before .before .before .before .loop .inv .1) (λ e. let f = c .larger .ensures e in (f .0, c .before .pair-is .ensures (f .1))))
 
 returns-2 : tie.Need-returns-2 Inv-loop μ-loop
 returns-2 c = λ e t d. let l = c .before .loop in let x = c .before .before .before .before .before .before .before .args .name .now in nowhere x (omega arith) t (record { not-at = λ j h p q. l .inv .1 (eqb-true _ _ e) j (omega (arith, ap length d)) (ap (λ z. getD z j 0) d ∙ p ∙ sym (c .before .before .before .before-last .ensures)) (ap (λ z. getD z (suc j) 0) d ∙ q ∙ sym (last-one x (omega arith))) })
@@ -66,9 +69,10 @@ absent-spec =
     shared-slice-read-last
     loop-holds
     sub-j
-    shared-slice-read-noted
-    shared-slice-read-noted-2
-    noted-requires
+    shared-slice-read-pair-is
+    shared-slice-read-pair-is-2
+    pair-is-requires
+    larger-requires
     add-i
     loop-less
     loop-again

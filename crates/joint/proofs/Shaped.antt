@@ -13,7 +13,7 @@ use Rattle.rules.specs.Substitution.{subst}
 use Rattle.walk.specs.Node.{head, encodeAll, isVar, hides}
 use Rattle.walk.proofs.Terms.{apart, apart-size, encodeAll-append}
 use Rattle.places.proofs.Shapes.{substAll, node-head, node-parts}
-use Rattle.at_once.specs.Joint.{all, nodesAll}
+use Rattle.joint.specs.Joint.{all, nodesAll}
 
 pub nodes-parts : (t : Term) → nodes t ≡ 1 + nodesAll (parts t)
 unfolding nodes

@@ -1,11 +1,11 @@
--- `at_once::put_value` meets its contract: two runs, one after the other. Assumes nothing.
+-- `joint::put_value` meets its contract: two runs, one after the other. Assumes nothing.
 use native.Mathlib.Omega.{arith}
 use lib.Seq.{length-slice}
 use Rattle.runs.specs.Writing.{wrote-length}
-use Rattle.at_once.proofs.Values.{put-done}
+use Rattle.joint.proofs.Values.{put-done}
 use borrow.Author.Needs.{needs}
-use Rattle.at_once.proofs.put_value.Statement.{statement}
-use Rattle.at_once.proofs.put_value.Tie as tie
+use Rattle.joint.proofs.put_value.Statement.{statement}
+use Rattle.joint.proofs.put_value.Tie as tie
 
 add-nodes : tie.Need-add-nodes
 add-nodes c = search needs

@@ -20,10 +20,10 @@ use Rattle.walk.proofs.Terms.{apart-size, first, others}
 use Rattle.places.proofs.Shapes.{var-parts, var-subst}
 use Rattle.spans.specs.Given.{Given}
 use Rattle.putting.proofs.Puts.{within}
-use Rattle.at_once.specs.Joint.{all, nodesAll, Doing, Turning, Variable, PutsValue}
-use Rattle.at_once.specs.declared.Course.{Course}
-use Rattle.at_once.proofs.Shaped.{nodes-parts, other-var}
-use Rattle.at_once.proofs.Turns.{Next, next, here, inside}
+use Rattle.joint.specs.Joint.{all, nodesAll, Doing, Turning, Variable, PutsValue}
+use Rattle.joint.specs.declared.Course.{Course}
+use Rattle.joint.proofs.Shaped.{nodes-parts, other-var}
+use Rattle.joint.proofs.Turns.{Next, next, here, inside}
 
 regroup : (i j k m : Bytes) → (i ++ (j ++ k)) ++ m ≡ i ++ (j ++ (k ++ m))
 regroup i j k m = simp append-assoc

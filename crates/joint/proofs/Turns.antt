@@ -19,9 +19,9 @@ use Rattle.walk.specs.declared.Node.{Node}
 use Rattle.walk.proofs.Terms.{apart, apart-size, encodeAll-append, first, unrolled, some-fits, alone}
 use Rattle.places.specs.Passing.{plain}
 use Rattle.putting.specs.Put.{Room}
-use Rattle.at_once.specs.Joint.{all, nodesAll, Joint, Doing, Turning}
-use Rattle.at_once.specs.declared.Course.{Course}
-use Rattle.at_once.proofs.Shaped.{nodes-parts, nodes-append, all-append, Plain, both-bytes, both-nodes, first-size}
+use Rattle.joint.specs.Joint.{all, nodesAll, Joint, Doing, Turning}
+use Rattle.joint.specs.declared.Course.{Course}
+use Rattle.joint.proofs.Shaped.{nodes-parts, nodes-append, all-append, Plain, both-bytes, both-nodes, first-size}
 
 split : (ts : List Term) (n : ℕ) → length ts ≡ n → 0 < n → (t : Term) × (us : List Term) × (ts ≡ t ∷ us)
 split [] n e h = absurd (omega (arith, e))

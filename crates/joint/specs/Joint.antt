@@ -15,7 +15,7 @@ use Rattle.walk.specs.Node.{encodeAll}
 use Rattle.walk.specs.Place.{TermAt, TermsAt}
 use Rattle.spans.specs.Given.{Given}
 use Rattle.putting.specs.Put.{Room}
-use Rattle.at_once.specs.declared.Course.{Course}
+use Rattle.joint.specs.declared.Course.{Course}
 
 -- terms in a row: with v for x, and their nodes
 abbrev pub all : Name → Term → List Term → List Term

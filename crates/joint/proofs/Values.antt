@@ -7,8 +7,8 @@ use lib.Seq.{slice, length-slice, take-length}
 use Rattle.rules.specs.Basic.{Bytes}
 use Rattle.runs.specs.Wrote.{Wrote}
 use Rattle.runs.specs.Writing.{chain}
-use Rattle.at_once.specs.Joint.{Variable, PutsValue}
-use Rattle.at_once.specs.declared.Course.{Course}
+use Rattle.joint.specs.Joint.{Variable, PutsValue}
+use Rattle.joint.specs.declared.Course.{Course}
 
 pub put-done : {s value : Bytes} {k grows : ℕ} {c : Course} → Variable s value k grows c
     → {out out₁ out₂ : Bytes} {p q : ℕ} → Wrote out (c .to) (slice (c .from) (c .at) s) out₁ p → Wrote out₁ p (slice 0 (length value) value) out₂ q

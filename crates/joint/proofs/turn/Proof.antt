@@ -1,10 +1,10 @@
--- `at_once::turn` meets its contract: a node that was passed gives way to its parts. Assumes nothing.
+-- `joint::turn` meets its contract: a node that was passed gives way to its parts. Assumes nothing.
 use native.Mathlib.Omega.{arith}
 use Rattle.walk.proofs.Terms.{at-small}
-use Rattle.at_once.proofs.Turns.{here, inside, passed, few-left, passed-plain}
+use Rattle.joint.proofs.Turns.{here, inside, passed, few-left, passed-plain}
 use borrow.Author.Needs.{needs}
-use Rattle.at_once.proofs.turn.Statement.{statement}
-use Rattle.at_once.proofs.turn.Tie as tie
+use Rattle.joint.proofs.turn.Statement.{statement}
+use Rattle.joint.proofs.turn.Tie as tie
 
 pass-both-requires : tie.Need-pass-both-requires
 pass-both-requires c κs = here (c .before .before .before .before .before .before .pre .0 .6 .doing) (c .before .before .before .before .before .before .pre .0 .6 .some)

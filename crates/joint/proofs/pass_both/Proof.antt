@@ -1,8 +1,8 @@
--- `at_once::pass_both` meets its contract: the parts start where they start. Assumes nothing.
+-- `joint::pass_both` meets its contract: the parts start where they start. Assumes nothing.
 use mathlib.Core.Path.{refl}
 use borrow.Author.Needs.{needs}
-use Rattle.at_once.proofs.pass_both.Statement.{statement}
-use Rattle.at_once.proofs.pass_both.Tie as tie
+use Rattle.joint.proofs.pass_both.Statement.{statement}
+use Rattle.joint.proofs.pass_both.Tie as tie
 
 pass-requires : tie.Need-pass-requires
 pass-requires c κs = search needs

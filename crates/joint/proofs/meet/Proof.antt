@@ -1,10 +1,10 @@
--- `at_once::meet` meets its contract: by what two looks at the node tell. Assumes nothing.
+-- `joint::meet` meets its contract: by what two looks at the node tell. Assumes nothing.
 use native.Mathlib.Omega.{arith}
-use Rattle.at_once.proofs.Turns.{here, passed, few-left, plain-node}
-use Rattle.at_once.proofs.Hits.{x-room, y-room, put-x, put-y}
+use Rattle.joint.proofs.Turns.{here, passed, few-left, plain-node}
+use Rattle.joint.proofs.Hits.{x-room, y-room, put-x, put-y}
 use borrow.Author.Needs.{needs}
-use Rattle.at_once.proofs.meet.Statement.{statement}
-use Rattle.at_once.proofs.meet.Tie as tie
+use Rattle.joint.proofs.meet.Statement.{statement}
+use Rattle.joint.proofs.meet.Tie as tie
 
 look-requires : tie.Need-look-requires
 look-requires c κs = here (c .before .before .before .before .before .before .pre .6 .doing) (c .before .before .before .before .before .before .pre .6 .some)

@@ -1,12 +1,12 @@
--- `at_once::sweep` meets its contract: each turn does what is left of the first of the terms. Assumes nothing.
+-- `joint::sweep` meets its contract: each turn does what is left of the first of the terms. Assumes nothing.
 use Prim.Native.Nat.{_-_}
 use mathlib.Core.Path.{refl}
 use native.Mathlib.Omega.{arith}
 use lib.ListN.{length}
 use borrow.Author.Needs.{needs}
-use Rattle.at_once.proofs.Turns.{begun, Swept, turning, again, less}
-use Rattle.at_once.proofs.sweep.Statement.{statement}
-use Rattle.at_once.proofs.sweep.Tie as tie
+use Rattle.joint.proofs.Turns.{begun, Swept, turning, again, less}
+use Rattle.joint.proofs.sweep.Statement.{statement}
+use Rattle.joint.proofs.sweep.Tie as tie
 
 abbrev Inv-loop : tie.InvT-loop
 Inv-loop s x y a added b more nodes out₀ last other course₀ out course = Swept s x y a added b more nodes out₀ course out
