@@ -1,3 +1,3 @@
 -- What the proofs of several functions use, here and in the crate above.
 pub mod Puts
-mod Turning
+pub mod Turning

@@ -1,0 +1,4 @@
+mod Shaped
+mod Values
+mod Turns
+mod Hits
