@@ -63,7 +63,7 @@ use Rattle.entries.specs.Entries.{none}
 use Rattle.entries.proofs.CutEntry as T
 use Rattle.entries.proofs.CutEntry.Laws as T′
 use Rattle.entries.proofs.Row.{R, mach}
-use Rattle.entries.proofs.Rules.{if-then, free-at}
+use Rattle.entries.proofs.Rules.{if-then, free-at, free-four, free-eight}
 use Rattle.entries.proofs.Lent.{KeptRow, KeptShared, lend-row, row-back, share-row, shared-back}
 use Rattle.entries.proofs.put_entry as put-of
 use Rattle.entries.proofs.put_entry.Symbol as put-def
@@ -1472,7 +1472,7 @@ module _ {M : Type 1} (𝓤 : URA M) (H : Heap 𝓤) (A : Atoms 𝓤) (W : Given
           rewrite ! 36 (λ (u : Val). ‵ (fat fullShare D′.mir l₀ 0 u)) (ap only (LL.tells D.the-type D′.the-laws (r1 .0) _ is1)) refl $
           drop ! $ split ! $ move ! (1 ∷ []) $ split ! $ move ! (1 ∷ []) $ move ! (2 ∷ 1 ∷ 0 ∷ []) $
           returns-within ! Post-rule refl (look ! 37 refl) $
-          move ! (37 ∷ 38 ∷ 35 ∷ 36 ∷ 33 ∷ 34 ∷ 31 ∷ 32 ∷ 29 ∷ 30 ∷ 27 ∷ 28 ∷ 25 ∷ 26 ∷ 23 ∷ 24 ∷ 21 ∷ 22 ∷ 19 ∷ 20 ∷ 17 ∷ 18 ∷ 15 ∷ 16 ∷ 13 ∷ 14 ∷ 11 ∷ 12 ∷ 9 ∷ 10 ∷ 7 ∷ 8 ∷ 5 ∷ 6 ∷ 3 ∷ 4 ∷ []) $ free-at ! $ free-at ! $ free-at ! $ free-at ! $ free-at ! $ free-at ! $ free-at ! $ free-at ! $ free-at ! $ free-at ! $ free-at ! $ free-at ! $ free-at ! $ free-at ! $ free1 ! $ free1 ! $ free1 ! $ free1 ! $ free0 ! $
+          move ! (37 ∷ 38 ∷ 35 ∷ 36 ∷ 33 ∷ 34 ∷ 31 ∷ 32 ∷ 29 ∷ 30 ∷ 27 ∷ 28 ∷ 25 ∷ 26 ∷ 23 ∷ 24 ∷ 21 ∷ 22 ∷ 19 ∷ 20 ∷ 17 ∷ 18 ∷ 15 ∷ 16 ∷ 13 ∷ 14 ∷ 11 ∷ 12 ∷ 9 ∷ 10 ∷ 7 ∷ 8 ∷ 5 ∷ 6 ∷ 3 ∷ 4 ∷ []) $ free-eight ! $ free-four ! $ free-at ! $ free-at ! $ free1 ! $ free1 ! $ free1 ! $ free1 ! $ free0 ! $
           move ! (1 ∷ 2 ∷ []) $ join ! $ move ! (1 ∷ 0 ∷ []) $ join ! $
           by ! (exits-rule l0-cs (r1 .1) (r1 .0) (mach-draft (r1 .0)) e0-cs (e1 .0) (draft-is (r1 .0) is1) (refl, e1 .1 j e0 req))))))))
           (λ h0. let three-at : 2 < r0 .act = not-below (r0 .act) 3 h0 in
@@ -1489,7 +1489,7 @@ module _ {M : Type 1} (𝓤 : URA M) (H : Heap 𝓤) (A : Atoms 𝓤) (W : Given
           rewrite ! 36 (λ (u : Val). ‵ (fat fullShare D′.mir l₀ 0 u)) (ap only (LL.tells D.the-type D′.the-laws (r2 .0) _ is2)) refl $
           drop ! $ split ! $ move ! (1 ∷ []) $ split ! $ move ! (1 ∷ []) $ move ! (2 ∷ 1 ∷ 0 ∷ []) $
           returns ! (look ! 37 refl) $
-          move ! (37 ∷ 38 ∷ 35 ∷ 36 ∷ 33 ∷ 34 ∷ 31 ∷ 32 ∷ 29 ∷ 30 ∷ 27 ∷ 28 ∷ 25 ∷ 26 ∷ 23 ∷ 24 ∷ 21 ∷ 22 ∷ 19 ∷ 20 ∷ 17 ∷ 18 ∷ 15 ∷ 16 ∷ 13 ∷ 14 ∷ 11 ∷ 12 ∷ 9 ∷ 10 ∷ 7 ∷ 8 ∷ 5 ∷ 6 ∷ 3 ∷ 4 ∷ []) $ free-at ! $ free-at ! $ free-at ! $ free-at ! $ free-at ! $ free-at ! $ free-at ! $ free-at ! $ free-at ! $ free-at ! $ free1 ! $ free1 ! $ free1 ! $ free1 ! $ free-at ! $ free-at ! $ free-at ! $ free-at ! $ free0 ! $
+          move ! (37 ∷ 38 ∷ 35 ∷ 36 ∷ 33 ∷ 34 ∷ 31 ∷ 32 ∷ 29 ∷ 30 ∷ 27 ∷ 28 ∷ 25 ∷ 26 ∷ 23 ∷ 24 ∷ 21 ∷ 22 ∷ 19 ∷ 20 ∷ 17 ∷ 18 ∷ 15 ∷ 16 ∷ 13 ∷ 14 ∷ 11 ∷ 12 ∷ 9 ∷ 10 ∷ 7 ∷ 8 ∷ 5 ∷ 6 ∷ 3 ∷ 4 ∷ []) $ free-eight ! $ free-at ! $ free-at ! $ free1 ! $ free1 ! $ free1 ! $ free1 ! $ free-four ! $ free0 ! $
           move ! (1 ∷ 2 ∷ []) $ join ! $ move ! (1 ∷ 0 ∷ []) $ join ! $
           by ! (exits-rule (r2 .1 .0) (r2 .1 .1) (r2 .0) (mach-draft (r2 .0)) (e2 .0) (e2 .1 .0) (draft-is (r2 .0) is2) (e2 .1 .1)))))))))))))))))))))))))))))))
 
@@ -1614,7 +1614,7 @@ module _ {M : Type 1} (𝓤 : URA M) (H : Heap 𝓤) (A : Atoms 𝓤) (W : Given
           rewrite ! 45 (λ (u : Val). ‵ (fat fullShare D′.mir l₀ 0 u)) (ap only (LL.tells D.the-type D′.the-laws (r1 .0) _ is1)) refl $
           drop ! $ split ! $ move ! (1 ∷ []) $ move ! (1 ∷ 2 ∷ 0 ∷ []) $
           returns-within ! Post-premises refl (look ! 45 refl) $
-          move ! (45 ∷ 46 ∷ 43 ∷ 44 ∷ 41 ∷ 42 ∷ 39 ∷ 40 ∷ 37 ∷ 38 ∷ 35 ∷ 36 ∷ 33 ∷ 34 ∷ 31 ∷ 32 ∷ 29 ∷ 30 ∷ 27 ∷ 28 ∷ 25 ∷ 26 ∷ 23 ∷ 24 ∷ 21 ∷ 22 ∷ 19 ∷ 20 ∷ 17 ∷ 18 ∷ 15 ∷ 16 ∷ 13 ∷ 14 ∷ 11 ∷ 12 ∷ 9 ∷ 10 ∷ 7 ∷ 8 ∷ 5 ∷ 6 ∷ 3 ∷ 4 ∷ []) $ free-at ! $ free-at ! $ free-at ! $ free-at ! $ free-at ! $ free-at ! $ free-at ! $ free-at ! $ free-at ! $ free-at ! $ free-at ! $ free-at ! $ free-at ! $ free-at ! $ free-at ! $ free-at ! $ free-at ! $ free-at ! $ free1 ! $ free1 ! $ free1 ! $ free1 ! $ free0 ! $
+          move ! (45 ∷ 46 ∷ 43 ∷ 44 ∷ 41 ∷ 42 ∷ 39 ∷ 40 ∷ 37 ∷ 38 ∷ 35 ∷ 36 ∷ 33 ∷ 34 ∷ 31 ∷ 32 ∷ 29 ∷ 30 ∷ 27 ∷ 28 ∷ 25 ∷ 26 ∷ 23 ∷ 24 ∷ 21 ∷ 22 ∷ 19 ∷ 20 ∷ 17 ∷ 18 ∷ 15 ∷ 16 ∷ 13 ∷ 14 ∷ 11 ∷ 12 ∷ 9 ∷ 10 ∷ 7 ∷ 8 ∷ 5 ∷ 6 ∷ 3 ∷ 4 ∷ []) $ free-eight ! $ free-eight ! $ free-at ! $ free-at ! $ free1 ! $ free1 ! $ free1 ! $ free1 ! $ free0 ! $
           move ! (1 ∷ 2 ∷ []) $ join ! $ move ! (1 ∷ 0 ∷ []) $ join ! $
           by ! (exits-premises l0-cs (r1 .1) (r1 .0) (mach-draft (r1 .0)) e0-cs (e1 .0) (draft-is (r1 .0) is1) (refl, e1 .1 j l0-cs k l0-ws u began))))))))
           (λ h0. let four-at : 3 < g .act = omega (arith, req .0, apart (g .act) 3 h0) in
@@ -1631,7 +1631,7 @@ module _ {M : Type 1} (𝓤 : URA M) (H : Heap 𝓤) (A : Atoms 𝓤) (W : Given
           rewrite ! 44 (λ (u : Val). ‵ (fat fullShare D′.mir l₀ 0 u)) (ap only (LL.tells D.the-type D′.the-laws (r2 .0) _ is2)) refl $
           drop ! $ split ! $ move ! (1 ∷ []) $ split ! $ move ! (1 ∷ []) $ move ! (2 ∷ 1 ∷ 0 ∷ []) $
           returns ! (look ! 45 refl) $
-          move ! (45 ∷ 46 ∷ 43 ∷ 44 ∷ 41 ∷ 42 ∷ 39 ∷ 40 ∷ 37 ∷ 38 ∷ 35 ∷ 36 ∷ 33 ∷ 34 ∷ 31 ∷ 32 ∷ 29 ∷ 30 ∷ 27 ∷ 28 ∷ 25 ∷ 26 ∷ 23 ∷ 24 ∷ 21 ∷ 22 ∷ 19 ∷ 20 ∷ 17 ∷ 18 ∷ 15 ∷ 16 ∷ 13 ∷ 14 ∷ 11 ∷ 12 ∷ 9 ∷ 10 ∷ 7 ∷ 8 ∷ 5 ∷ 6 ∷ 3 ∷ 4 ∷ []) $ free-at ! $ free-at ! $ free-at ! $ free-at ! $ free-at ! $ free-at ! $ free-at ! $ free-at ! $ free-at ! $ free-at ! $ free-at ! $ free-at ! $ free-at ! $ free-at ! $ free-at ! $ free-at ! $ free1 ! $ free1 ! $ free-at ! $ free-at ! $ free-at ! $ free-at ! $ free0 ! $
+          move ! (45 ∷ 46 ∷ 43 ∷ 44 ∷ 41 ∷ 42 ∷ 39 ∷ 40 ∷ 37 ∷ 38 ∷ 35 ∷ 36 ∷ 33 ∷ 34 ∷ 31 ∷ 32 ∷ 29 ∷ 30 ∷ 27 ∷ 28 ∷ 25 ∷ 26 ∷ 23 ∷ 24 ∷ 21 ∷ 22 ∷ 19 ∷ 20 ∷ 17 ∷ 18 ∷ 15 ∷ 16 ∷ 13 ∷ 14 ∷ 11 ∷ 12 ∷ 9 ∷ 10 ∷ 7 ∷ 8 ∷ 5 ∷ 6 ∷ 3 ∷ 4 ∷ []) $ free-eight ! $ free-eight ! $ free1 ! $ free1 ! $ free-four ! $ free0 ! $
           move ! (1 ∷ 2 ∷ []) $ join ! $ move ! (1 ∷ 0 ∷ []) $ join ! $
           by ! (exits-premises (r2 .1 .0) (r2 .1 .1) (r2 .0) (mach-draft (r2 .0)) (e2 .0) (e2 .1 .0) (draft-is (r2 .0) is2) (e2 .1 .1 .0, e2 .1 .1 .1 l0-ws u began)))))))))))))))))))))))))))))))))))
 
@@ -1755,7 +1755,7 @@ module _ {M : Type 1} (𝓤 : URA M) (H : Heap 𝓤) (A : Atoms 𝓤) (W : Given
           rewrite ! 44 (λ (u : Val). ‵ (fat fullShare D′.mir l₀ 0 u)) (ap only (LL.tells D.the-type D′.the-laws (r1 .0) _ is1)) refl $
           drop ! $ move ! (1 ∷ 2 ∷ 0 ∷ []) $
           returns-within ! Post-second refl (look ! 43 refl) $
-          move ! (43 ∷ 44 ∷ 41 ∷ 42 ∷ 39 ∷ 40 ∷ 37 ∷ 38 ∷ 35 ∷ 36 ∷ 33 ∷ 34 ∷ 31 ∷ 32 ∷ 29 ∷ 30 ∷ 27 ∷ 28 ∷ 25 ∷ 26 ∷ 23 ∷ 24 ∷ 21 ∷ 22 ∷ 19 ∷ 20 ∷ 17 ∷ 18 ∷ 15 ∷ 16 ∷ 13 ∷ 14 ∷ 11 ∷ 12 ∷ 9 ∷ 10 ∷ 7 ∷ 8 ∷ 5 ∷ 6 ∷ 3 ∷ 4 ∷ []) $ free-at ! $ free-at ! $ free-at ! $ free-at ! $ free-at ! $ free-at ! $ free-at ! $ free-at ! $ free-at ! $ free-at ! $ free-at ! $ free-at ! $ free-at ! $ free-at ! $ free-at ! $ free-at ! $ free-at ! $ free1 ! $ free1 ! $ free1 ! $ free1 ! $ free0 ! $
+          move ! (43 ∷ 44 ∷ 41 ∷ 42 ∷ 39 ∷ 40 ∷ 37 ∷ 38 ∷ 35 ∷ 36 ∷ 33 ∷ 34 ∷ 31 ∷ 32 ∷ 29 ∷ 30 ∷ 27 ∷ 28 ∷ 25 ∷ 26 ∷ 23 ∷ 24 ∷ 21 ∷ 22 ∷ 19 ∷ 20 ∷ 17 ∷ 18 ∷ 15 ∷ 16 ∷ 13 ∷ 14 ∷ 11 ∷ 12 ∷ 9 ∷ 10 ∷ 7 ∷ 8 ∷ 5 ∷ 6 ∷ 3 ∷ 4 ∷ []) $ free-eight ! $ free-eight ! $ free-at ! $ free1 ! $ free1 ! $ free1 ! $ free1 ! $ free0 ! $
           move ! (1 ∷ 2 ∷ []) $ join ! $ move ! (1 ∷ 0 ∷ []) $ join ! $
           by ! (exits-second l0-cs (r1 .1) (r1 .0) (mach-draft (r1 .0)) e0-cs (e1 .0) (draft-is (r1 .0) is1) (refl, λ xs used b. pair-done b (eqb→eq (g .act) 4 h0) (e0 .1 .1 .1) (e1 .1))))))))))))))
           (λ h0. let five-at : 4 < g .act = omega (arith, req .0, apart (g .act) 4 h0) in
@@ -1772,7 +1772,7 @@ module _ {M : Type 1} (𝓤 : URA M) (H : Heap 𝓤) (A : Atoms 𝓤) (W : Given
           rewrite ! 42 (λ (u : Val). ‵ (fat fullShare D′.mir l₀ 0 u)) (ap only (LL.tells D.the-type D′.the-laws (r2 .0) _ is2)) refl $
           drop ! $ split ! $ move ! (1 ∷ []) $ split ! $ move ! (1 ∷ []) $ move ! (2 ∷ 1 ∷ 0 ∷ []) $
           returns ! (look ! 43 refl) $
-          move ! (43 ∷ 44 ∷ 41 ∷ 42 ∷ 39 ∷ 40 ∷ 37 ∷ 38 ∷ 35 ∷ 36 ∷ 33 ∷ 34 ∷ 31 ∷ 32 ∷ 29 ∷ 30 ∷ 27 ∷ 28 ∷ 25 ∷ 26 ∷ 23 ∷ 24 ∷ 21 ∷ 22 ∷ 19 ∷ 20 ∷ 17 ∷ 18 ∷ 15 ∷ 16 ∷ 13 ∷ 14 ∷ 11 ∷ 12 ∷ 9 ∷ 10 ∷ 7 ∷ 8 ∷ 5 ∷ 6 ∷ 3 ∷ 4 ∷ []) $ free-at ! $ free-at ! $ free-at ! $ free-at ! $ free-at ! $ free-at ! $ free-at ! $ free-at ! $ free-at ! $ free1 ! $ free-at ! $ free1 ! $ free1 ! $ free1 ! $ free1 ! $ free1 ! $ free1 ! $ free-at ! $ free-at ! $ free-at ! $ free-at ! $ free0 ! $
+          move ! (43 ∷ 44 ∷ 41 ∷ 42 ∷ 39 ∷ 40 ∷ 37 ∷ 38 ∷ 35 ∷ 36 ∷ 33 ∷ 34 ∷ 31 ∷ 32 ∷ 29 ∷ 30 ∷ 27 ∷ 28 ∷ 25 ∷ 26 ∷ 23 ∷ 24 ∷ 21 ∷ 22 ∷ 19 ∷ 20 ∷ 17 ∷ 18 ∷ 15 ∷ 16 ∷ 13 ∷ 14 ∷ 11 ∷ 12 ∷ 9 ∷ 10 ∷ 7 ∷ 8 ∷ 5 ∷ 6 ∷ 3 ∷ 4 ∷ []) $ free-eight ! $ free-at ! $ free1 ! $ free-at ! $ free1 ! $ free1 ! $ free1 ! $ free1 ! $ free1 ! $ free1 ! $ free-four ! $ free0 ! $
           move ! (1 ∷ 2 ∷ []) $ join ! $ move ! (1 ∷ 0 ∷ []) $ join ! $
           by ! (exits-second (r2 .1 .0) (r2 .1 .1) (r2 .0) (mach-draft (r2 .0)) (e2 .0) (e2 .1 .0) (draft-is (r2 .0) is2) (e2 .1 .1 .0, λ xs used b. e2 .1 .1 .1 g xs used five-at b)))))))))))))))))))))))))))))
 
@@ -1897,7 +1897,7 @@ module _ {M : Type 1} (𝓤 : URA M) (H : Heap 𝓤) (A : Atoms 𝓤) (W : Given
           rewrite ! 35 (λ (u : Val). ‵ (fat fullShare D′.mir l₀ 0 u)) (ap only (LL.tells D.the-type D′.the-laws (r2 .0) _ is2)) refl $
           drop ! $ split ! $ move ! (1 ∷ []) $ move ! (1 ∷ 2 ∷ 0 ∷ []) $
           returns ! (look ! 35 refl) $
-          move ! (35 ∷ 36 ∷ 33 ∷ 34 ∷ 31 ∷ 32 ∷ 29 ∷ 30 ∷ 27 ∷ 28 ∷ 25 ∷ 26 ∷ 23 ∷ 24 ∷ 21 ∷ 22 ∷ 19 ∷ 20 ∷ 17 ∷ 18 ∷ 15 ∷ 16 ∷ 13 ∷ 14 ∷ 11 ∷ 12 ∷ 9 ∷ 10 ∷ 7 ∷ 8 ∷ 5 ∷ 6 ∷ 3 ∷ 4 ∷ []) $ free-at ! $ free-at ! $ free-at ! $ free-at ! $ free-at ! $ free-at ! $ free-at ! $ free-at ! $ free-at ! $ free-at ! $ free-at ! $ free-at ! $ free-at ! $ free-at ! $ free-at ! $ free-at ! $ free-at ! $ free0 ! $
+          move ! (35 ∷ 36 ∷ 33 ∷ 34 ∷ 31 ∷ 32 ∷ 29 ∷ 30 ∷ 27 ∷ 28 ∷ 25 ∷ 26 ∷ 23 ∷ 24 ∷ 21 ∷ 22 ∷ 19 ∷ 20 ∷ 17 ∷ 18 ∷ 15 ∷ 16 ∷ 13 ∷ 14 ∷ 11 ∷ 12 ∷ 9 ∷ 10 ∷ 7 ∷ 8 ∷ 5 ∷ 6 ∷ 3 ∷ 4 ∷ []) $ free-eight ! $ free-eight ! $ free-at ! $ free0 ! $
           move ! (1 ∷ 2 ∷ []) $ join ! $ move ! (1 ∷ 0 ∷ []) $ join ! $
           by ! (exits-consumer l0-cs (r2 .1) (r2 .0) (mach-draft (r2 .0)) e0-cs (e2 .0) (draft-is (r2 .0) is2) (refl, λ plan xs used c b. cut-done b c (subst (λ (e : CutEntry). Ends ts-s (d .next) (set l0-cs k e) (k + 1) l0-ws (r1 .1 .1) (d .used) (d .counter) (r1 .0)) e0 (e1 .1 .1 .1)) (e2 .1))))))))))))))))))))))))))))))))))
 
@@ -2020,7 +2020,7 @@ module _ {M : Type 1} (𝓤 : URA M) (H : Heap 𝓤) (A : Atoms 𝓤) (W : Given
           drop ! $ move ! (1 ∷ 0 ∷ 2 ∷ []) $ rewrite ! 1 (λ (l : List CutEntry). P-cs l) (e2 .1 ∙ ap (λ (z : CutEntry). set (set l0-cs k e) k z) (e0 .1 .0) ∙ restored l0-cs k e (req .0)) refl $
           assigns ! (of-opd ! (load ! (from ! (stop !)) (look ! 23 refl))) (from ! (stop !)) (init ! 39 refl (LL.lawful D.the-type D′.the-laws 𝓤 H A W .typed (r1 .0) _ (draft-is (r1 .0) is1) .0)) $
           returns ! (look ! 39 refl) $
-          move ! (39 ∷ 40 ∷ 37 ∷ 38 ∷ 35 ∷ 36 ∷ 33 ∷ 34 ∷ 31 ∷ 32 ∷ 29 ∷ 30 ∷ 27 ∷ 28 ∷ 25 ∷ 26 ∷ 23 ∷ 24 ∷ 21 ∷ 22 ∷ 19 ∷ 20 ∷ 17 ∷ 18 ∷ 15 ∷ 16 ∷ 13 ∷ 14 ∷ 11 ∷ 12 ∷ 9 ∷ 10 ∷ 7 ∷ 8 ∷ 5 ∷ 6 ∷ 3 ∷ 4 ∷ []) $ free-at ! $ free-at ! $ free-at ! $ free-at ! $ free-at ! $ free-at ! $ free-at ! $ free-at ! $ free-at ! $ free-at ! $ free-at ! $ free-at ! $ free-at ! $ free-at ! $ free-at ! $ free-at ! $ free-at ! $ free-at ! $ free-at ! $ free0 ! $
+          move ! (39 ∷ 40 ∷ 37 ∷ 38 ∷ 35 ∷ 36 ∷ 33 ∷ 34 ∷ 31 ∷ 32 ∷ 29 ∷ 30 ∷ 27 ∷ 28 ∷ 25 ∷ 26 ∷ 23 ∷ 24 ∷ 21 ∷ 22 ∷ 19 ∷ 20 ∷ 17 ∷ 18 ∷ 15 ∷ 16 ∷ 13 ∷ 14 ∷ 11 ∷ 12 ∷ 9 ∷ 10 ∷ 7 ∷ 8 ∷ 5 ∷ 6 ∷ 3 ∷ 4 ∷ []) $ free-eight ! $ free-eight ! $ free-at ! $ free-at ! $ free-at ! $ free0 ! $
           move ! (1 ∷ 2 ∷ []) $ join ! $ move ! (1 ∷ 0 ∷ []) $ join ! $
           by ! (exits-inside l0-cs (r1 .1 .1) (r1 .0) (mach-draft (r1 .0)) e0-cs (e1 .1 .0) (draft-is (r1 .0) is1) (refl, e1 .1 .1 .1))))))))))))))))))))))))))))))))))))
 
