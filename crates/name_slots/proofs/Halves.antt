@@ -9,12 +9,12 @@ use lib.ListN.{length, getD}
 use Rattle.rules.specs.Basic.{Bytes}
 use Rattle.rules.specs.Name.{Name, same}
 use Rattle.walk.specs.Place.{NameAt}
-use Rattle.name_order.specs.Members.{same-swap}
-use Rattle.name_order.specs.Search.{at, Between, everywhere, go-right, go-left, insert-there, insert-new}
+use Rattle.name_slots.specs.Members.{same-swap}
+use Rattle.name_slots.specs.Search.{at, Between, everywhere, go-right, go-left, insert-there, insert-new}
 use Rattle.name_order.specs.Order.{orderOf, is-before, is-same, is-after}
-use Rattle.name_order.specs.Rows.{Sought, Goes}
-use Rattle.name_order.specs.declared.order.Stands.{Stands}
-use Rattle.name_order.specs.declared.order.Stands.the-variants.{Before, Same, After}
+use Rattle.name_slots.specs.Rows.{Sought, Goes}
+use Rattle.name_order.specs.declared.Stands.{Stands}
+use Rattle.name_order.specs.declared.Stands.the-variants.{Before, Same, After}
 
 -- the slot lies between lo and hi, and the name at hi is another
 pub record Aimed (x : Name) (xs : List Name) (lo hi : ℕ) : Type 0 where

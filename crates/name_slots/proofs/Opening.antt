@@ -13,8 +13,8 @@ use lib.Seq.{getD-set-same, getD-set-other, getD-take, getD-drop, getD-append-ad
 use Rattle.rules.specs.Basic.{Bytes}
 use Rattle.rules.specs.Name.{Name}
 use Rattle.walk.specs.Place.{NameAt}
-use Rattle.name_order.specs.Search.{at}
-use Rattle.name_order.specs.Rows.{Held, Opened}
+use Rattle.name_slots.specs.Search.{at}
+use Rattle.name_slots.specs.Rows.{Held, Opened}
 
 -- entries below j stand as they did, those from j to n have moved up
 pub record Moved (row₀ row : List ℕ) (n j : ℕ) : Type 0 where

@@ -9,9 +9,9 @@ use lib.Seq.{drop-cons}
 use Rattle.rules.specs.Basic.{Bytes}
 use Rattle.rules.specs.Name.{Name, same}
 use Rattle.walk.specs.Place.{NameAt}
 use Rattle.name_order.specs.Ordered.{elem}
-use Rattle.name_order.specs.Search.{at}
-use Rattle.name_order.specs.Rows.{Passed, Scanned}
+use Rattle.name_slots.specs.Search.{at}
+use Rattle.name_slots.specs.Rows.{Passed, Scanned}
 
 -- the binder at the entry i of the row
 pub binder-at : (s : Bytes) (row : List ℕ) (low i : ℕ) (xs : List Name) → Passed s row low xs → low ≤ i → i < 1024 → NameAt s (getD row i 0) (at xs (i - low))

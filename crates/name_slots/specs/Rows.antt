@@ -8,9 +8,9 @@ use Rattle.rules.specs.Basic.{Bytes}
 use Rattle.rules.specs.Name.{Name, encodeNames}
 use Rattle.rules.specs.Free.{insert}
 use Rattle.walk.specs.Place.{NameAt}
 use Rattle.name_order.specs.Ordered.{Ordered, elem}
-use Rattle.name_order.specs.Search.{at}
-use Rattle.name_order.specs.declared.slots.Slot.{Slot}
+use Rattle.name_slots.specs.Search.{at}
+use Rattle.name_slots.specs.declared.Slot.{Slot}
 
 -- the first n places of a row are those of the names xs in s
 pub record Held (s : Bytes) (row : List ℕ) (n : ℕ) (xs : List Name) : Type 0 where

@@ -10,8 +10,8 @@ use native.Mathlib.Omega.{arith}
 use lib.ListN.{length, getD, take, drop}
 use Rattle.rules.specs.Name.{Name, same, before}
 use Rattle.rules.specs.Free.{insert}
 use Rattle.name_order.specs.Ordered.{same-eq, Trichotomy, is, below, above, compare, before-trans, elem, Below, Ordered, by-members}
-use Rattle.name_order.specs.Members.{elem-insert, ordered-insert}
+use Rattle.name_slots.specs.Members.{elem-insert, ordered-insert}
 
 true-false : {P : Type 0} → _≡_ {A = Bool} true false → P
 true-false q = absurd (let z : _≡_ {A = ℕ} 0 1 = cc in omega arith)

@@ -4,11 +4,13 @@ ghost use Prim.Native.Nat.{_≤_, _<_};
 ghost use lib.ListN.{length};
 ghost use Rattle.rules.specs.Name.{Name};
 ghost use Rattle.walk.specs.Place.{NameAt};
-ghost use Rattle.name_order.specs.Rows.{Passed, Scanned, Sought, Goes, Opened};
-use crate::BINDERS;
-use crate::order::Stands;
-use crate::order::order_at;
-use crate::order::same_at;
+ghost use Rattle.name_slots.specs.Rows.{Passed, Scanned, Sought, Goes, Opened};
+use name_order::Stands;
+use name_order::order_at;
+use name_order::same_at;
+
+// Where the places of the binders end in the row.
+pub const BINDERS: usize = 1024;
 
 // Where in the row the nearest binder passed of the name at `at` stands; BINDERS if there is none.
 pub fn passed(s: &[u8], at: usize, row: &[u16], low: usize) -> usize

@@ -1,12 +1,12 @@
--- `name_order::order::order` meets its contract: what is left to compare decides. Assumes nothing.
+-- `name_order::order` meets its contract: what is left to compare decides. Assumes nothing.
 use Prim.Native.Nat.{_≤_, _-_}
 use mathlib.Core.Path.{_≡_, refl}
 use native.Mathlib.Omega.{arith}
 use lib.ListN.{length, drop}
 use Rattle.name_order.specs.Order.{orderOf}
 use Rattle.name_order.proofs.Orders.{order-longer, order-less, order-more, order-next, order-begins, order-same}
-use Rattle.name_order.proofs.order.order.Statement.{statement}
-use Rattle.name_order.proofs.order.order.Tie as tie
+use Rattle.name_order.proofs.order.Statement.{statement}
+use Rattle.name_order.proofs.order.Tie as tie
 
 abbrev Inv-loop : tie.InvT-loop
 Inv-loop a b i₀ i = (i ≤ length a) × (orderOf a b ≡ orderOf (drop i a) (drop i b))

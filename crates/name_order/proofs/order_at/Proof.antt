@@ -1,10 +1,10 @@
--- `name_order::order::order_at` meets its contract: the bytes of a name are those behind its length. Assumes nothing.
+-- `name_order::order_at` meets its contract: the bytes of a name are those behind its length. Assumes nothing.
 use native.Mathlib.Omega.{arith}
 use borrow.Author.Needs.{needs}
 use Rattle.walk.proofs.Names.{name-room}
 use Rattle.name_order.proofs.Orders.{of-parts}
-use Rattle.name_order.proofs.order.order_at.Statement.{statement}
-use Rattle.name_order.proofs.order.order_at.Tie as tie
+use Rattle.name_order.proofs.order_at.Statement.{statement}
+use Rattle.name_order.proofs.order_at.Tie as tie
 
 add-from : tie.Need-add-from
 add-from c = omega (arith, name-room _ (c .before .args .at) (c .before .pre .0, c .before .pre .2))

@@ -1,10 +1,10 @@
--- `name_order::order::same_at` meets its contract: where lengths or last bytes differ the names do, and else all bytes are compared. Assumes nothing.
+-- `name_order::same_at` meets its contract: where lengths or last bytes differ the names do, and else all bytes are compared. Assumes nothing.
 use native.Mathlib.Omega.{arith}
 use Rattle.walk.proofs.Names.{name-room}
 use Rattle.name_order.proofs.Comparing.{other-length, other-last, all-bytes}
 use borrow.Author.Needs.{needs}
-use Rattle.name_order.proofs.order.same_at.Statement.{statement}
-use Rattle.name_order.proofs.order.same_at.Tie as tie
+use Rattle.name_order.proofs.same_at.Statement.{statement}
+use Rattle.name_order.proofs.same_at.Tie as tie
 
 shared-slice-read-len : tie.Need-shared-slice-read-len
 shared-slice-read-len c = omega (arith, name-room _ (c .before .before .args .at) (c .before .before .pre .0, c .before .before .pre .2))

@@ -1,9 +1,9 @@
--- `name_order::slots::passed` meets its contract: the binders that are left decide. Assumes nothing.
+-- `name_slots::passed` meets its contract: the binders that are left decide. Assumes nothing.
 use Prim.Native.Nat.{_≤_, _-_}
 use native.Mathlib.Omega.{arith}
-use Rattle.name_order.proofs.Scanning.{Left, low-small, left-all, left-none, entry, left-found, left-less}
-use Rattle.name_order.proofs.slots.passed.Statement.{statement}
-use Rattle.name_order.proofs.slots.passed.Tie as tie
+use Rattle.name_slots.proofs.Scanning.{Left, low-small, left-all, left-none, entry, left-found, left-less}
+use Rattle.name_slots.proofs.passed.Statement.{statement}
+use Rattle.name_slots.proofs.passed.Tie as tie
 
 abbrev Inv-loop : tie.InvT-loop
 Inv-loop s at row low i₀ i = (low ≤ i) × (i ≤ 1024) × Left s at row low i

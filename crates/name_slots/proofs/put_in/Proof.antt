@@ -1,10 +1,10 @@
--- `name_order::slots::put_in` meets its contract: what has moved up so far, and what stands as it did. Assumes nothing.
+-- `name_slots::put_in` meets its contract: what has moved up so far, and what stands as it did. Assumes nothing.
 use Prim.Native.Nat.{_≤_, _-_}
 use native.Mathlib.Omega.{arith}
 use lib.ListN.{length-set}
-use Rattle.name_order.proofs.Opening.{Moved, moved-none, moved-more, moved-all}
-use Rattle.name_order.proofs.slots.put_in.Statement.{statement}
-use Rattle.name_order.proofs.slots.put_in.Tie as tie
+use Rattle.name_slots.proofs.Opening.{Moved, moved-none, moved-more, moved-all}
+use Rattle.name_slots.proofs.put_in.Statement.{statement}
+use Rattle.name_slots.proofs.put_in.Tie as tie
 
 abbrev Inv-loop : tie.InvT-loop
 Inv-loop row₀ n i p j₀ row j = (i ≤ j) × (j ≤ n) × Moved row₀ row n j

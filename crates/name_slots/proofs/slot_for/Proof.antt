@@ -1,10 +1,10 @@
--- `name_order::slots::slot_for` meets its contract: each comparison leaves the slot between two bounds, until they meet. Assumes nothing.
+-- `name_slots::slot_for` meets its contract: each comparison leaves the slot between two bounds, until they meet. Assumes nothing.
 use Prim.Native.Nat.{_≤_, _-_}
 use native.Mathlib.Omega.{arith}
 use borrow.Author.Needs.{needs}
-use Rattle.name_order.proofs.Halves.{Aims, aims-all, middle, aims-right, aims-left, hits, misses}
-use Rattle.name_order.proofs.slots.slot_for.Statement.{statement}
-use Rattle.name_order.proofs.slots.slot_for.Tie as tie
+use Rattle.name_slots.proofs.Halves.{Aims, aims-all, middle, aims-right, aims-left, hits, misses}
+use Rattle.name_slots.proofs.slot_for.Statement.{statement}
+use Rattle.name_slots.proofs.slot_for.Tie as tie
 
 abbrev Inv-loop : tie.InvT-loop
 Inv-loop s at row n lo₀ hi₀ lo hi = (lo ≤ hi) × (hi ≤ n) × Aims s at row n lo hi
