@@ -39,7 +39,7 @@ fn list_names(term: &[u8], out: &mut [u8]) -> usize
     let mut row = [0u16; 1088];
     let found = gather(term, 0, &mut row, BINDERS, 0);
     let end = write_names(term, &row, found.count, out);
-    runs::clear(out, end);
+    buffers::behind(out, end);
     end
 }
 
