@@ -1,12 +1,14 @@
-// How an extraction over a lent row of cut entries ends. Nothing here carries the row: it is told how many entries there are.
+// How an extraction ends, alone or over a lent row of cut entries. Nothing here carries the row: it is told how many entries there are.
 ghost use mathlib.Core.Path.{_≡_};
 ghost use mathlib.Core.Bool.{true, false};
 ghost use Prim.Native.Nat.{_<_, _≤_};
-ghost use Rattle.rules.specs.Limits.{limits, entryRoom};
+ghost use Rattle.rules.specs.Limits.{limits, entryRoom, mostCounter};
 ghost use Rattle.ended.specs.Ends.{clearsOf, madeEnd, refusedEnd};
 use rules::Answer;
 use rules::ENTRY_ROOM;
 use rules::Refusal;
+
+const MOST_COUNTER: usize = 100_000_000;
 
 // How an extraction ends: its answer, the counter after it, and how many entries of the row are set to zeros; or that it goes on.
 pub struct Ended {
@@ -21,6 +23,16 @@ pub fn short_row(room: usize) -> bool
     ensures { λ r. ⌜ (r ≡ true → room < entryRoom limits) × (r ≡ false → entryRoom limits ≤ room) ⌝ }
 {
     if room < ENTRY_ROOM {
+        return true;
+    }
+    false
+}
+
+// Whether the counter after an extraction is over the most.
+pub fn over_counter(counter: usize) -> bool
+    ensures { λ r. ⌜ (r ≡ true → mostCounter < counter) × (r ≡ false → counter ≤ mostCounter) ⌝ }
+{
+    if MOST_COUNTER < counter {
         return true;
     }
     false

@@ -13,6 +13,7 @@ ghost use Rattle.extract.specs.Whole.{extraction, told, Finishes, Finish
 use draft_rows::Drafted;
 use draft_term::parts::put_part;
 use draft_term::sizes::fits;
+use ended::over_counter;
 use own_row::draft_few;
 use own_row::draft_many;
 use rules::Answer;
@@ -52,7 +53,7 @@ pub fn finish(
     ensures { λ r. ⌜ ((t : Term) → (n : ℕ) → Finishes (now (proof .entry)) (now (rows .entry)) draft (now (sizes .entry)) (now (out .entry)) (t, n)
         → Finished (t, n) (now (out .entry)) (now (scratch .entry)) r (now (out .exit)) (now (scratch .exit))) ⌝ }
 {
-    if MOST_COUNTER < draft.counter {
+    if over_counter(draft.counter) {
         return refused(9);
     }
     if fits(proof, rows, draft.used, draft.part, sizes) {

@@ -12,8 +12,8 @@ use Rattle.runs.specs.Wrote.{Wrote}
 use Rattle.runs.specs.Writing.{slice-is, chain, wrote-none}
 use Rattle.walk.specs.Place.{NameAt}
 use Rattle.walk.proofs.Names.{head-byte}
-use Rattle.name_order.specs.Search.{at}
-use Rattle.name_order.specs.Rows.{Writes}
+use Rattle.name_slots.specs.Search.{at}
+use Rattle.name_slots.specs.Rows.{Writes}
 
 names-app : (xs ys : List Name) → encodeNames (xs ++ ys) ≡ encodeNames xs ++ encodeNames ys
 names-app [] ys = refl

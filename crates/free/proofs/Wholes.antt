@@ -16,7 +16,7 @@ use Rattle.runs.specs.Writing.{filled-up, wrote-length}
 use Rattle.walk.proofs.Terms.{whole}
 use Rattle.gathering.specs.declared.Gathered.{Gathered}
 use Rattle.gathering.specs.Gather.{gather-free}
-use Rattle.name_order.specs.Rows.{Held, Passed, Writes}
+use Rattle.name_slots.specs.Rows.{Held, Passed, Writes}
 use Rattle.gathering.specs.Walk.{Task, Done}
 use Rattle.free.specs.Whole.{Lists, Listed}
 

@@ -7,10 +7,10 @@ ghost use Rattle.rules.specs.Limits.{limits};
 ghost use Rattle.rules.specs.Refusal.{answered};
 ghost use Rattle.rules.specs.Calls.{freeVarsCall};
 ghost use Rattle.runs.specs.Wrote.{Wrote};
-ghost use Rattle.name_order.specs.Rows.{Writes};
+ghost use Rattle.name_slots.specs.Rows.{Writes};
 ghost use Rattle.free.specs.Whole.{Lists, Listed};
 use gathering::gather;
-use name_order::BINDERS;
+use name_slots::BINDERS;
 use rules::Answer;
 use rules::OUTPUT_ROOM;
 use rules::Refusal;
@@ -39,7 +39,7 @@ fn list_names(term: &[u8], out: &mut [u8]) -> usize
     let mut row = [0u16; 1088];
     let found = gather(term, 0, &mut row, BINDERS, 0);
     let end = write_names(term, &row, found.count, out);
-    runs::clear(out, end);
+    buffers::behind(out, end);
     end
 }
 

@@ -8,7 +8,7 @@ use Rattle.rules.specs.Name.{Name, same}
 use Rattle.rules.specs.Term.{Term, var, leaf, one, two, abs, both, branch}
 use Rattle.rules.specs.Free.{insert, union, without, free}
 use Rattle.name_order.specs.Ordered.{same-eq, elem, Ordered, by-members}
-use Rattle.name_order.specs.Members.{or-false, elem-insert, elem-union, elem-without, ordered-insert, ordered-free}
+use Rattle.name_slots.specs.Members.{or-false, elem-insert, elem-union, elem-without, ordered-insert, ordered-free}
 
 -- the names of t that are free and not among the binders passed, the nearest first, put into a list
 unfoldable pub gather : (passed : List Name) → Term → List Name → List Name

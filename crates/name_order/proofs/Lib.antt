@@ -1,6 +1,3 @@
--- What the proofs of several functions use, and the crate above.
+-- What the proofs of several functions use.
 mod Orders
 mod Comparing
-pub mod Scanning
-mod Halves
-pub mod Opening

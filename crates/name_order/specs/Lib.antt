@@ -1,5 +1,2 @@
 pub mod Ordered
-pub mod Members
-pub mod Search
 pub mod Order
-pub mod Rows

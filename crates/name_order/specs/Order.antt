@@ -8,8 +8,8 @@ use borrow.Author.Tests.{ltb-true, ltb-false, eq-eqb, ne-eqb}
 use mathlib.Core.List.{[], _∷_}
 use Rattle.rules.specs.Basic.{if_then_else_, _<?_}
 use Rattle.rules.specs.Name.{Name, same, before}
-use Rattle.name_order.specs.declared.order.Stands.{Stands}
-use Rattle.name_order.specs.declared.order.Stands.the-variants.{Before, Same, After}
+use Rattle.name_order.specs.declared.Stands.{Stands}
+use Rattle.name_order.specs.declared.Stands.the-variants.{Before, Same, After}
 
 -- by the first bytes that differ, a name that begins another first
 unfoldable pub orderOf : Name → Name → Stands

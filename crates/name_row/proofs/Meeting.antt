@@ -10,14 +10,14 @@ use Rattle.rules.specs.Basic.{Bytes, if_then_else_}
 use Rattle.rules.specs.Name.{Name, same}
 use Rattle.rules.specs.Free.{insert}
 use Rattle.walk.specs.Place.{NameAt}
-use Rattle.name_order.specs.declared.slots.Slot.{Slot}
+use Rattle.name_slots.specs.declared.Slot.{Slot}
 use Rattle.name_order.specs.Ordered.{elem}
-use Rattle.name_order.specs.Members.{ordered-insert}
-use Rattle.name_order.specs.Search.{at, elem-at, insert-there}
-use Rattle.name_order.specs.Rows.{Scanned, Sought, Goes, Opened}
+use Rattle.name_slots.specs.Members.{ordered-insert}
+use Rattle.name_slots.specs.Search.{at, elem-at, insert-there}
+use Rattle.name_slots.specs.Rows.{Scanned, Sought, Goes, Opened}
 use Rattle.name_row.specs.State.{State, Live, Meets, Met}
-use Rattle.name_order.proofs.Scanning.{binder-at}
-use Rattle.name_order.proofs.Opening.{held-opened}
+use Rattle.name_slots.proofs.Scanning.{binder-at}
+use Rattle.name_slots.proofs.Opening.{held-opened}
 use Rattle.name_row.proofs.States.{noted, beyond-kept}
 
 abbrev pub Some : Bytes → ℕ → List ℕ → ℕ → ℕ → Type 0

@@ -9,8 +9,8 @@ use lib.Seq.{getD-set-same, getD-set-other}
 use Rattle.rules.specs.Basic.{Bytes}
 use Rattle.rules.specs.Name.{Name}
 use Rattle.walk.specs.Place.{NameAt}
-use Rattle.name_order.specs.Search.{at}
-use Rattle.name_order.specs.Rows.{Held, Passed, Opened}
+use Rattle.name_slots.specs.Search.{at}
+use Rattle.name_slots.specs.Rows.{Held, Passed, Opened}
 use Rattle.name_row.specs.State.{State}
 
 -- the names found stand before what changes

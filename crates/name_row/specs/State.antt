@@ -9,7 +9,7 @@ use Rattle.rules.specs.Name.{Name}
 use Rattle.rules.specs.Free.{insert}
 use Rattle.walk.specs.Place.{NameAt}
 use Rattle.name_order.specs.Ordered.{Ordered, elem}
-use Rattle.name_order.specs.Rows.{Held, Passed}
+use Rattle.name_slots.specs.Rows.{Held, Passed}
 
 -- the binders passed are xs, the nearest first, and the names found so far are l, in order; 64 guesses follow
 pub record State (s : Bytes) (row : List ℕ) (low n : ℕ) (xs l : List Name) : Type 0 where

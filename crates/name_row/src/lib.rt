@@ -11,11 +11,11 @@ ghost use Rattle.rules.specs.Free.{insert};
 ghost use Rattle.walk.specs.Place.{NameAt};
 ghost use Rattle.name_order.specs.Ordered.{elem};
 ghost use Rattle.name_row.specs.State.{Live, Meets, Met};
-use name_order::BINDERS;
-use name_order::order::same_at;
-use name_order::slots::passed;
-use name_order::slots::put_in;
-use name_order::slots::slot_for;
+use name_order::same_at;
+use name_slots::BINDERS;
+use name_slots::passed;
+use name_slots::put_in;
+use name_slots::slot_for;
 
 // Whether an entry of the row is a name found or a binder passed.
 fn live(g: usize, low: usize, n: usize) -> bool

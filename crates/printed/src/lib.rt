@@ -9,15 +9,13 @@ ghost use Rattle.rules.specs.Calls.{reduceCall};
 ghost use Rattle.rules.specs.Program.{patchrun};
 ghost use Rattle.term_lines.specs.Starts.{Starts};
 ghost use Rattle.printed.specs.Printing.{printedFor, termAfter, scratchAfter};
+use program::steps;
 use reduction::Reduced;
 use reduction::normalize_bounded;
 use report::put_refusal;
 use rules::Answer;
 use rules::Kind;
 use term_lines::print_term;
-
-// Document 01's limit for the program.
-const STEPS: u32 = 1000;
 
 // What is printed for the bytes of a term, which stand at the start of out.
 fn print_reduced(n: usize, term: &mut [u8], scratch: &mut [u8], out: &mut [u8]) -> usize
@@ -26,7 +24,7 @@ fn print_reduced(n: usize, term: &mut [u8], scratch: &mut [u8], out: &mut [u8]) 
     ensures { λ _. ⌜ now (term .exit) ≡ reduceCall limits (take n (now (out .entry))) 1000 (now (term .entry)) (now (scratch .entry)) .output ⌝ }
     ensures { λ _. ⌜ now (scratch .exit) ≡ reduceCall limits (take n (now (out .entry))) 1000 (now (term .entry)) (now (scratch .entry)) .scratch ⌝ }
 {
-    match normalize_bounded(&out[..n], STEPS, term, scratch) {
+    match normalize_bounded(&out[..n], steps(), term, scratch) {
         Reduced::Refused { refusal, length: _ } => put_refusal(refusal, out, 0),
         Reduced::Stopped(told) => {
             let end = told.length;
@@ -62,6 +60,6 @@ pub fn printed(
     ensures { λ _. ⌜ now (scratch .exit) ≡ scratchAfter limits (now (file .entry)) (now (term .entry)) (now (scratch .entry)) ⌝ }
 {
     let end = print_file(file, term, scratch, out);
-    runs::clear(out, end);
+    program::end(out, end);
     end
 }

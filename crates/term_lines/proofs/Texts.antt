@@ -18,7 +18,7 @@ use Rattle.laws.specs.Decoding.{TermIn, term-complete}
 use Rattle.laws.specs.TextSize.{term-text-size}
 use Rattle.runs.specs.Writing.{chain}
 use Rattle.report.specs.Field.{Line}
-use Rattle.report.specs.Digits.{wrote-one}
+use Rattle.digits.specs.Digits.{wrote-one}
 use Rattle.term_lines.specs.Starts.{Starts}
 use Rattle.term_lines.proofs.Starting.{starts-wrote, starts-append, starts-again}
 

@@ -44,7 +44,7 @@ use Rattle.draft_rows.proofs.Drafted as D
 use Rattle.draft_rows.proofs.Drafted.Laws as D′
 use Rattle.entries.specs.declared.CutEntry.{CutEntry}
 use Rattle.entries.proofs.Row.{R}
-use Rattle.entries.proofs.Rules.{if-then, free-at}
+use Rattle.entries.proofs.Rules.{if-then, free-at, free-eight}
 use Rattle.entries.proofs.Lent.{KeptRow, lend-row, row-back}
 use Rattle.seeking.specs.Searching.{nameSaid, Row, Takes}
 use Rattle.planning.specs.Walk.{Starts, Ends}
@@ -501,7 +501,7 @@ module _ {M : Type 1} (𝓤 : URA M) (H : Heap 𝓤) (A : Atoms 𝓤) (W : Given
           rewrite ! 29 (λ (u : Val). ‵ (fat fullShare D′.mir l₀ 0 u)) (ap only (LL.tells D.the-type D′.the-laws (r0 .0) _ is0)) refl $
           drop ! $ split ! $ move ! (1 ∷ []) $ move ! (1 ∷ 2 ∷ 0 ∷ []) $
           returns-within ! Post-lone refl (look ! 29 refl) $
-          move ! (29 ∷ 30 ∷ 27 ∷ 28 ∷ 25 ∷ 26 ∷ 23 ∷ 24 ∷ 21 ∷ 22 ∷ 19 ∷ 20 ∷ 17 ∷ 18 ∷ 15 ∷ 16 ∷ 13 ∷ 14 ∷ 11 ∷ 12 ∷ 9 ∷ 10 ∷ 7 ∷ 8 ∷ 5 ∷ 6 ∷ 3 ∷ 4 ∷ []) $ free-at ! $ free-at ! $ free-at ! $ free-at ! $ free-at ! $ free-at ! $ free-at ! $ free-at ! $ free1 ! $ free-at ! $ free-at ! $ free-at ! $ free1 ! $ free1 ! $ free0 ! $
+          move ! (29 ∷ 30 ∷ 27 ∷ 28 ∷ 25 ∷ 26 ∷ 23 ∷ 24 ∷ 21 ∷ 22 ∷ 19 ∷ 20 ∷ 17 ∷ 18 ∷ 15 ∷ 16 ∷ 13 ∷ 14 ∷ 11 ∷ 12 ∷ 9 ∷ 10 ∷ 7 ∷ 8 ∷ 5 ∷ 6 ∷ 3 ∷ 4 ∷ []) $ free-eight ! $ free1 ! $ free-at ! $ free-at ! $ free-at ! $ free1 ! $ free1 ! $ free0 ! $
           move ! (1 ∷ 2 ∷ []) $ join ! $ move ! (1 ∷ 0 ∷ []) $ join ! $
           by ! (exits-lone (r0 .1) (r0 .0) (mach-draft (r0 .0)) (e0 .0) (draft-is (r0 .0) is0) (λ at b _. e0 .1 at ts-cs k b))))))))
           (λ h0. let two-at : g .act ≡ 2 = only-two (g .act) (req .0) (not-below (g .act) 2 h0) in
@@ -524,7 +524,7 @@ module _ {M : Type 1} (𝓤 : URA M) (H : Heap 𝓤) (A : Atoms 𝓤) (W : Given
           rewrite ! 29 (λ (u : Val). ‵ (fat fullShare D′.mir l₀ 0 u)) (ap only (LL.tells D.the-type D′.the-laws (r2 .0) _ is2)) refl $
           drop ! $ split ! $ move ! (1 ∷ []) $ move ! (1 ∷ 2 ∷ 0 ∷ []) $
           returns ! (look ! 29 refl) $
-          move ! (29 ∷ 30 ∷ 27 ∷ 28 ∷ 25 ∷ 26 ∷ 23 ∷ 24 ∷ 21 ∷ 22 ∷ 19 ∷ 20 ∷ 17 ∷ 18 ∷ 15 ∷ 16 ∷ 13 ∷ 14 ∷ 11 ∷ 12 ∷ 9 ∷ 10 ∷ 7 ∷ 8 ∷ 5 ∷ 6 ∷ 3 ∷ 4 ∷ []) $ free-at ! $ free-at ! $ free-at ! $ free-at ! $ free-at ! $ free-at ! $ free-at ! $ free-at ! $ free-at ! $ free-at ! $ free1 ! $ free1 ! $ free-at ! $ free-at ! $ free0 ! $
+          move ! (29 ∷ 30 ∷ 27 ∷ 28 ∷ 25 ∷ 26 ∷ 23 ∷ 24 ∷ 21 ∷ 22 ∷ 19 ∷ 20 ∷ 17 ∷ 18 ∷ 15 ∷ 16 ∷ 13 ∷ 14 ∷ 11 ∷ 12 ∷ 9 ∷ 10 ∷ 7 ∷ 8 ∷ 5 ∷ 6 ∷ 3 ∷ 4 ∷ []) $ free-eight ! $ free-at ! $ free-at ! $ free1 ! $ free1 ! $ free-at ! $ free-at ! $ free0 ! $
           move ! (1 ∷ 2 ∷ []) $ join ! $ move ! (1 ∷ 0 ∷ []) $ join ! $
           by ! (exits-lone (r2 .1) (r2 .0) (mach-draft (r2 .0)) (e2 .0) (draft-is (r2 .0) is2) (λ at b _. e2 .1 at ts-cs k b (e1 .0))))))))))))))))))))))))))))
 

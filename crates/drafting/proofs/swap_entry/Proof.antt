@@ -42,7 +42,7 @@ use Rattle.entries.specs.Entries.{none}
 use Rattle.entries.proofs.CutEntry as T
 use Rattle.entries.proofs.CutEntry.Laws as T′
 use Rattle.entries.proofs.Row.{R, mach}
-use Rattle.entries.proofs.Rules.{free-at}
+use Rattle.entries.proofs.Rules.{free-at, free-eight}
 use Rattle.entries.proofs.Lent.{KeptRow, KeptShared, lend-row, row-back, share-row, shared-back}
 use Rattle.entries.proofs.entry_at as entry-of
 use Rattle.entries.proofs.entry_at.Symbol as entry-def
@@ -273,7 +273,7 @@ module _ {M : Type 1} (𝓤 : URA M) (H : Heap 𝓤) (A : Atoms 𝓤) (W : Given
           drop ! $
           assigns ! (of-opd ! (load ! (from ! (stop !)) (look ! 11 refl))) (from ! (stop !)) (init ! 19 refl (LL.lawful T.the-type T′.the-laws 𝓤 H A W .typed r0 _ (entry-is r0 is0) .0)) $
           returns ! (look ! 19 refl) $
-          move ! (19 ∷ 20 ∷ 17 ∷ 18 ∷ 15 ∷ 16 ∷ 13 ∷ 14 ∷ 11 ∷ 12 ∷ 9 ∷ 10 ∷ 7 ∷ 8 ∷ 5 ∷ 6 ∷ 3 ∷ 4 ∷ 1 ∷ 2 ∷ []) $ free-at ! $ free-at ! $ free-at ! $ free-at ! $ free-at ! $ free-at ! $ free-at ! $ free-at ! $ free-at ! $ free-at ! $ free0 ! $
+          move ! (19 ∷ 20 ∷ 17 ∷ 18 ∷ 15 ∷ 16 ∷ 13 ∷ 14 ∷ 11 ∷ 12 ∷ 9 ∷ 10 ∷ 7 ∷ 8 ∷ 5 ∷ 6 ∷ 3 ∷ 4 ∷ 1 ∷ 2 ∷ []) $ free-eight ! $ free-at ! $ free-at ! $ free0 ! $
           by ! (exits-swap (r1 .1) r0 (mach r0) (e1 .0) (entry-is r0 is0) (e0, e1 .1))))))))))))))))))))))
 
 module _ {M : Type 1} (𝓤 : URA M) (H : Heap 𝓤) (A : Atoms 𝓤) (W : Given 𝓤 H A) (mem : Memory → SProp 𝓤) (run : Routine → Fun 𝓤) where

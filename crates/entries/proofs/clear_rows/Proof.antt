@@ -47,7 +47,7 @@ use Rattle.entries.specs.Entries.{zeroed}
 use Rattle.entries.proofs.CutEntry as T
 use Rattle.entries.proofs.CutEntry.Laws as T′
 use Rattle.entries.proofs.Row.{R, mach, none, times-fits}
-use Rattle.entries.proofs.Rules.{while-test, free-at}
+use Rattle.entries.proofs.Rules.{while-test, free-at, free-four}
 use Rattle.entries.proofs.Filling.{length-zeroed, zeroed-snoc}
 use Rattle.entries.proofs.clear_rows.Key.{name as #f}
 use Rattle.entries.proofs.clear_rows as f
@@ -122,7 +122,7 @@ module _ {M : Type 1} (𝓤 : URA M) (H : Heap 𝓤) (A : Atoms 𝓤) (W : Given
     leaves : (v : Val) → Sq W (At n (‵ (fat fullShare tyBool l₄ 0 v))) (runs C Λ En body.t-3 (atRet En Post))
     leaves v =
         closes-slice ! tt R ys (lst n) (length-zeroed none n ys) b o $ assigns ! (of-opd ! (unit-lit !)) (from ! (stop !)) (init ! 17 refl (tt, tt)) $
-        returns ! (look ! 17 refl) $ move ! (17 ∷ 18 ∷ 15 ∷ 16 ∷ 13 ∷ 14 ∷ 11 ∷ 12 ∷ 9 ∷ 10 ∷ 7 ∷ 8 ∷ 5 ∷ 6 ∷ 3 ∷ 4 ∷ []) $ free-at ! $ free-at ! $ free-at ! $ free-at ! $ free-at ! $ free1 ! $ free1 ! $ free1 ! $ free0 ! $ by ! exits
+        returns ! (look ! 17 refl) $ move ! (17 ∷ 18 ∷ 15 ∷ 16 ∷ 13 ∷ 14 ∷ 11 ∷ 12 ∷ 9 ∷ 10 ∷ 7 ∷ 8 ∷ 5 ∷ 6 ∷ 3 ∷ 4 ∷ []) $ free-four ! $ free-at ! $ free1 ! $ free1 ! $ free1 ! $ free0 ! $ by ! exits
 
     turn : (t : ℕ) → Sq W (Inv t) (runs C Λ En body.turn-1 (anyQ (afterTurn 𝓤 H (Below 𝓤 H A _<_ Inv t) Left)))
     unfolding afterTurn

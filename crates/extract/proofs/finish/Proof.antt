@@ -1,29 +1,33 @@
 -- `extract::finish` meets its contract: the counter is tested, then the size, and then the term is written. Assumes nothing.
+use native.Mathlib.Omega.{arith}
 use Rattle.extract.proofs.Finishing.{draft-asks, draft-writes, end-within, ends-over, ends-outgrown, ends-made}
 use borrow.Author.Needs.{needs}
 use Rattle.extract.proofs.finish.Statement.{statement}
 use Rattle.extract.proofs.finish.Tie as tie
 
+over-counter-requires : tie.Need-over-counter-requires
+over-counter-requires c κs = search needs
+
 refused-requires : tie.Need-refused-requires
 refused-requires c κs = search needs
 
 returns : tie.Need-returns
-returns c = ends-over _ _ _ _ _ _ (c .before .if1 .taken) (c .refused .ensures)
+returns c = ends-over _ _ _ _ _ _ (c .before .before .over-counter .ensures .0 (c .before .if1 .taken)) (c .refused .ensures)
 
 fits-requires : tie.Need-fits-requires
 fits-requires c κs = draft-asks _ _ _ _ _ (c .before .before .before .before .before .before .before .before .pre)
 
 put-part-requires : tie.Need-put-part-requires
-put-part-requires c κs = draft-writes _ _ _ _ _ (c .before .before .before .before .before .before .if1 .left) (c .before .before .before .before .fits2 .ensures) (c .before .if2 .taken) (c .before .before .before .before .before .before .before .before .before .before .before .before .before .pre)
+put-part-requires c κs = draft-writes _ _ _ _ _ (c .before .before .before .before .before .before .before .over-counter .ensures .1 (c .before .before .before .before .before .before .if1 .left)) (c .before .before .before .before .fits2 .ensures) (c .before .if2 .taken) (c .before .before .before .before .before .before .before .before .before .before .before .before .before .pre)
 
 clear-requires : tie.Need-clear-requires
-clear-requires c κs = end-within _ _ _ _ _ (c .before .before .before .before .before .before .before .before .before .before .if1 .left) (c .before .before .before .before .before .before .before .before .fits2 .ensures) (c .before .before .before .before .before .if2 .taken) (c .before .before .before .put-part .ensures) (c .before .before .before .before .before .before .before .before .before .before .before .before .before .before .before .before .before .pre)
+clear-requires c κs = end-within _ _ _ _ _ (c .before .before .before .before .before .before .before .before .before .before .before .over-counter .ensures .1 (c .before .before .before .before .before .before .before .before .before .before .if1 .left)) (c .before .before .before .before .before .before .before .before .fits2 .ensures) (c .before .before .before .before .before .if2 .taken) (c .before .before .before .put-part .ensures) (c .before .before .before .before .before .before .before .before .before .before .before .before .before .before .before .before .before .pre)
 
 clear-requires-2 : tie.Need-clear-requires-2
 clear-requires-2 c κs = search needs
 
 cast-t19 : tie.Need-cast-t19
-cast-t19 c = search needs
+cast-t19 c = omega (arith, c .before .before .before .before .before .before .before .before .before .before .before .before .before .before .before .before .before .before .before .over-counter .ensures .1 (c .before .before .before .before .before .before .before .before .before .before .before .before .before .before .before .before .before .before .if1 .left))
 
 same-length : tie.Need-same-length
 same-length c = search needs
@@ -35,7 +39,7 @@ same-length-3 : tie.Need-same-length-3
 same-length-3 c = search needs
 
 returns-2 : tie.Need-returns-2
-returns-2 c = ends-made _ _ _ _ _ (c .before .before .before .before .before .before .before .before .before .before .before .before .before .before .before .before .before .before .if1 .left) (c .before .before .before .before .before .before .before .before .before .before .before .before .before .before .before .before .fits2 .ensures) (c .before .before .before .before .before .before .before .before .before .before .before .before .before .if2 .taken) (c .before .before .before .before .before .before .before .before .before .before .before .put-part .ensures) _ (c .before .before .before .before .before .before .before .clear .ensures) (c .before .before .before .clear2 .ensures)
+returns-2 c = ends-made _ _ _ _ _ (c .before .before .before .before .before .before .before .before .before .before .before .before .before .before .before .before .before .before .before .over-counter .ensures .1 (c .before .before .before .before .before .before .before .before .before .before .before .before .before .before .before .before .before .before .if1 .left)) (c .before .before .before .before .before .before .before .before .before .before .before .before .before .before .before .before .fits2 .ensures) (c .before .before .before .before .before .before .before .before .before .before .before .before .before .if2 .taken) (c .before .before .before .before .before .before .before .before .before .before .before .put-part .ensures) _ (c .before .before .before .before .before .before .before .clear .ensures) (c .before .before .before .clear2 .ensures)
 
 clear-requires-3 : tie.Need-clear-requires-3
 clear-requires-3 c κs = search needs
@@ -50,12 +54,13 @@ same-length-5 : tie.Need-same-length-5
 same-length-5 c = search needs
 
 returns-3 : tie.Need-returns-3
-returns-3 c = ends-outgrown _ _ _ _ _ (c .before .before .before .before .before .before .before .before .before .before .if1 .left) (c .before .before .before .before .before .before .before .before .fits2 .ensures) _ (c .before .before .before .before .before .if2 .left) (c .refused2 .ensures) (c .before .before .before .clear3 .ensures)
+returns-3 c = ends-outgrown _ _ _ _ _ (c .before .before .before .before .before .before .before .before .before .before .before .over-counter .ensures .1 (c .before .before .before .before .before .before .before .before .before .before .if1 .left)) (c .before .before .before .before .before .before .before .before .fits2 .ensures) _ (c .before .before .before .before .before .if2 .left) (c .refused2 .ensures) (c .before .before .before .clear3 .ensures)
 
 pub finish-spec : {M : Type 1} → statement M
 finish-spec =
     tie.close
     (tie.spec
+    over-counter-requires
     refused-requires
     returns
     fits-requires

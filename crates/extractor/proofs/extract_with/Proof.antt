@@ -44,7 +44,7 @@ use Rattle.rules.specs.Calls.{extractCall}
 use Rattle.entries.specs.declared.CutEntry.{CutEntry}
 use Rattle.entries.specs.Entries.{none, zeroed, pairs}
 use Rattle.entries.proofs.Row.{R}
-use Rattle.entries.proofs.Rules.{if-then, free-at}
+use Rattle.entries.proofs.Rules.{if-then, free-at, free-four, free-eight}
 use Rattle.entries.proofs.Lent.{KeptRow, KeptShared, lend-row, row-back, share-row, shared-back}
 use Rattle.extract.specs.Whole.{Checked}
 use Rattle.ended.specs.declared.Ended.{Ended}
@@ -487,13 +487,13 @@ module _ {M : Type 1} (𝓤 : URA M) (H : Heap 𝓤) (A : Atoms 𝓤) (W : Given
           rewrite ! 38 (λ (u : Val). ‵ (fat fullShare K′.mir l₀ 0 u)) (ap only (LL.tells K.the-type K′.the-laws (r1 .0) _ is1)) refl $
           drop ! $ split ! $ move ! (1 ∷ []) $ split ! $ move ! (1 ∷ []) $ split ! $ move ! (1 ∷ []) $ move ! (3 ∷ 2 ∷ 1 ∷ 0 ∷ []) $
           returns-within ! Post-with refl (look ! 40 refl) $
-          move ! (40 ∷ 41 ∷ 38 ∷ 39 ∷ 36 ∷ 37 ∷ 34 ∷ 35 ∷ 32 ∷ 33 ∷ 30 ∷ 31 ∷ 28 ∷ 29 ∷ 26 ∷ 27 ∷ 24 ∷ 25 ∷ 22 ∷ 23 ∷ 20 ∷ 21 ∷ 18 ∷ 19 ∷ 16 ∷ 17 ∷ 14 ∷ 15 ∷ 12 ∷ 13 ∷ 10 ∷ 11 ∷ 8 ∷ 9 ∷ 6 ∷ 7 ∷ 4 ∷ 5 ∷ []) $ free-at ! $ free-at ! $ free-at ! $ free-at ! $ free-at ! $ free-at ! $ free-at ! $ free-at ! $ free-at ! $ free-at ! $ free-at ! $ free-at ! $ free-at ! $ free-at ! $ free-at ! $ free-at ! $ free-at ! $ free-at ! $ free-at ! $ free0 ! $
+          move ! (40 ∷ 41 ∷ 38 ∷ 39 ∷ 36 ∷ 37 ∷ 34 ∷ 35 ∷ 32 ∷ 33 ∷ 30 ∷ 31 ∷ 28 ∷ 29 ∷ 26 ∷ 27 ∷ 24 ∷ 25 ∷ 22 ∷ 23 ∷ 20 ∷ 21 ∷ 18 ∷ 19 ∷ 16 ∷ 17 ∷ 14 ∷ 15 ∷ 12 ∷ 13 ∷ 10 ∷ 11 ∷ 8 ∷ 9 ∷ 6 ∷ 7 ∷ 4 ∷ 5 ∷ []) $ free-eight ! $ free-eight ! $ free-at ! $ free-at ! $ free-at ! $ free0 ! $
           move ! (2 ∷ 3 ∷ []) $ join ! $ move ! (2 ∷ 0 ∷ []) $ join ! $ move ! (1 ∷ 0 ∷ []) $ join ! $
           by ! (exits-with (r1 .1 .0) (r1 .1 .1 .0) (r1 .1 .1 .1) (r1 .0) _ (e1 .0) (e1 .1 .0) (e1 .1 .1 .0) (whole-is (r1 .0) is1) (walk-gives l0-cs e0-cs e0 h0 (e1 .1 .1 .1 .0) (e1 .1 .1 .1 .1)))))))))
           (λ h0.
           assigns ! (of-opd ! (load ! (from ! (stop !)) (look ! 26 refl))) (from ! (stop !)) (init ! 40 refl (LL.lawful K.the-type K′.the-laws 𝓤 H A W .typed (r0) _ (whole-is (r0) is0) .0)) $
           returns ! (look ! 40 refl) $
-          move ! (40 ∷ 41 ∷ 38 ∷ 39 ∷ 36 ∷ 37 ∷ 34 ∷ 35 ∷ 32 ∷ 33 ∷ 30 ∷ 31 ∷ 28 ∷ 29 ∷ 26 ∷ 27 ∷ 24 ∷ 25 ∷ 22 ∷ 23 ∷ 20 ∷ 21 ∷ 18 ∷ 19 ∷ 16 ∷ 17 ∷ 14 ∷ 15 ∷ 12 ∷ 13 ∷ 10 ∷ 11 ∷ 8 ∷ 9 ∷ 6 ∷ 7 ∷ 4 ∷ 5 ∷ []) $ free-at ! $ free-at ! $ free-at ! $ free-at ! $ free-at ! $ free-at ! $ free-at ! $ free-at ! $ free-at ! $ free-at ! $ free-at ! $ free-at ! $ free-at ! $ free1 ! $ free1 ! $ free1 ! $ free1 ! $ free1 ! $ free1 ! $ free0 ! $
+          move ! (40 ∷ 41 ∷ 38 ∷ 39 ∷ 36 ∷ 37 ∷ 34 ∷ 35 ∷ 32 ∷ 33 ∷ 30 ∷ 31 ∷ 28 ∷ 29 ∷ 26 ∷ 27 ∷ 24 ∷ 25 ∷ 22 ∷ 23 ∷ 20 ∷ 21 ∷ 18 ∷ 19 ∷ 16 ∷ 17 ∷ 14 ∷ 15 ∷ 12 ∷ 13 ∷ 10 ∷ 11 ∷ 8 ∷ 9 ∷ 6 ∷ 7 ∷ 4 ∷ 5 ∷ []) $ free-eight ! $ free-four ! $ free-at ! $ free1 ! $ free1 ! $ free1 ! $ free1 ! $ free1 ! $ free1 ! $ free0 ! $
           move ! (2 ∷ 3 ∷ []) $ join ! $ move ! (2 ∷ 0 ∷ []) $ join ! $ move ! (1 ∷ 0 ∷ []) $ join ! $
           by ! (exits-with l0-cs l0-out l0-scr r0 _ e0-cs e0-out e0-scr (whole-is r0 is0) (stop-gives l0-cs e0-cs e0 h0)))))))))))))))))))))))))))
 

@@ -46,7 +46,7 @@ use Rattle.entries.specs.declared.CutEntry.{CutEntry}
 use Rattle.entries.proofs.CutEntry as T
 use Rattle.entries.proofs.CutEntry.Laws as T′
 use Rattle.entries.proofs.Row.{R, mach, none}
-use Rattle.entries.proofs.Rules.{free-at}
+use Rattle.entries.proofs.Rules.{free-at, free-four}
 use Rattle.planning.specs.Walk.{Ends, Done}
 use Rattle.drafting.proofs.draft_rule.Symbol as draft-def
 use Rattle.drafting.proofs.draft_rule.Symbol.{name as #draft}
@@ -193,7 +193,7 @@ module _ {M : Type 1} (𝓤 : URA M) (H : Heap 𝓤) (A : Atoms 𝓤) (W : Given
           move ! (1 ∷ 11 ∷ []) $ use2 W (later (‵ (froom (tyArray T′.mir 64) l₅ 0))) (local-back 𝓤 H A W R 64 l₅ (LL.vals T.the-type T′.the-laws) (LL.tells T.the-type T′.the-laws) a5 (r0 .1 .0)) $ await ! tt $
           move ! (1 ∷ 2 ∷ 3 ∷ 4 ∷ 5 ∷ 6 ∷ 7 ∷ 8 ∷ 9 ∷ 10 ∷ 0 ∷ 11 ∷ 12 ∷ 13 ∷ 14 ∷ 15 ∷ 16 ∷ 17 ∷ 18 ∷ 19 ∷ 20 ∷ 21 ∷ []) $
           returns ! (look ! 20 refl) $
-          move ! (20 ∷ 21 ∷ 18 ∷ 19 ∷ 16 ∷ 17 ∷ 14 ∷ 15 ∷ 12 ∷ 13 ∷ 10 ∷ 11 ∷ 8 ∷ 9 ∷ 6 ∷ 7 ∷ 4 ∷ 5 ∷ 2 ∷ 3 ∷ []) $ free-at ! $ free-at ! $ free-at ! $ free-at ! $ free-at ! $ free1 ! $ free-at ! $ free-at ! $ free-at ! $ free-at ! $ free0 ! $
+          move ! (20 ∷ 21 ∷ 18 ∷ 19 ∷ 16 ∷ 17 ∷ 14 ∷ 15 ∷ 12 ∷ 13 ∷ 10 ∷ 11 ∷ 8 ∷ 9 ∷ 6 ∷ 7 ∷ 4 ∷ 5 ∷ 2 ∷ 3 ∷ []) $ free-four ! $ free-at ! $ free1 ! $ free-four ! $ free0 ! $
           join ! $
           by ! (exits-own (r0 .1 .1) (r0 .0) _ (e0 .1 .0) (draft-is (r0 .0) is0) (λ p w. whole-ends row-enough (e0 .1 .1 .1) p w))))))))))))))))))
 

@@ -16,6 +16,9 @@ slice-reshare-prefix-normalize-bounded c = search needs
 slice-aggregate-normalize-bounded : tie.Need-slice-aggregate-normalize-bounded
 slice-aggregate-normalize-bounded c = sym (length-take-le _ _ (c .before .before .before .before .pre .0))
 
+steps-requires : tie.Need-steps-requires
+steps-requires c κs = search needs
+
 normalize-bounded-requires : tie.Need-normalize-bounded-requires
 normalize-bounded-requires c κs = search needs
 
@@ -29,29 +32,26 @@ enum-known-told : tie.Need-enum-known-told
 enum-known-told c = search needs
 
 slice-reshare-prefix-print-term : tie.Need-slice-reshare-prefix-print-term
-slice-reshare-prefix-print-term c =
-    let s = c .before .before .before .before .before .before .before .before .before .before .before .before .before .before in
-    let a = s .args in
+slice-reshare-prefix-print-term c = let a = c .before .before .before .before .before .before .before .before .before .before .before .before .before .before .before .args in
     let k = c .before .before .before .before .before .before .before .normalize-bounded in
+    let h = rw (c .before .before .before .before .before .before .before .before .before .before .steps .ensures) at (k .ensures) in
     let e = c .before .told .given in
-    told (take (a .n) (now (a .out))) (now (a .term)) (now (a .scratch)) (s .pre .1) (s .pre .2) (k .ensures .0) (e .0 .0) (e .1) (k .last .1 .1 .0) (k .ensures .1 .0) .1 .inside
+    told (take (a .n) (now (a .out))) (now (a .term)) (now (a .scratch)) (c .before .before .before .before .before .before .before .before .before .before .before .before .before .before .before .pre .1) (c .before .before .before .before .before .before .before .before .before .before .before .before .before .before .before .pre .2) (h .0) (e .0 .0) (e .1) (k .last .1 .1 .0) (h .1 .0) .1 .inside
 
 slice-aggregate-print-term : tie.Need-slice-aggregate-print-term
-slice-aggregate-print-term c =
-    let s = c .before .before .before .before .before .before .before .before .before .before .before .before .before .before .before in
-    let a = s .args in
+slice-aggregate-print-term c = let a = c .before .before .before .before .before .before .before .before .before .before .before .before .before .before .before .before .args in
     let k = c .before .before .before .before .before .before .before .before .normalize-bounded in
+    let h = rw (c .before .before .before .before .before .before .before .before .before .before .before .steps .ensures) at (k .ensures) in
     let e = c .before .before .told .given in
-    sym (length-take-le _ _ (told (take (a .n) (now (a .out))) (now (a .term)) (now (a .scratch)) (s .pre .1) (s .pre .2) (k .ensures .0) (e .0 .0) (e .1) (k .last .1 .1 .0) (k .ensures .1 .0) .1 .inside))
+    sym (length-take-le _ _ (told (take (a .n) (now (a .out))) (now (a .term)) (now (a .scratch)) (c .before .before .before .before .before .before .before .before .before .before .before .before .before .before .before .before .pre .1) (c .before .before .before .before .before .before .before .before .before .before .before .before .before .before .before .before .pre .2) (h .0) (e .0 .0) (e .1) (k .last .1 .1 .0) (h .1 .0) .1 .inside))
 
 print-term-requires : tie.Need-print-term-requires
-print-term-requires c κs =
-    let s = c .before .before .before .before .before .before .before .before .before .before .before .before .before .before .before .before in
-    let a = s .args in
+print-term-requires c κs = let a = c .before .before .before .before .before .before .before .before .before .before .before .before .before .before .before .before .before .args in
     let k = c .before .before .before .before .before .before .before .before .before .normalize-bounded in
+    let h = rw (c .before .before .before .before .before .before .before .before .before .before .before .before .steps .ensures) at (k .ensures) in
     let e = c .before .before .before .told .given in
-    let w = told (take (a .n) (now (a .out))) (now (a .term)) (now (a .scratch)) (s .pre .1) (s .pre .2) (k .ensures .0) (e .0 .0) (e .1) (k .last .1 .1 .0) (k .ensures .1 .0) in
-    ((w .0, w .1 .reads), s .pre .3)
+    let w = told (take (a .n) (now (a .out))) (now (a .term)) (now (a .scratch)) (c .before .before .before .before .before .before .before .before .before .before .before .before .before .before .before .before .before .pre .1) (c .before .before .before .before .before .before .before .before .before .before .before .before .before .before .before .before .before .pre .2) (h .0) (e .0 .0) (e .1) (k .last .1 .1 .0) (h .1 .0) in
+    ((w .0, w .1 .reads), c .before .before .before .before .before .before .before .before .before .before .before .before .before .before .before .before .before .pre .3)
 
 same-length : tie.Need-same-length
 same-length c = search needs
@@ -63,12 +63,11 @@ same-length-3 : tie.Need-same-length-3
 same-length-3 c = search needs
 
 returns : tie.Need-returns
-returns c =
-    let s = c .before .before .before .before .before .before .before .before .before .before .before .before .before .before .before .before .before .before in
-    let a = s .args in
+returns c = let a = c .before .before .before .before .before .before .before .before .before .before .before .before .before .before .before .before .before .before .before .args in
     let k = c .before .before .before .before .before .before .before .before .before .before .before .normalize-bounded in
+    let h = rw (c .before .before .before .before .before .before .before .before .before .before .before .before .before .before .steps .ensures) at (k .ensures) in
     let e = c .before .before .before .before .before .refusal .given in
-    (starts-as (refused-told (take (a .n) (now (a .out))) (now (a .term)) (now (a .scratch)) (s .pre .1) (s .pre .2) (k .ensures .0) _ _ (e .1)) (starts-line (c .before .before .put-refusal .ensures) (omega (arith, s .pre .3))), k .ensures .1)
+    (starts-as (refused-told (take (a .n) (now (a .out))) (now (a .term)) (now (a .scratch)) (c .before .before .before .before .before .before .before .before .before .before .before .before .before .before .before .before .before .before .before .pre .1) (c .before .before .before .before .before .before .before .before .before .before .before .before .before .before .before .before .before .before .before .pre .2) (h .0) _ _ (e .1)) (starts-line (c .before .before .put-refusal .ensures) (omega (arith, c .before .before .before .before .before .before .before .before .before .before .before .before .before .before .before .before .before .before .before .pre .3))), h .1)
 
 same-length-4 : tie.Need-same-length-4
 same-length-4 c = search needs
@@ -80,13 +79,12 @@ same-length-6 : tie.Need-same-length-6
 same-length-6 c = search needs
 
 returns-2 : tie.Need-returns-2
-returns-2 c =
-    let s = c .before .before .before .before .before .before .before .before .before .before .before .before .before .before .before .before .before .before .before in
-    let a = s .args in
+returns-2 c = let a = c .before .before .before .before .before .before .before .before .before .before .before .before .before .before .before .before .before .before .before .before .args in
     let k = c .before .before .before .before .before .before .before .before .before .before .before .before .normalize-bounded in
+    let h = rw (c .before .before .before .before .before .before .before .before .before .before .before .before .before .before .before .steps .ensures) at (k .ensures) in
     let e = c .before .before .before .before .before .before .told .given in
-    let w = told (take (a .n) (now (a .out))) (now (a .term)) (now (a .scratch)) (s .pre .1) (s .pre .2) (k .ensures .0) (e .0 .0) (e .1) (k .last .1 .1 .0) (k .ensures .1 .0) in
-    (starts-as (w .1 .prints) (c .before .before .print-term .ensures (w .0) (w .1 .reads)), k .ensures .1)
+    let w = told (take (a .n) (now (a .out))) (now (a .term)) (now (a .scratch)) (c .before .before .before .before .before .before .before .before .before .before .before .before .before .before .before .before .before .before .before .before .pre .1) (c .before .before .before .before .before .before .before .before .before .before .before .before .before .before .before .before .before .before .before .before .pre .2) (h .0) (e .0 .0) (e .1) (k .last .1 .1 .0) (h .1 .0) in
+    (starts-as (w .1 .prints) (c .before .before .print-term .ensures (w .0) (w .1 .reads)), h .1)
 
 pub print-reduced-spec : {M : Type 1} → statement M
 print-reduced-spec =
@@ -94,6 +92,7 @@ print-reduced-spec =
     (tie.spec
     slice-reshare-prefix-normalize-bounded
     slice-aggregate-normalize-bounded
+    steps-requires
     normalize-bounded-requires
     enum-known-refusal
     put-refusal-requires

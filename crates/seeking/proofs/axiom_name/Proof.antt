@@ -47,7 +47,7 @@ use Rattle.entries.specs.declared.CutEntry.{CutEntry}
 use Rattle.entries.proofs.CutEntry as T
 use Rattle.entries.proofs.CutEntry.Laws as T′
 use Rattle.entries.proofs.Row.{R, mach}
-use Rattle.entries.proofs.Rules.{while-test, free-at}
+use Rattle.entries.proofs.Rules.{while-test, free-at, free-four}
 use Rattle.entries.proofs.entry_at as entry-of
 use Rattle.entries.proofs.entry_at.Symbol as entry-def
 use Rattle.entries.proofs.entry_at.Symbol.{name as #entry}
@@ -419,7 +419,7 @@ module _ {M : Type 1} (𝓤 : URA M) (H : Heap 𝓤) (A : Atoms 𝓤) (W : Given
         leaves : (x : Turn) (v : Val) → x .0 .left ≡ 0 → Sq W (At (x .0) (‵ (fat fullShare tyBool l₇ 0 v))) (runs C Λ En body.t-3 (atRet En Post-name))
         leaves x v z =
             assigns ! (of-opd ! (load ! (from ! (stop !)) (look ! 8 refl))) (from ! (stop !)) (init ! 18 refl (LL.lawful S.the-type S′.the-laws 𝓤 H A W .typed (x .0) _ (x .1) .0)) $
-            returns ! (look ! 18 refl) $ move ! (18 ∷ 19 ∷ 16 ∷ 17 ∷ 14 ∷ 15 ∷ 12 ∷ 13 ∷ 10 ∷ 11 ∷ 8 ∷ 9 ∷ 6 ∷ 7 ∷ 4 ∷ 5 ∷ 2 ∷ 3 ∷ []) $ free-at ! $ free-at ! $ free-at ! $ free-at ! $ free-at ! $ free-at ! $ free1 ! $ free-at ! $ free1 ! $ free0 ! $
+            returns ! (look ! 18 refl) $ move ! (18 ∷ 19 ∷ 16 ∷ 17 ∷ 14 ∷ 15 ∷ 12 ∷ 13 ∷ 10 ∷ 11 ∷ 8 ∷ 9 ∷ 6 ∷ 7 ∷ 4 ∷ 5 ∷ 2 ∷ 3 ∷ []) $ free-four ! $ free-at ! $ free-at ! $ free1 ! $ free-at ! $ free1 ! $ free0 ! $
             join ! $ by ! (exits-name (x .0) (mach-search (x .0)) (x .1) (x .2 .over z, x .2 .small))
 
         turn : (x : Turn) → Sq W (Inv x) (runs C Λ En body.turn-1 (anyQ (afterTurn 𝓤 H (Below 𝓤 H A Less Inv x) Left)))

@@ -44,7 +44,7 @@ use Rattle.entries.specs.declared.CutEntry.{CutEntry}
 use Rattle.entries.proofs.CutEntry as T
 use Rattle.entries.proofs.CutEntry.Laws as T′
 use Rattle.entries.proofs.Row.{R, mach}
-use Rattle.entries.proofs.Rules.{free-at}
+use Rattle.entries.proofs.Rules.{free-at, free-eight}
 use Rattle.planning.specs.Walk.{Starts, Ends}
 use Rattle.planning.specs.Planning.{Began}
 use Rattle.planning.specs.declared.plan.Plan.{Plan}
@@ -185,6 +185,6 @@ module _ {M : Type 1} (𝓤 : URA M) (H : Heap 𝓤) (A : Atoms 𝓤) (W : Given
           rewrite ! 35 (λ (u : Val). ‵ (fat fullShare D′.mir l₀ 0 u)) (ap only (LL.tells D.the-type D′.the-laws (r2 .0) _ is2)) refl $
           drop ! $ split ! $ move ! (1 ∷ []) $ move ! (1 ∷ 2 ∷ 0 ∷ []) $
           returns ! (look ! 35 refl) $
-          move ! (35 ∷ 36 ∷ 33 ∷ 34 ∷ 31 ∷ 32 ∷ 29 ∷ 30 ∷ 27 ∷ 28 ∷ 25 ∷ 26 ∷ 23 ∷ 24 ∷ 21 ∷ 22 ∷ 19 ∷ 20 ∷ 17 ∷ 18 ∷ 15 ∷ 16 ∷ 13 ∷ 14 ∷ 11 ∷ 12 ∷ 9 ∷ 10 ∷ 7 ∷ 8 ∷ 5 ∷ 6 ∷ 3 ∷ 4 ∷ []) $ free-at ! $ free-at ! $ free-at ! $ free-at ! $ free-at ! $ free-at ! $ free-at ! $ free-at ! $ free-at ! $ free-at ! $ free-at ! $ free-at ! $ free-at ! $ free-at ! $ free-at ! $ free-at ! $ free-at ! $ free0 ! $
+          move ! (35 ∷ 36 ∷ 33 ∷ 34 ∷ 31 ∷ 32 ∷ 29 ∷ 30 ∷ 27 ∷ 28 ∷ 25 ∷ 26 ∷ 23 ∷ 24 ∷ 21 ∷ 22 ∷ 19 ∷ 20 ∷ 17 ∷ 18 ∷ 15 ∷ 16 ∷ 13 ∷ 14 ∷ 11 ∷ 12 ∷ 9 ∷ 10 ∷ 7 ∷ 8 ∷ 5 ∷ 6 ∷ 3 ∷ 4 ∷ []) $ free-eight ! $ free-eight ! $ free-at ! $ free0 ! $
           move ! (1 ∷ 2 ∷ []) $ join ! $ move ! (1 ∷ 0 ∷ []) $ join ! $
           by ! (exits-consumer l0-cs (r2 .1) (r2 .0) (mach-draft (r2 .0)) e0-cs (e2 .0) (draft-is (r2 .0) is2) (refl, λ plan xs used c b. cut-done b c (subst (λ (e : CutEntry). Ends (ρ .ts-s) (d .next) (set l0-cs k e) (k + 1) l0-ws (r1 .1 .1) (d .used) (d .counter) (r1 .0)) e0 (e1 .1 .1 .1)) (e2 .1))))))))))))))))))))))))))))))))))

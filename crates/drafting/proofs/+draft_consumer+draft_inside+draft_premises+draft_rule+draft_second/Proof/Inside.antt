@@ -39,7 +39,7 @@ use Rattle.entries.specs.Entries.{none}
 use Rattle.entries.proofs.CutEntry as T
 use Rattle.entries.proofs.CutEntry.Laws as T′
 use Rattle.entries.proofs.Row.{R, mach}
-use Rattle.entries.proofs.Rules.{free-at}
+use Rattle.entries.proofs.Rules.{free-at, free-eight}
 use Rattle.entries.proofs.put_entry.Symbol.{name as #put}
 use Rattle.planning.specs.Walk.{Starts, Ends}
 use Rattle.planning.proofs.Pushing.{restored}
@@ -176,6 +176,6 @@ module _ {M : Type 1} (𝓤 : URA M) (H : Heap 𝓤) (A : Atoms 𝓤) (W : Given
           drop ! $ move ! (1 ∷ 0 ∷ 2 ∷ []) $ rewrite ! 1 (λ (l : List CutEntry). (P-cs ρ) l) (e2 .1 ∙ ap (λ (z : CutEntry). set (set l0-cs k e) k z) (e0 .1 .0) ∙ restored l0-cs k e (req .0)) refl $
           assigns ! (of-opd ! (load ! (from ! (stop !)) (look ! 23 refl))) (from ! (stop !)) (init ! 39 refl (LL.lawful D.the-type D′.the-laws 𝓤 H A W .typed (r1 .0) _ (draft-is (r1 .0) is1) .0)) $
           returns ! (look ! 39 refl) $
-          move ! (39 ∷ 40 ∷ 37 ∷ 38 ∷ 35 ∷ 36 ∷ 33 ∷ 34 ∷ 31 ∷ 32 ∷ 29 ∷ 30 ∷ 27 ∷ 28 ∷ 25 ∷ 26 ∷ 23 ∷ 24 ∷ 21 ∷ 22 ∷ 19 ∷ 20 ∷ 17 ∷ 18 ∷ 15 ∷ 16 ∷ 13 ∷ 14 ∷ 11 ∷ 12 ∷ 9 ∷ 10 ∷ 7 ∷ 8 ∷ 5 ∷ 6 ∷ 3 ∷ 4 ∷ []) $ free-at ! $ free-at ! $ free-at ! $ free-at ! $ free-at ! $ free-at ! $ free-at ! $ free-at ! $ free-at ! $ free-at ! $ free-at ! $ free-at ! $ free-at ! $ free-at ! $ free-at ! $ free-at ! $ free-at ! $ free-at ! $ free-at ! $ free0 ! $
+          move ! (39 ∷ 40 ∷ 37 ∷ 38 ∷ 35 ∷ 36 ∷ 33 ∷ 34 ∷ 31 ∷ 32 ∷ 29 ∷ 30 ∷ 27 ∷ 28 ∷ 25 ∷ 26 ∷ 23 ∷ 24 ∷ 21 ∷ 22 ∷ 19 ∷ 20 ∷ 17 ∷ 18 ∷ 15 ∷ 16 ∷ 13 ∷ 14 ∷ 11 ∷ 12 ∷ 9 ∷ 10 ∷ 7 ∷ 8 ∷ 5 ∷ 6 ∷ 3 ∷ 4 ∷ []) $ free-eight ! $ free-eight ! $ free-at ! $ free-at ! $ free-at ! $ free0 ! $
           move ! (1 ∷ 2 ∷ []) $ join ! $ move ! (1 ∷ 0 ∷ []) $ join ! $
           by ! (exits-inside l0-cs (r1 .1 .1) (r1 .0) (mach-draft (r1 .0)) e0-cs (e1 .1 .0) (draft-is (r1 .0) is1) (refl, e1 .1 .1 .1))))))))))))))))))))))))))))))))))))

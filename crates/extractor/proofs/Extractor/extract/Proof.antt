@@ -54,7 +54,7 @@ use Rattle.extractor.proofs.Extractor.Laws as X′
 use Rattle.ended.proofs.Ended as K
 use Rattle.ended.proofs.Ended.Laws as K′
 use Rattle.entries.proofs.Row.{R}
-use Rattle.entries.proofs.Rules.{free-at}
+use Rattle.entries.proofs.Rules.{free-at, free-four, free-eight}
 use Rattle.entries.proofs.Lent.{KeptRow, lend-row, row-back}
 use Rattle.extractor.proofs.extract_with as over
 use Rattle.extractor.proofs.extract_with.Symbol as over-def
@@ -414,7 +414,7 @@ module _ {M : Type 1} (𝓤 : URA M) (H : Heap 𝓤) (A : Atoms 𝓤) (W : Given
           move ! (1 ∷ []) $ drop ! $ owned ! X.the-row (Is X.the-row) ((LL.makes X.the-type X′.the-plain) 𝓤 H A) (ex-at (r0 .0 .counter)) _ (made (r0 .0 .counter) (counter-fits (r0 .0) is0)) $
           move ! (1 ∷ 0 ∷ []) $ closes ! tt X.the-row (ex-at (r0 .0 .counter)) (mach (r0 .0 .counter) ∷ []) b-ex o-ex $ feqI ! (List Val) (v-ex ∷ []) (v-ex ∷ []) refl $ fjoin3 ! $ join ! $
           returns ! (look ! 31 refl) $
-          move ! (31 ∷ 32 ∷ 29 ∷ 30 ∷ 27 ∷ 28 ∷ 25 ∷ 26 ∷ 23 ∷ 24 ∷ 21 ∷ 22 ∷ 19 ∷ 20 ∷ 17 ∷ 18 ∷ 15 ∷ 16 ∷ 13 ∷ 14 ∷ 11 ∷ 12 ∷ 9 ∷ 10 ∷ 7 ∷ 8 ∷ 5 ∷ 6 ∷ []) $ free-at ! $ free-at ! $ free-at ! $ free-at ! $ free-at ! $ free-at ! $ free-at ! $ free-at ! $ free-at ! $ free-at ! $ free-at ! $ free-at ! $ free-at ! $ free-at ! $ free0 ! $
+          move ! (31 ∷ 32 ∷ 29 ∷ 30 ∷ 27 ∷ 28 ∷ 25 ∷ 26 ∷ 23 ∷ 24 ∷ 21 ∷ 22 ∷ 19 ∷ 20 ∷ 17 ∷ 18 ∷ 15 ∷ 16 ∷ 13 ∷ 14 ∷ 11 ∷ 12 ∷ 9 ∷ 10 ∷ 7 ∷ 8 ∷ 5 ∷ 6 ∷ []) $ free-eight ! $ free-four ! $ free-at ! $ free-at ! $ free0 ! $
           move ! (3 ∷ 4 ∷ []) $ join ! $ move ! (3 ∷ 0 ∷ []) $ join ! $ move ! (2 ∷ 0 ∷ []) $ join ! $ move ! (1 ∷ 0 ∷ []) $ join ! $
           by ! (exits-ex (ex-at (r0 .0 .counter)) (r0 .1 .0) (r0 .1 .1 .0) (r0 .1 .1 .1) (r0 .0 .answer) _ (e0 .0) (e0 .1 .0) (e0 .1 .1 .0) (LL.owed K.the-type K′.the-laws (r0 .0) _ is0 .0) (e0 .1 .1 .1)))))))))))))))))))))))
 
