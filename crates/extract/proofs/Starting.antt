@@ -31,6 +31,10 @@ module _ {s out : Bytes} {most : ℕ} {p : Proof} (w : Checked s out most p) {n 
         few = omega (arith, w .holds .few-rules, low);
       }
 
+  -- over a row of entries for more rules
+  pub whole-wide : {ws : List ℕ} {more : ℕ} → n ≤ 100000000 → length ws ≡ most * 5 → most ≤ more → Whole s more ws n p
+  whole-wide {ws} low e h = let x = whole {ws = ws} low e in record { proof = x .proof; many = omega (arith, x .many, h); room = x .room; few = x .few }
+
   pub whole-draft : {ws ws′ : List ℕ} {d : Drafted} {zs : List ℕ} → length zs ≡ (most + 2) * 2 → Done s 0 ws ws′ 0 n p [] d → Finishes s ws′ d zs out (extract terms p [] n)
   whole-draft l x =
       record {
@@ -54,6 +58,9 @@ module _ {s out : Bytes} {most : ℕ} {p : Proof} (w : Checked s out most p) {n 
 -- a proof of no more rules than were counted
 pub checked-few : {s out : Bytes} {m : ℕ} {p : Proof} → Checked s out m p → m ≤ 64 → Checked s out 64 p
 checked-few w h = record { holds = w .holds; few = omega (arith, w .few, h); room = w .room }
+
+pub checked-some : {s out : Bytes} {m : ℕ} {p : Proof} → Checked s out m p → m ≤ 192 → Checked s out 192 p
+checked-some w h = record { holds = w .holds; few = omega (arith, w .few, h); room = w .room }
 
 pub checked-many : {s out : Bytes} {m : ℕ} {p : Proof} → Checked s out m p → Checked s out 512 p
 checked-many w = record { holds = w .holds; few = w .holds .few-rules; room = w .room }

@@ -81,6 +81,18 @@ fn extract_few(start: usize, proof: &[u8], out: &mut [u8], scratch: &mut [u8]) -
     finish(proof, &rows, draft, &mut sizes, out, scratch)
 }
 
+// The same of a proof of some more rules; only the row of entries is that of the most.
+fn extract_some(start: usize, proof: &[u8], out: &mut [u8], scratch: &mut [u8]) -> Extraction
+    requires { ⌜ ((p : Proof) × Checked (now proof) (now out) 192 p × (start ≤ 100000000)) ⌝ }
+    ensures { λ r. ⌜ ((p : Proof) → Checked (now (proof .entry)) (now (out .entry)) 192 p
+        → Finished (extractOf terms p [] start) (now (out .entry)) (now (scratch .entry)) r (now (out .exit)) (now (scratch .exit))) ⌝ }
+{
+    let mut rows = [0usize; 960];
+    let draft = draft_many(proof, &mut rows, start);
+    let mut sizes = [0usize; 388];
+    finish(proof, &rows, draft, &mut sizes, out, scratch)
+}
+
 // The same of a proof of up to the most rules.
 fn extract_many(start: usize, proof: &[u8], out: &mut [u8], scratch: &mut [u8]) -> Extraction
     requires { ⌜ ((p : Proof) × Checked (now proof) (now out) 512 p × (start ≤ 100000000)) ⌝ }
@@ -109,8 +121,11 @@ fn extract_read(
     if MOST_COUNTER < start {
         return refused(9);
     }
-    if 64 < rules {
+    if 192 < rules {
         return extract_many(start, proof, out, scratch);
+    }
+    if 64 < rules {
+        return extract_some(start, proof, out, scratch);
     }
     extract_few(start, proof, out, scratch)
 }

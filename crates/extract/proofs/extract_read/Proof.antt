@@ -1,5 +1,5 @@
 -- `extract::extract_read` meets its contract: by whether the counter is over the most already, and by how many rules there are. Assumes nothing.
-use Rattle.extract.proofs.Starting.{over-counter, checked-few, checked-many}
+use Rattle.extract.proofs.Starting.{over-counter, checked-few, checked-some, checked-many}
 use borrow.Author.Needs.{needs}
 use Rattle.extract.proofs.extract_read.Statement.{statement}
 use Rattle.extract.proofs.extract_read.Tie as tie
@@ -22,8 +22,8 @@ same-length-2 c = search needs
 returns-2 : tie.Need-returns-2
 returns-2 c = λ p w. c .before .before .before .before .extract-many .ensures p (checked-many w)
 
-extract-few-requires : tie.Need-extract-few-requires
-extract-few-requires c κs = (c .before .before .before .before .before .before .before .pre .0, checked-few (c .before .before .before .before .before .before .before .pre .1) (c .before .before .if2 .left), c .before .before .before .if1 .left)
+extract-some-requires : tie.Need-extract-some-requires
+extract-some-requires c κs = (c .before .before .before .before .before .before .before .before .pre .0, checked-some (c .before .before .before .before .before .before .before .before .pre .1) (c .before .before .before .if2 .left), c .before .before .before .before .if1 .left)
 
 same-length-3 : tie.Need-same-length-3
 same-length-3 c = search needs
@@ -32,7 +32,19 @@ same-length-4 : tie.Need-same-length-4
 same-length-4 c = search needs
 
 returns-3 : tie.Need-returns-3
-returns-3 c = λ p w. c .before .before .before .before .extract-few .ensures p (checked-few w (c .before .before .before .before .before .before .before .if2 .left))
+returns-3 c = λ p w. c .before .before .before .before .extract-some .ensures p (checked-some w (c .before .before .before .before .before .before .before .before .if2 .left))
+
+extract-few-requires : tie.Need-extract-few-requires
+extract-few-requires c κs = (c .before .before .before .before .before .before .before .before .pre .0, checked-few (c .before .before .before .before .before .before .before .before .pre .1) (c .before .before .if3 .left), c .before .before .before .before .if1 .left)
+
+same-length-5 : tie.Need-same-length-5
+same-length-5 c = search needs
+
+same-length-6 : tie.Need-same-length-6
+same-length-6 c = search needs
+
+returns-4 : tie.Need-returns-4
+returns-4 c = λ p w. c .before .before .before .before .extract-few .ensures p (checked-few w (c .before .before .before .before .before .before .before .if3 .left))
 
 pub extract-read-spec : {M : Type 1} → statement M
 extract-read-spec =
@@ -44,7 +56,11 @@ extract-read-spec =
     same-length
     same-length-2
     returns-2
-    extract-few-requires
+    extract-some-requires
     same-length-3
     same-length-4
-    returns-3)
+    returns-3
+    extract-few-requires
+    same-length-5
+    same-length-6
+    returns-4)
