@@ -105,8 +105,11 @@ module _ (f : Form) (s : Bytes) (at n p met known names : ℕ) (w : Gone (layout
   pub few-parts : code / 8 ≤ 3
   few-parts = known-head .few
 
+  pub tag-small : getD s p 0 < 18
+  tag-small = omega (arith, head-in (layoutOf f .heads) (getD s p 0) (known-head .is), few-heads f)
+
   tag-low : follows (getD s p 0) ≡ false
-  tag-low = low (getD s p 0) (omega (arith, head-in (layoutOf f .heads) (getD s p 0) (known-head .is), few-heads f))
+  tag-low = low (getD s p 0) (omega (arith, tag-small))
 
   module _ (longest : ℕ) (long : longest ≡ layoutOf f .longest) (k : ℕ) (ek : k ≡ code / 2 % 4) (parts : ℕ) (ep : parts ≡ code / 8) (q : ℕ) (t : NamesTo s longest (p + 1) k q) where
     counted : lettersFrom s at (q - at) ≡ lettersFrom s at (p - at) + lettersFrom s (p + 1) (q - (p + 1))

@@ -26,10 +26,16 @@ pub record NameTo (s : Bytes) (longest at r : ℕ) : Type 0 where
   pub most : getD s at 0 ≤ longest
   pub lead : leads (getD s (at + 1) 0) ≡ true
 
+-- the place after k names from `at` on, by their lengths
+unfoldable pub jumped : Bytes → (at k : ℕ) → ℕ
+jumped s at zero = at
+jumped s at (suc k) = jumped s (at + 1 + getD s at 0) k
+
 -- k names from `at` on end at r, if what stands in them is letters: all of their bytes but the k lengths
 pub record NamesTo (s : Bytes) (longest at k r : ℕ) : Type 0 where
   pub past : at + k ≤ r
   pub near : r ≤ at + 25 * k
+  pub jumps : r ≡ jumped s at k
   pub few : lettersFrom s at (r - at) ≤ r - at - k
   pub reads : (u : ℕ) → r ≤ length s → lettersFrom s at (r - at) ≡ r - at - k → view (times (name longest) k u at (drop at s)) ≡ Whole r u
 

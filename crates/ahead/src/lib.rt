@@ -21,13 +21,13 @@ use nodes::bad;
 use nodes::room_for;
 
 mod count;
-mod going;
+pub mod going;
 
 // The most bytes that are gone over at once.
 const MOST_AHEAD: usize = 65536;
 
 // Whether all that was taken for letters is letters, within the bytes and the nodes that there may be.
-fn holds(s: &[u8], at: usize, gone: Ahead, room: usize) -> bool
+pub fn holds(s: &[u8], at: usize, gone: Ahead, room: usize) -> bool
     requires { ⌜ at + (gone .met + gone .names) ≤ gone .next ⌝ }
     ensures { λ r. ⌜ (r ≡ true → (gone .next ≤ length (now (s .entry))) × (gone .met ≤ room) × (lettersFrom (now (s .entry)) at (gone .next - at) ≡ gone .next - at - (gone .met + gone .names))) ⌝ }
 {
