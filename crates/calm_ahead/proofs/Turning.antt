@@ -20,7 +20,7 @@ use Rattle.search.proofs.Firsts.{wants-nothing}
 use Rattle.ahead.specs.Count.{jumped, NamesTo}
 use Rattle.sweep.specs.Swept.{Swept}
 use Rattle.sweep.proofs.Sweeping.{some-here, turned, forgotten}
-use Rattle.calm_ahead.specs.After.{CalmAt}
+use Rattle.calm_ahead.specs.After.{wanting, CalmAt}
 
 -- where names end by their lengths, they end
 jump-after : (s : Bytes) (k at : ℕ) → AfterIs s at k (jumped s at k)
@@ -60,6 +60,26 @@ one-name (two k a b) v h = absurd (omega arith)
 one-name (both k x y e b) v h = absurd (omega arith)
 one-name (branch x y e l r) v h = absurd (omega arith)
 
+-- and so does one that is never a redex
+never-one : (u v : Term) → wanting (tag u) ≡ 0 → reduces (tag u) (tag v) ≡ false
+never-one (var x) v h = sym (wants-nothing v)
+never-one (leaf unit) v h = sym (wants-nothing v)
+never-one (leaf trivial) v h = sym (wants-nothing v)
+never-one (one inl e) v h = sym (wants-nothing v)
+never-one (one inr e) v h = sym (wants-nothing v)
+never-one (one abort e) v h = sym (wants-nothing v)
+never-one (one promote e) v h = sym (wants-nothing v)
+never-one (one fst e) v h = absurd (omega arith)
+never-one (one snd e) v h = absurd (omega arith)
+never-one (one derelict e) v h = absurd (omega arith)
+never-one (two pair a b) v h = sym (wants-nothing v)
+never-one (two app a b) v h = absurd (omega arith)
+never-one (two discard a b) v h = absurd (omega arith)
+never-one (abs x e) v h = sym (wants-nothing v)
+never-one (both letPair x y e b) v h = absurd (omega arith)
+never-one (both copy x y e b) v h = absurd (omega arith)
+never-one (branch x y e l r) v h = absurd (omega arith)
+
 module _ (s : Bytes) (i : ℕ) (w : Swept s i 0) (h : i < length s) (code : ℕ) (is : code ≡ codeAt terms (headAt (terms .heads) (getD s i 0))) (longest j : ℕ)
     (n : NamesTo s longest (i + 1) (code / 2 % 4) j) (c : CalmAt s (getD s i 0) (code / 2 % 4) j) where
   pub calm-more : Swept s j 0
@@ -70,9 +90,10 @@ module _ (s : Bytes) (i : ℕ) (w : Swept s i 0) (h : i < length s) (code : ℕ)
       let q : code / 2 % 4 ≡ namesAfter (getD s i 0) =
       ap (λ (z : ℕ). z / 2 % 4) (is ∙ ap (λ (z : ℕ). codeAt terms (headAt (terms .heads) z)) k) ∙ code-names u ∙ ap (λ (z : ℕ). namesAfter z) (sym k) in
       let l = turned s i 0 h w (code / 2 % 4) j q (rw (n .jumps) (jump-after s (code / 2 % 4) (i + 1))) (ap (λ (z : ℕ). reduces 0 z) k ∙ sym (wants-nothing u)) t e in
-      forgotten s j (getD s i 0) t l (λ v b. after u (a .1) k q v b (eqb (code / 2 % 4) 1) refl)
+      forgotten s j (getD s i 0) t l (λ v b. after u (a .1) k q v b (eqb (code / 2 % 4) 1) refl (eqb (wanting (getD s i 0)) 0) refl)
     where
       after : (u : Term) → TermAt s i u → getD s i 0 ≡ tag u → code / 2 % 4 ≡ namesAfter (getD s i 0) → (v : Term) → TermAt s j v → (b : Bool) → eqb (code / 2 % 4) 1 ≡ b
-          → reduces (getD s i 0) (tag v) ≡ false
-      after u a k q v b true f = ap (λ (z : ℕ). reduces z (tag v)) k ∙ one-name u v (sym (at-count-names s i u a) ∙ sym q ∙ eqb-true _ _ f)
-      after u a k q v b false f = ap (λ (z : ℕ). reduces (getD s i 0) z) (sym (at-tag s j v b)) ∙ c (eqb-false _ _ f)
+          → (d : Bool) → eqb (wanting (getD s i 0)) 0 ≡ d → reduces (getD s i 0) (tag v) ≡ false
+      after u a k q v b true f d g = ap (λ (z : ℕ). reduces z (tag v)) k ∙ one-name u v (sym (at-count-names s i u a) ∙ sym q ∙ eqb-true _ _ f)
+      after u a k q v b false f true g = ap (λ (z : ℕ). reduces z (tag v)) k ∙ never-one u v (ap (λ (z : ℕ). wanting z) (sym k) ∙ eqb-true _ _ g)
+      after u a k q v b false f false g = ap (λ (z : ℕ). reduces (getD s i 0) z) (sym (at-tag s j v b)) ∙ c (eqb-false _ _ f) (eqb-false _ _ g)
