@@ -19,8 +19,9 @@ use Rattle.letters.specs.View.{view, skipped}
 use Rattle.letters.proofs.Coded.{few, Coded, coded}
 use Rattle.nodes.proofs.Rest.{Rest, rest-is, rest-same}
 use Rattle.nodes.proofs.Turn.{turn-on}
-use Rattle.ahead.specs.Count.{one, lettersFrom, NamesTo, Gone}
-use Rattle.ahead.proofs.Counts.{low, count-none, count-next, count-apart}
+use Rattle.letter_count.specs.Letters.{one, lettersFrom}
+use Rattle.ahead.specs.Count.{NamesTo, Gone}
+use Rattle.letter_count.proofs.Counts.{low, count-none, count-next, count-apart}
 
 -- ---- no tag is a letter
 

@@ -13,8 +13,9 @@ use Rattle.letters.specs.View.{view}
 use Rattle.letters.specs.Viewed.{passed}
 use Rattle.letters.proofs.Views.{times-on, times-none}
 use Rattle.letters.proofs.Name.{letters-on, name-on}
-use Rattle.ahead.specs.Count.{one, lettersFrom, jumped, NameTo, NamesTo}
-use Rattle.ahead.proofs.Counts.{one-most, low, count-none, count-next, count-most, count-apart, full-read}
+use Rattle.letter_count.specs.Letters.{one, lettersFrom}
+use Rattle.ahead.specs.Count.{jumped, NameTo, NamesTo}
+use Rattle.letter_count.proofs.Counts.{one-most, low, count-none, count-next, count-most, count-apart, full-read}
 
 -- no name
 pub none-to : (s : Bytes) (longest at : ℕ) → NamesTo s longest at 0 at

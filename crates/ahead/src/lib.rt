@@ -10,17 +10,16 @@ ghost use Rattle.letters.specs.Classes.{Classes};
 ghost use Rattle.letters.specs.View.{view};
 ghost use Rattle.ahead.specs.Passed.{OnePassed};
 ghost use mathlib.Core.Bool.{true};
-ghost use Rattle.ahead.specs.Count.{lettersFrom};
-use count::count_letters;
+ghost use Rattle.letter_count.specs.Letters.{lettersFrom};
 use going::Ahead;
 use going::go_ahead;
+use letter_count::count_letters;
 use letters::Form;
 use letters::Read;
 use letters::classes::is_one;
 use nodes::bad;
 use nodes::room_for;
 
-mod count;
 pub mod going;
 
 // The most bytes that are gone over at once.

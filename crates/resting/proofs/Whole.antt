@@ -17,7 +17,8 @@ use Rattle.letters.specs.declared.Read.{Read}
 use Rattle.letters.specs.declared.Read.the-variants.{Whole, Bad}
 use Rattle.letters.specs.View.{view}
 use Rattle.nodes.proofs.Rest.{rest-is, rest-one}
-use Rattle.ahead.specs.Count.{lettersFrom, Gone}
+use Rattle.letter_count.specs.Letters.{lettersFrom}
+use Rattle.ahead.specs.Count.{Gone}
 use Rattle.reader.specs.Accepted.{accepts}
 use Rattle.reader.proofs.Whole.{whole-long, whole-bad, whole-more, whole-good}
 use Rattle.resting.specs.Readings.{Reads}

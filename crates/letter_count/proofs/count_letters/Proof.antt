@@ -1,13 +1,13 @@
--- `count::count_letters` meets its contract: what is counted and what is left make up the whole. Assumes nothing.
+-- `count_letters` meets its contract: what is counted and what is left make up the whole. Assumes nothing.
 use Prim.Native.Nat.{_+_, _-_, _≤_}
 use native.Mathlib.Omega.{arith}
 use mathlib.Core.Path.{_≡_, ap, _∙_}
 use lib.ListN.{length}
 use borrow.Author.Needs.{needs}
-use Rattle.ahead.specs.Count.{lettersFrom}
-use Rattle.ahead.proofs.Counts.{count-none, count-most, count-split, grown, summed}
-use Rattle.ahead.proofs.count.count_letters.Statement.{statement}
-use Rattle.ahead.proofs.count.count_letters.Tie as tie
+use Rattle.letter_count.specs.Letters.{lettersFrom}
+use Rattle.letter_count.proofs.Counts.{count-none, count-most, count-split, grown, summed}
+use Rattle.letter_count.proofs.count_letters.Statement.{statement}
+use Rattle.letter_count.proofs.count_letters.Tie as tie
 
 abbrev Inv-loop : tie.InvT-loop
 Inv-loop s from to count₀ i₀ count i = (to ≤ length s) × (from ≤ i) × (i ≤ to) × (count ≤ i - from) × (count + lettersFrom s i (to - i) ≡ lettersFrom s from (to - from))

@@ -1,7 +1,7 @@
--- `count::same_as` meets its contract: by the test. Assumes nothing.
+-- `same_as` meets its contract: by the test. Assumes nothing.
 use borrow.Author.Tests.{eq-eqb, ne-eqb}
-use Rattle.ahead.proofs.count.same_as.Statement.{statement}
-use Rattle.ahead.proofs.count.same_as.Tie as tie
+use Rattle.letter_count.proofs.same_as.Statement.{statement}
+use Rattle.letter_count.proofs.same_as.Tie as tie
 
 returns : tie.Need-returns
 returns c = rw (eq-eqb (c .before .args .b) (c .before .args .k) (c .if1 .taken))

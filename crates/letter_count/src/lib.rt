@@ -4,7 +4,7 @@ ghost use Prim.Native.Nat.{_-_, _≤_, _<_};
 ghost use lib.ListN.{length};
 ghost use Rattle.rules.specs.Basic.{if_then_else_, _==_, between};
 ghost use Rattle.rules.specs.Name.{follows};
-ghost use Rattle.ahead.specs.Count.{one, lettersFrom};
+ghost use Rattle.letter_count.specs.Letters.{one, lettersFrom};
 
 // 1 where a byte is from `from` to `to`, else the other number.
 fn within(b: u8, from: u8, to: u8, other: u8) -> u8

@@ -1,14 +1,14 @@
--- `count::count_block` meets its contract: what is counted and what is left make up the whole. Assumes nothing.
+-- `count_block` meets its contract: what is counted and what is left make up the whole. Assumes nothing.
 use borrow.Author.Needs.{needs}
 use Prim.Native.Nat.{_+_, _-_, _≤_}
 use native.Mathlib.Omega.{arith}
 use mathlib.Core.Path.{_≡_, ap, _∙_}
 use lib.ListN.{length, getD}
 use Rattle.rules.specs.Name.{follows}
-use Rattle.ahead.specs.Count.{one, lettersFrom}
-use Rattle.ahead.proofs.Counts.{count-none, count-next, one-most}
-use Rattle.ahead.proofs.count.count_block.Statement.{statement}
-use Rattle.ahead.proofs.count.count_block.Tie as tie
+use Rattle.letter_count.specs.Letters.{one, lettersFrom}
+use Rattle.letter_count.proofs.Counts.{count-none, count-next, one-most}
+use Rattle.letter_count.proofs.count_block.Statement.{statement}
+use Rattle.letter_count.proofs.count_block.Tie as tie
 
 abbrev Inv-loop : tie.InvT-loop
 Inv-loop s from to count₀ i₀ count i = (to ≤ length s) × (from ≤ i) × (i ≤ to) × (count ≤ i - from) × (to - from ≤ 128) × (count + lettersFrom s i (to - i) ≡ lettersFrom s from (to - from))

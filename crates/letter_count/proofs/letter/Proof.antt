@@ -1,11 +1,11 @@
--- `count::letter` meets its contract: a byte may follow where it is in one of the ranges. Assumes nothing.
+-- `letter` meets its contract: a byte may follow where it is in one of the ranges. Assumes nothing.
 use Prim.Native.Nat.{ℕ}
 use mathlib.Core.Path.{sym, ap, _∙_}
 use Rattle.rules.specs.Basic.{if_then_else_, _==_, between}
-use Rattle.ahead.proofs.Counts.{by-ranges}
+use Rattle.letter_count.proofs.Counts.{by-ranges}
 use borrow.Author.Needs.{needs}
-use Rattle.ahead.proofs.count.letter.Statement.{statement}
-use Rattle.ahead.proofs.count.letter.Tie as tie
+use Rattle.letter_count.proofs.letter.Statement.{statement}
+use Rattle.letter_count.proofs.letter.Tie as tie
 
 within-requires : tie.Need-within-requires
 within-requires c κs = search needs

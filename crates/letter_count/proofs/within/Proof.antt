@@ -1,8 +1,8 @@
--- `count::within` meets its contract: by the tests. Assumes nothing.
+-- `within` meets its contract: by the tests. Assumes nothing.
 use native.Mathlib.Omega.{arith}
 use borrow.Author.Tests.{le-leb, lt-leb}
-use Rattle.ahead.proofs.count.within.Statement.{statement}
-use Rattle.ahead.proofs.count.within.Tie as tie
+use Rattle.letter_count.proofs.within.Statement.{statement}
+use Rattle.letter_count.proofs.within.Tie as tie
 
 returns : tie.Need-returns
 returns c = rw (lt-leb (c .before .args .from) (c .before .args .b) (c .if1 .taken))

@@ -12,7 +12,7 @@ use Rattle.rules.specs.Reading.{byteFor, many}
 use Rattle.letters.specs.declared.Read.the-variants.{Whole}
 use Rattle.letters.specs.View.{view}
 use Rattle.letters.proofs.Views.{letter-on, many-on, many-none}
-use Rattle.ahead.specs.Count.{one, lettersFrom}
+use Rattle.letter_count.specs.Letters.{one, lettersFrom}
 
 pub one-most : (b : Bool) → one b ≤ 1
 one-most true = omega arith
