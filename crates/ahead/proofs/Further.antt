@@ -19,8 +19,9 @@ use Rattle.letters.specs.View.{view, skipped}
 use Rattle.letters.proofs.Coded.{few, Coded, coded}
 use Rattle.nodes.proofs.Rest.{Rest, rest-is, rest-same}
 use Rattle.nodes.proofs.Turn.{turn-on}
-use Rattle.ahead.specs.Count.{one, lettersFrom, NamesTo, Gone}
-use Rattle.ahead.proofs.Counts.{low, count-none, count-next, count-apart}
+use Rattle.letter_count.specs.Letters.{one, lettersFrom}
+use Rattle.ahead.specs.Count.{NamesTo, Gone}
+use Rattle.letter_count.proofs.Counts.{low, count-none, count-next, count-apart}
 
 -- ---- no tag is a letter
 
@@ -105,8 +106,11 @@ module _ (f : Form) (s : Bytes) (at n p met known names : ℕ) (w : Gone (layout
   pub few-parts : code / 8 ≤ 3
   few-parts = known-head .few
 
+  pub tag-small : getD s p 0 < 18
+  tag-small = omega (arith, head-in (layoutOf f .heads) (getD s p 0) (known-head .is), few-heads f)
+
   tag-low : follows (getD s p 0) ≡ false
-  tag-low = low (getD s p 0) (omega (arith, head-in (layoutOf f .heads) (getD s p 0) (known-head .is), few-heads f))
+  tag-low = low (getD s p 0) (omega (arith, tag-small))
 
   module _ (longest : ℕ) (long : longest ≡ layoutOf f .longest) (k : ℕ) (ek : k ≡ code / 2 % 4) (parts : ℕ) (ep : parts ≡ code / 8) (q : ℕ) (t : NamesTo s longest (p + 1) k q) where
     counted : lettersFrom s at (q - at) ≡ lettersFrom s at (p - at) + lettersFrom s (p + 1) (q - (p + 1))

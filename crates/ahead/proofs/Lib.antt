@@ -1,5 +1,4 @@
 -- What the proofs of several functions use.
-mod Counts
 mod Named
-mod Further
+pub mod Further
 mod Ones

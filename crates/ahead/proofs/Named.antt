@@ -13,15 +13,18 @@ use Rattle.letters.specs.View.{view}
 use Rattle.letters.specs.Viewed.{passed}
 use Rattle.letters.proofs.Views.{times-on, times-none}
 use Rattle.letters.proofs.Name.{letters-on, name-on}
-use Rattle.ahead.specs.Count.{one, lettersFrom, NameTo, NamesTo}
-use Rattle.ahead.proofs.Counts.{one-most, low, count-none, count-next, count-most, count-apart, full-read}
+use Rattle.letter_count.specs.Letters.{one, lettersFrom}
+use Rattle.ahead.specs.Count.{jumped, NameTo, NamesTo}
+use Rattle.letter_count.proofs.Counts.{one-most, low, count-none, count-next, count-most, count-apart, full-read}
 
 -- no name
 pub none-to : (s : Bytes) (longest at : ℕ) → NamesTo s longest at 0 at
+unfolding jumped
 none-to s longest at =
     record {
       past = omega arith;
       near = omega arith;
+      jumps = refl;
       few = ap-few;
       reads = λ u h e. times-none (name longest) 0 u at (drop at s) refl;
     }
@@ -49,6 +52,7 @@ module _ (s : Bytes) (longest at n : ℕ) (small : longest ≤ 24) (is : n ≡ g
 
   -- and then k more
   more-to : (k r : ℕ) → NamesTo s longest (at + 1 + n) k r → NamesTo s longest at (suc k) r
+  unfolding jumped
   more-to k r w =
       let d : r - at ≡ suc n + (r - (at + 1 + n)) = omega (arith, w .past) in
       let i : at + suc n ≡ at + 1 + n = omega arith in
@@ -58,6 +62,7 @@ module _ (s : Bytes) (longest at n : ℕ) (small : longest ≤ 24) (is : n ≡ g
       record {
         past = omega (arith, w .past);
         near = omega (arith, w .near);
+        jumps = w .jumps ∙ ap (λ (m : ℕ). jumped s (at + 1 + m) k) is;
         few = omega (arith, c, b, w .few, w .past);
         reads =
             λ u h e.

@@ -1,23 +1,16 @@
--- How many of some bytes may follow in a name; and what going ahead over nodes says where all that it took for letters are letters.
+-- What going ahead over nodes says where all that it took for letters are letters.
 -- Assumes nothing: these are definitions.
 use Prim.Native.Nat.{ℕ, zero, suc, _+_, _-_, _*_, _<_, _≤_}
 use mathlib.Core.Path.{_≡_}
-use mathlib.Core.Bool.{Bool, true}
+use mathlib.Core.Bool.{true}
 use lib.ListN.{length, getD, drop}
-use Rattle.rules.specs.Basic.{Bytes, if_then_else_}
-use Rattle.rules.specs.Name.{leads, follows}
+use Rattle.rules.specs.Basic.{Bytes}
+use Rattle.rules.specs.Name.{leads}
 use Rattle.rules.specs.Layout.{Layout}
 use Rattle.rules.specs.Reading.{times, name, node}
 use Rattle.letters.specs.declared.Read.the-variants.{Whole}
 use Rattle.letters.specs.View.{view}
-
-abbrev pub one : Bool → ℕ
-one b = if b then 1 else 0
-
--- of the k bytes of s from a place on
-unfoldable pub lettersFrom : Bytes → (at k : ℕ) → ℕ
-lettersFrom s at zero = 0
-lettersFrom s at (suc k) = one (follows (getD s at 0)) + lettersFrom s (at + 1) k
+use Rattle.letter_count.specs.Letters.{lettersFrom}
 
 -- the name at `at` ends at r: its length is allowed, and its first byte may lead
 pub record NameTo (s : Bytes) (longest at r : ℕ) : Type 0 where
@@ -26,10 +19,16 @@ pub record NameTo (s : Bytes) (longest at r : ℕ) : Type 0 where
   pub most : getD s at 0 ≤ longest
   pub lead : leads (getD s (at + 1) 0) ≡ true
 
+-- the place after k names from `at` on, by their lengths
+unfoldable pub jumped : Bytes → (at k : ℕ) → ℕ
+jumped s at zero = at
+jumped s at (suc k) = jumped s (at + 1 + getD s at 0) k
+
 -- k names from `at` on end at r, if what stands in them is letters: all of their bytes but the k lengths
 pub record NamesTo (s : Bytes) (longest at k r : ℕ) : Type 0 where
   pub past : at + k ≤ r
   pub near : r ≤ at + 25 * k
+  pub jumps : r ≡ jumped s at k
   pub few : lettersFrom s at (r - at) ≤ r - at - k
   pub reads : (u : ℕ) → r ≤ length s → lettersFrom s at (r - at) ≡ r - at - k → view (times (name longest) k u at (drop at s)) ≡ Whole r u
 

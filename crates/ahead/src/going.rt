@@ -18,7 +18,7 @@ pub struct Ahead {
     pub names: usize,
 }
 
-fn stopped(next: usize, met: usize, known: usize, names: usize) -> Ahead
+pub fn stopped(next: usize, met: usize, known: usize, names: usize) -> Ahead
     ensures { λ r. ⌜ (r .next ≡ next) × (r .met ≡ met) × (r .known ≡ known) × (r .names ≡ names) ⌝ }
 {
     Ahead {
@@ -50,7 +50,14 @@ fn name_end(s: &[u8], t: &[u8; 256], longest: usize, at: usize) -> usize
 }
 
 // Where that many names end, or 0. Two bytes can be read at every place up to `stop`.
-fn names_end(s: &[u8], t: &[u8; 256], longest: usize, at: usize, names: usize, stop: usize) -> usize
+pub fn names_end(
+    s: &[u8],
+    t: &[u8; 256],
+    longest: usize,
+    at: usize,
+    names: usize,
+    stop: usize,
+) -> usize
     requires { ⌜ Letters (now t) ⌝ }
     requires { ⌜ (0 < at) × (at ≤ stop) × (stop + 1 < length (now s)) × (longest ≤ 24) ⌝ }
     ensures { λ r. ⌜ (0 < r → NamesTo (now (s .entry)) longest at names r) ⌝ }
@@ -74,7 +81,7 @@ fn names_end(s: &[u8], t: &[u8; 256], longest: usize, at: usize, names: usize, s
 }
 
 // The last place where two bytes can be read, and 0 where there is none.
-fn last_pair(end: usize) -> usize
+pub fn last_pair(end: usize) -> usize
     ensures { λ r. ⌜ r ≡ end - 2 ⌝ }
 {
     if end < 2 {

@@ -10,24 +10,23 @@ ghost use Rattle.letters.specs.Classes.{Classes};
 ghost use Rattle.letters.specs.View.{view};
 ghost use Rattle.ahead.specs.Passed.{OnePassed};
 ghost use mathlib.Core.Bool.{true};
-ghost use Rattle.ahead.specs.Count.{lettersFrom};
-use count::count_letters;
+ghost use Rattle.letter_count.specs.Letters.{lettersFrom};
 use going::Ahead;
 use going::go_ahead;
+use letter_count::count_letters;
 use letters::Form;
 use letters::Read;
 use letters::classes::is_one;
 use nodes::bad;
 use nodes::room_for;
 
-mod count;
-mod going;
+pub mod going;
 
 // The most bytes that are gone over at once.
 const MOST_AHEAD: usize = 65536;
 
 // Whether all that was taken for letters is letters, within the bytes and the nodes that there may be.
-fn holds(s: &[u8], at: usize, gone: Ahead, room: usize) -> bool
+pub fn holds(s: &[u8], at: usize, gone: Ahead, room: usize) -> bool
     requires { ⌜ at + (gone .met + gone .names) ≤ gone .next ⌝ }
     ensures { λ r. ⌜ (r ≡ true → (gone .next ≤ length (now (s .entry))) × (gone .met ≤ room) × (lettersFrom (now (s .entry)) at (gone .next - at) ≡ gone .next - at - (gone .met + gone .names))) ⌝ }
 {

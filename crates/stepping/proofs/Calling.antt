@@ -13,7 +13,6 @@ use Rattle.rules.specs.declared.Refusal.{Refusal}
 use Rattle.rules.specs.Refusal.{good, refuse, mapped, answered}
 use Rattle.rules.specs.declared.Answer.the-variants.{Good, Refused}
 use Rattle.rules.specs.Term.{Term, encode, nodes}
-use Rattle.rules.specs.Legal.{Legal}
 use Rattle.rules.specs.Reading.{readTerm}
 use Rattle.rules.specs.Step as rules
 use Rattle.rules.specs.Buffers.{cleared}
@@ -120,10 +119,10 @@ module _ (term out scratch : Bytes) where
         a : Accepts nodes (readTerm limits 1 term) n
         a = accepts nodes (readTerm limits 1 term) e
 
-        pub read : (t : Term) × Legal t × Reads term n out t
+        pub read : (t : Term) × Reads term n out t
         read =
             let w = term-sound limits 1 term (a .value) (a .is) in
-            (a .value, w .legal, record { whole = w .bytes; count = sym (a .counts); fits = accepted-fits limits term (a .value) w; room = h })
+            (a .value, record { whole = w .bytes; count = sym (a .counts); fits = accepted-fits limits term (a .value) w; room = h })
 
         pub stepped : (r : Stepped) (out′ scratch′ : Bytes) → Stepping (rules.step (read .0)) out scratch r out′ scratch′ → Is r out′ scratch′
         unfolding stepCall a read
@@ -148,11 +147,11 @@ module _ (term : Bytes) where
   untold r e = rw (refuses nodes (readTerm limits 1 term) e)
 
   module _ (n : ℕ) (e : answered (mapped nodes (readTerm limits 1 term)) ≡ Good n) where
-    pub is-term : (t : Term) × (readTerm limits 1 term ≡ good t) × Legal t × (term ≡ encode t)
+    pub is-term : (t : Term) × (readTerm limits 1 term ≡ good t) × (term ≡ encode t)
     is-term =
         let a = accepts nodes (readTerm limits 1 term) e in
         let w = term-sound limits 1 term (a .value) (a .is) in
-        (a .value, a .is, w .legal, w .bytes)
+        (a .value, a .is, w .bytes)
 
   pub told : (t : Term) → readTerm limits 1 term ≡ good t → (b : Bool) → b ≡ rules.isNormal (rules.step t) → Known b ≡ normalAnswered (isNormalCall limits term)
   unfolding isNormalCall

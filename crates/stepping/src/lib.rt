@@ -5,14 +5,13 @@ ghost use lib.ListN.{length};
 ghost use Rattle.rules.specs.Limits.{limits, scratchRoom};
 ghost use Rattle.rules.specs.Refusal.{refuse};
 ghost use Rattle.rules.specs.Term.{Term};
-ghost use Rattle.rules.specs.Legal.{Legal};
 ghost use Rattle.rules.specs.Step.{step as stepOf};
 ghost use Rattle.rules.specs.Calls.{stepCall, isNormalCall};
 ghost use Rattle.spans.specs.Given.{Reads};
 ghost use Rattle.stepping.specs.Answers.{stepAnswered, normalAnswered, Stepping};
-use resting::rests;
-use resting::still;
-use rules::Answer;
+use resting::Reading;
+use resting::none_left;
+use resting::read_resting;
 use rules::OUTPUT_ROOM;
 use rules::Refusal;
 use rules::Rule;
@@ -75,18 +74,6 @@ fn step_read(term: &[u8], nodes: usize, out: &mut [u8], scratch: &mut [u8]) -> S
     }
 }
 
-// A step of a legal term that was read. A sweep that sees no redex spares the search.
-fn step_legal(term: &[u8], nodes: usize, out: &mut [u8], scratch: &mut [u8]) -> Stepped
-    requires { ⌜ ((t : Term) × Legal t × Reads (now term) nodes (now out) t) × (scratchRoom limits ≤ length (now scratch)) ⌝ }
-    ensures { λ r. ⌜ ((t : Term) → Legal t → Reads (now (term .entry)) nodes (now (out .entry)) t → Stepping (stepOf t) (now (out .entry)) (now (scratch .entry)) r (now (out .exit)) (now (scratch .exit))) ⌝ }
-{
-    if still(term) {
-        runs::clear(scratch, 0);
-        return Stepped::Normal;
-    }
-    step_read(term, nodes, out, scratch)
-}
-
 // The next term, written to out, with zeros behind it; or Normal, and out untouched.
 pub fn step(term: &[u8], out: &mut [u8], scratch: &mut [u8]) -> Stepped
     ensures { λ r. ⌜ r ≡ stepAnswered (stepCall limits (now (term .entry)) (now (out .entry)) (now (scratch .entry)) .answer) ⌝ }
@@ -99,9 +86,13 @@ pub fn step(term: &[u8], out: &mut [u8], scratch: &mut [u8]) -> Stepped
     if scratch.len() < SCRATCH_ROOM {
         return refused(1);
     }
-    match reader::term_input(term, 1) {
-        Answer::Refused(r) => Stepped::Refused(r),
-        Answer::Good(nodes) => step_legal(term, nodes, out, scratch),
+    match read_resting(term, 1) {
+        Reading::Refused(r) => Stepped::Refused(r),
+        Reading::Unsure(nodes) => step_read(term, nodes, out, scratch),
+        Reading::Calm(_) => {
+            runs::clear(scratch, 0);
+            Stepped::Normal
+        }
     }
 }
 
@@ -109,8 +100,9 @@ pub fn step(term: &[u8], out: &mut [u8], scratch: &mut [u8]) -> Stepped
 pub fn is_normal(term: &[u8]) -> Normality
     ensures { λ r. ⌜ r ≡ normalAnswered (isNormalCall limits (now (term .entry))) ⌝ }
 {
-    match reader::term_input(term, 1) {
-        Answer::Refused(r) => Normality::Refused(r),
-        Answer::Good(_) => Normality::Known(rests(term)),
+    match read_resting(term, 1) {
+        Reading::Refused(r) => Normality::Refused(r),
+        Reading::Unsure(_) => Normality::Known(none_left(term)),
+        Reading::Calm(_) => Normality::Known(true),
     }
 }

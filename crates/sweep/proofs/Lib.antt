@@ -1,4 +1,3 @@
--- What the proofs of the two sweeps use.
+-- What the proofs of walks that look for redexes use.
 mod Quiet
-mod Sweeping
-mod Neighbours
+pub mod Sweeping

@@ -15,6 +15,7 @@ use Rattle.walk.proofs.Names.{AfterIs, long}
 use Rattle.walk.proofs.Terms.{apart-size, first, unrolled, at-tag, at-small, at-inside, some-names, starts, whole, alone, encodeAll-append}
 use Rattle.search.specs.Searched.{reduces}
 use Rattle.sweep.specs.Calm.{Calm, AllCalm, CalmAfter}
+use Rattle.sweep.specs.Swept.{Left, Swept}
 
 -- a node and those behind it, from its parts and those behind it
 all-calm : (k : ℕ) (ts : List Term) → CalmAfter k ts → AllCalm ts
@@ -29,17 +30,6 @@ gathered (two k a b) ts c = ((c .0, (c .1 .0, c .1 .1 .0)), c .1 .1 .1)
 gathered (abs x e) ts c = ((c .0, c .1 .0), c .1 .1)
 gathered (both k x y e b) ts c = ((c .0, (c .1 .0, c .1 .1 .0)), c .1 .1 .1)
 gathered (branch x y e l r) ts c = ((c .0, (c .1 .0, (c .1 .1 .0, c .1 .1 .1 .0))), c .1 .1 .1 .1)
-
--- the terms left at i, after a node with the tag `last`; where they are calm, t is
-pub record Left (s : Bytes) (i last : ℕ) (t : Term) : Type 0 where
-  pub row : List Term
-  pub stand : TermsAt s i (length row) row
-  pub ends : i + length (encodeAll row) ≡ length s
-  pub calms : CalmAfter last row → Calm t
-
--- of every term that these bytes are
-abbrev pub Swept : Bytes → ℕ → ℕ → Type 0
-Swept s i last = (t : Term) → s ≡ encode t → Left s i last t
 
 pub begin : (s : Bytes) → Swept s 0 0
 begin s t e =
@@ -108,3 +98,11 @@ module _ (s : Bytes) (i last : ℕ) where
                 );
             calms = λ c. l .calms (let g = gathered u ts (rw k at c) in (ap (λ z. reduces last z) (sym k) ∙ r, g));
           }
+
+-- a node that wants nothing of what follows it may be forgotten
+pub forgotten : (s : Bytes) (i last : ℕ) (t : Term) → Left s i last t → ((v : Term) → TermAt s i v → reduces last (tag v) ≡ false) → Left s i 0 t
+forgotten s i last t l f = record { row = l .row; stand = l .stand; ends = l .ends; calms = λ c. l .calms (go (l .row) (l .stand) c) }
+  where
+    go : (row : List Term) → TermsAt s i (length row) row → CalmAfter 0 row → CalmAfter last row
+    go [] w c = tt
+    go (v ∷ vs) w c = (f v (first s i _ v vs w), c .1)

@@ -1,2 +1,2 @@
 pub mod Calm
-pub mod Pairs
+pub mod Swept

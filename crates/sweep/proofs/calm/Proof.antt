@@ -6,19 +6,20 @@ use mathlib.Core.Bool.{false}
 use lib.ListN.{length, getD}
 use Rattle.walk.proofs.Terms.{at-small, some-names}
 use Rattle.search.specs.Searched.{reduces}
+use Rattle.sweep.specs.Swept.{Swept}
 use Rattle.sweep.proofs.Quiet.{quiet}
-use Rattle.sweep.proofs.Sweeping.{Swept, begin, done, some-here, ahead, turned}
+use Rattle.sweep.proofs.Sweeping.{done, some-here, ahead, turned}
 use Rattle.sweep.proofs.calm.Statement.{statement}
 use Rattle.sweep.proofs.calm.Tie as tie
 
 abbrev Inv-loop : tie.InvT-loop
-Inv-loop s i₀ last₀ i last = Swept s i last × (last < 20)
+Inv-loop s from i₀ last₀ i last = Swept s i last × (last < 20)
 
 abbrev μ-loop : tie.MeasureT-loop
-μ-loop s i₀ last₀ i last = length s - i
+μ-loop s from i₀ last₀ i last = length s - i
 
 loop-holds : tie.Need-loop-holds Inv-loop μ-loop
-loop-holds c = (begin (c .before .args .s .now), omega arith)
+loop-holds c = (c .before .pre .1, omega arith)
 
 shared-slice-read-tag : tie.Need-shared-slice-read-tag Inv-loop μ-loop
 shared-slice-read-tag c = omega arith
@@ -27,7 +28,7 @@ cast-tag : tie.Need-cast-tag Inv-loop μ-loop
 cast-tag c = omega (arith, c .shared-slice-known2 .given (c .before .before .loop .i))
 
 reduces-requires : tie.Need-reduces-requires Inv-loop μ-loop
-reduces-requires c κs = let l = c .before .before .loop in let a = some-here _ _ _ (c .before .loop-test .taken) (l .inv .0) (c .before .before .before .before .pre) in (l .inv .1, omega (arith, at-small _ _ (a .0) (a .1)))
+reduces-requires c κs = let l = c .before .before .loop in let a = some-here _ _ _ (c .before .loop-test .taken) (l .inv .0) (c .before .before .before .before .pre .0) in (l .inv .1, omega (arith, at-small _ _ (a .0) (a .1)))
 
 returns : tie.Need-returns Inv-loop μ-loop
 returns c = λ t d e. absurd (let z : _≡_ {A = ℕ} 0 1 = cc in omega arith)
@@ -36,16 +37,16 @@ add-after-names : tie.Need-add-after-names Inv-loop μ-loop
 add-after-names c = omega arith
 
 names-of-requires : tie.Need-names-of-requires Inv-loop μ-loop
-names-of-requires c κs = let l = c .before .before .before .before .loop in let a = some-here _ _ _ (c .before .before .before .loop-test .taken) (l .inv .0) (c .before .before .before .before .before .before .pre) in omega (arith, at-small _ _ (a .0) (a .1))
+names-of-requires c κs = let l = c .before .before .before .before .loop in let a = some-here _ _ _ (c .before .before .before .loop-test .taken) (l .inv .0) (c .before .before .before .before .before .before .pre .0) in omega (arith, at-small _ _ (a .0) (a .1))
 
 after-names-requires : tie.Need-after-names-requires Inv-loop μ-loop
-after-names-requires c κs = let l = c .before .before .before .before .before .loop in some-names _ _ (some-here _ _ _ (c .before .before .before .before .loop-test .taken) (l .inv .0) (c .before .before .before .before .before .before .before .pre)) _ (c .names-of .ensures)
+after-names-requires c κs = let l = c .before .before .before .before .before .loop in some-names _ _ (some-here _ _ _ (c .before .before .before .before .loop-test .taken) (l .inv .0) (c .before .before .before .before .before .before .before .pre .0)) _ (c .names-of .ensures)
 
 loop-less : tie.Need-loop-less Inv-loop μ-loop
-loop-less c = let l = c .before .before .before .before .before .before .loop in omega (arith, ahead _ _ _ (c .before .before .before .before .before .loop-test .taken) (l .inv .0) _ _ (c .before .names-of .ensures) (c .after-names .ensures) (c .before .before .before .before .before .before .before .before .pre))
+loop-less c = let l = c .before .before .before .before .before .before .loop in omega (arith, ahead _ _ _ (c .before .before .before .before .before .loop-test .taken) (l .inv .0) _ _ (c .before .names-of .ensures) (c .after-names .ensures) (c .before .before .before .before .before .before .before .before .pre .0))
 
 loop-again : tie.Need-loop-again Inv-loop μ-loop
-loop-again c = let l = c .before .before .before .before .before .before .loop in let t = c .before .before .before .before .before .loop-test .taken in let a = some-here _ _ _ t (l .inv .0) (c .before .before .before .before .before .before .before .before .pre) in let q = c .before .names-of .ensures in let h = c .after-names .ensures in
+loop-again c = let l = c .before .before .before .before .before .before .loop in let t = c .before .before .before .before .before .loop-test .taken in let a = some-here _ _ _ t (l .inv .0) (c .before .before .before .before .before .before .before .before .pre .0) in let q = c .before .names-of .ensures in let h = c .after-names .ensures in
     let r : reduces (l .last) (getD (c .before .before .before .before .before .before .before .before .args .s .now) (l .i) 0) ≡ false = cc in
     (turned _ _ _ t (l .inv .0) _ _ q h r, omega (arith, at-small _ _ (a .0) (a .1)))
 

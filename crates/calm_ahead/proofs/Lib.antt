@@ -1,0 +1,2 @@
+-- What the proof of going on uses.
+mod Turning
