@@ -84,7 +84,7 @@ fn past_row(s: &[u8], t: &[u8; 256], most: Most, next: usize, formulas: usize, n
     ended(at, met)
 }
 
-// A rule's tag, and what it carries. It is not looked at what an index is.
+// A rule's tag, and what it carries. An index may be anything, so its two bytes are not looked at.
 fn past_own(s: &[u8], t: &[u8; 256], most: Most, at: usize, formulas: usize, kind: usize) -> Part
     requires { ⌜ Classes formulaLayout (now t) ⌝ }
     requires { ⌜ (most .formulas ≤ 65536) × (at < length (now s)) × (0 < kind) × (kind ≡ kindAt (headAt ruleHeads (getD (now s) at 0))) ⌝ }

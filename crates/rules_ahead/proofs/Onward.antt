@@ -4,13 +4,12 @@ use native.Mathlib.Nat.{zero-add, suc-add}
 use native.Mathlib.Omega.{arith}
 use mathlib.Core.Path.{_≡_, refl, sym, ap, _∙_}
 use mathlib.Core.List.{List, [], _∷_}
-use lib.ListN.{length, drop}
+use lib.ListN.{drop}
 use Rattle.rules.specs.Basic.{Bytes}
 use Rattle.rules.specs.Limits.{Limits}
-use Rattle.rules.specs.Proof.{Proof, proof, row}
+use Rattle.rules.specs.Proof.{proof, row}
 use Rattle.rules.specs.Reading.{Got, got, bad, Reader, Met, andThen, pure, many, proofAt}
 use Rattle.rule_bytes.specs.Seen.{metBy, seen, found}
-use Rattle.rule_bytes.specs.Stages.{Top}
 use Rattle.conclusion.proofs.Answers.{Reached}
 use Rattle.conclusion.proofs.Views.{seen-made}
 use Rattle.conclusion.proofs.Split.{split, topped}

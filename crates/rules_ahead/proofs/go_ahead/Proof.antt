@@ -1,7 +1,6 @@
 -- `rules_ahead::go_ahead` meets its contract: whatever the rules that are still owed come to, the proof comes to. Assumes nothing.
 use Prim.Native.Nat.{_+_, _-_}
 use native.Mathlib.Omega.{arith}
-use mathlib.Core.Path.{_≡_, sym}
 use lib.ListN.{length}
 use Rattle.rule_bytes.specs.Seen.{reachedAt, within}
 use Rattle.rules_ahead.specs.Still.{Still}
