@@ -1,1 +1,2 @@
+-- What two bytes that stand nowhere side by side leave out.
 mod Nowhere

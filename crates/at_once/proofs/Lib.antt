@@ -1,1 +1,2 @@
+-- What the sweep has done when no term is left.
 mod Finished

@@ -21,7 +21,7 @@ use Rattle.parts.specs.Contracts.{Contracts}
 use Rattle.parts.specs.declared.Contracted.{Contracted}
 use Rattle.contracting.specs.Contracting.{Contracting}
 
-module _ {s : Bytes} {at n l : ℕ} {places half made : Bytes} {t : Term} {r : Rule} {h : Option Term} {u : Term} (j : Contracting s at n l places half made t r h u) where
+module _ {s : Bytes} {at n l : ℕ} {places made : Bytes} {t : Term} {r : Rule} {h : Option Term} {u : Term} (j : Contracting s at n l places made t r h u) where
   pub redex-inside : at < length s
   redex-inside = at-inside s at t (j .redex .stands)
 

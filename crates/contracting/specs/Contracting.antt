@@ -11,9 +11,8 @@ use Rattle.rules.specs.Step.{by, contract}
 use Rattle.parts.specs.Contracts.{Redex}
 
 -- t contracts by the rule r to u, by way of h; the buffers are long enough
-pub record Contracting (s : Bytes) (at n l : ℕ) (places half made : Bytes) (t : Term) (r : Rule) (h : Option Term) (u : Term) : Type 0 where
+pub record Contracting (s : Bytes) (at n l : ℕ) (places made : Bytes) (t : Term) (r : Rule) (h : Option Term) (u : Term) : Type 0 where
   pub redex : Redex s at n l t
   pub contracts : contract t ≡ by r h u
   pub places-room : outputRoom limits ≤ length places
-  pub half-room : outputRoom limits ≤ length half
   pub made-room : outputRoom limits ≤ length made

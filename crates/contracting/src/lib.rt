@@ -9,25 +9,24 @@ use parts::Contracted;
 mod redexes;
 
 // Contracts the redex in s at `at`, by its tag. It is a part of a whole of so many nodes and bytes.
-// What is written stands at the start of `made`; `places` and `half` are room to work in.
+// What is written stands at the start of `made`; `places` is room to work in.
 pub fn contract(
     s: &[u8],
     at: usize,
     nodes: usize,
     length: usize,
     places: &mut [u8],
-    half: &mut [u8],
     made: &mut [u8],
 ) -> Contracted
-    requires { ⌜ ((t : Term) × (r : Rule) × (h : Option Term) × (u : Term) × Contracting (now s) at nodes length (now places) (now half) (now made) t r h u) ⌝ }
-    ensures { λ c. ⌜ ((t : Term) → (r : Rule) → (h : Option Term) → (u : Term) → Contracting (now (s .entry)) at nodes length (now (places .entry)) (now (half .entry)) (now (made .entry)) t r h u → Contracts (now (s .entry)) at nodes length t r h u (now (made .exit)) c) ⌝ }
+    requires { ⌜ ((t : Term) × (r : Rule) × (h : Option Term) × (u : Term) × Contracting (now s) at nodes length (now places) (now made) t r h u) ⌝ }
+    ensures { λ c. ⌜ ((t : Term) → (r : Rule) → (h : Option Term) → (u : Term) → Contracting (now (s .entry)) at nodes length (now (places .entry)) (now (made .entry)) t r h u → Contracts (now (s .entry)) at nodes length t r h u (now (made .exit)) c) ⌝ }
 {
     let tag = s[at];
     if tag == 6 {
         return applying::apply(s, at, nodes, length, places, made);
     }
     if tag == 4 {
-        return redexes::let_pair(s, at, nodes, length, places, half, made);
+        return redexes::let_pair(s, at, nodes, length, places, made);
     }
     if tag == 9 {
         return branching::branch(s, at, nodes, length, places, made);
@@ -42,7 +41,7 @@ pub fn contract(
         return redexes::derelict(s, at, nodes);
     }
     if tag == 17 {
-        return redexes::copy(s, at, nodes, length, places, half, made);
+        return redexes::copy(s, at, nodes, length, places, made);
     }
     redexes::discard(s, at, nodes)
 }

@@ -23,11 +23,10 @@ pub fn let_pair(
     nodes: usize,
     length: usize,
     places: &mut [u8],
-    half: &mut [u8],
     made: &mut [u8],
 ) -> Contracted
     requires { ⌜ ((x : Name) × (y : Name) × (a : Term) × (b : Term) × (e : Term) × Redex (now s) at nodes length (twoNamed letPair x y (two pair a b) e)) ⌝ }
-    requires { ⌜ Room (now places) × Room (now half) × Room (now made) ⌝ }
+    requires { ⌜ Room (now places) × Room (now made) ⌝ }
     ensures { λ c. ⌜ ((x : Name) → (y : Name) → (a : Term) → (b : Term) → (e : Term) → Redex (now (s .entry)) at nodes length (twoNamed letPair x y (two pair a b) e) → Contracts (now (s .entry)) at nodes length (twoNamed letPair x y (two pair a b) e) Let (some (subst x a e)) (subst y b (subst x a e)) (now (made .exit)) c) ⌝ }
 {
     let names = span_names(s, at + 1);
@@ -56,7 +55,6 @@ pub fn let_pair(
         rest,
         length,
         places,
-        half,
         made,
     )
 }
@@ -112,11 +110,10 @@ pub fn copy(
     nodes: usize,
     length: usize,
     places: &mut [u8],
-    half: &mut [u8],
     made: &mut [u8],
 ) -> Contracted
     requires { ⌜ ((x : Name) × (y : Name) × (v : Term) × (e : Term) × Redex (now s) at nodes length (twoNamed aCopy x y (one promote v) e)) ⌝ }
-    requires { ⌜ Room (now places) × Room (now half) × Room (now made) ⌝ }
+    requires { ⌜ Room (now places) × Room (now made) ⌝ }
     ensures { λ c. ⌜ ((x : Name) → (y : Name) → (v : Term) → (e : Term) → Redex (now (s .entry)) at nodes length (twoNamed aCopy x y (one promote v) e) → Contracts (now (s .entry)) at nodes length (twoNamed aCopy x y (one promote v) e) Copy (some (subst x (one promote v) e)) (subst y (one promote v) (subst x (one promote v) e)) (now (made .exit)) c) ⌝ }
 {
     let names = span_names(s, at + 1);
@@ -139,7 +136,6 @@ pub fn copy(
         rest,
         length,
         places,
-        half,
         made,
     )
 }

@@ -43,7 +43,7 @@ drop-slice : (i j : ℕ) (l : Bytes) → i ≤ j → j ≤ length l → drop i l
 drop-slice i j l h g =
     ap (λ (z : Bytes). drop i z) (sym (take-append-drop j l)) ∙ drop-append-le i (take j l) (drop j l) (omega (arith, length-take-le j l g))
 
-module _ {w : Term} {out scratch stack : List ℕ} {o i d n : ℕ} {places half out₁ : Bytes} (e : Firing w out scratch stack o i d n places half out₁) where
+module _ {w : Term} {out scratch stack : List ℕ} {o i d n : ℕ} {places out₁ : Bytes} (e : Firing w out scratch stack o i d n places out₁) where
   abbrev s : Standing w out scratch stack o i d
   s = e .reducing .stands
 
@@ -65,7 +65,7 @@ module _ {w : Term} {out scratch stack : List ℕ} {o i d n : ℕ} {places half 
   pub short : l ≤ 4096
   short = whole-short s
 
-  pub job : Contracting scratch i n l places half out₁ t (x .rule) (x .half) u
+  pub job : Contracting scratch i n l places out₁ t (x .rule) (x .half) u
   job =
       record {
         redex =
@@ -79,7 +79,6 @@ module _ {w : Term} {out scratch stack : List ℕ} {o i d n : ℕ} {places half 
             };
         contracts = x .is;
         places-room = e .places-room;
-        half-room = e .half-room;
         made-room = e .made-room;
       }
 

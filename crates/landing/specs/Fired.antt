@@ -17,11 +17,10 @@ use Rattle.landing.specs.declared.Fired.{Fired}
 use Rattle.landing.specs.declared.Fired.the-variants.{Made, Outgrown}
 
 -- the whole w has n nodes, and the search stands at a redex of it; there is room to work
-pub record Firing (w : Term) (out scratch stack : List ℕ) (o i d n : ℕ) (places half made : Bytes) : Type 0 where
+pub record Firing (w : Term) (out scratch stack : List ℕ) (o i d n : ℕ) (places made : Bytes) : Type 0 where
   pub reducing : Reducing w out scratch stack o i d
   pub count : n ≡ nodes w
   pub places-room : outputRoom limits ≤ length places
-  pub half-room : outputRoom limits ≤ length half
   pub made-room : outputRoom limits ≤ length made
 
 -- the step of w leaves u, which fits and has n nodes; the search stands in it

@@ -61,14 +61,13 @@ pub fn fire(
     depth: usize,
     nodes: usize,
     places: &mut [u8],
-    half: &mut [u8],
     made: &mut [u8],
 ) -> Fired
-    requires { ⌜ ((w : Term) × Firing w (now out) (now scratch) (now stack) o i depth nodes (now places) (now half) (now made)) ⌝ }
-    ensures { λ r. ⌜ ((w : Term) → Firing w (now (out .entry)) (now (scratch .entry)) (now (stack .entry)) o i depth nodes (now (places .entry)) (now (half .entry)) (now (made .entry)) → Fires w (now (out .entry)) (now (scratch .exit)) (now (stack .entry)) o i depth r) ⌝ }
+    requires { ⌜ ((w : Term) × Firing w (now out) (now scratch) (now stack) o i depth nodes (now places) (now made)) ⌝ }
+    ensures { λ r. ⌜ ((w : Term) → Firing w (now (out .entry)) (now (scratch .entry)) (now (stack .entry)) o i depth nodes (now (places .entry)) (now (made .entry)) → Fires w (now (out .entry)) (now (scratch .exit)) (now (stack .entry)) o i depth r) ⌝ }
 {
     let length = o + (scratch.len() - i);
-    match contracting::contract(scratch, i, nodes, length, places, half, made) {
+    match contracting::contract(scratch, i, nodes, length, places, made) {
         Contracted::Outgrown => Fired::Outgrown,
         Contracted::Made {
             rule,

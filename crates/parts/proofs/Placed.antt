@@ -3,7 +3,7 @@ use Prim.Native.Nat.{ℕ, _+_, _-_, _≤_}
 use mathlib.Core.Path.{_≡_, refl, ap, _∙_}
 use mathlib.Core.Option.{none, some}
 use native.Mathlib.Omega.{arith}
-use lib.ListN.{length, take, drop}
+use lib.ListN.{length, take, drop, replicate, length-replicate}
 use Rattle.rules.specs.Basic.{Bytes}
 use Rattle.rules.specs.Name.{Name}
 use Rattle.rules.specs.Term.{Term, nodes, size}
@@ -69,6 +69,10 @@ module _ {s : Bytes} {at end : ℕ} {b : Body} {p : Part} {n l : ℕ} {held : By
   placed room d is = put-contracts (j .redex) (j .ends) (omega (arith, j .count)) (omega (arith, j .ends, j .found .next)) room d is
 
 -- ---- two in turn
+
+-- the array in which what is there halfway is made
+pub array-room : 4096 ≤ length (replicate {A = ℕ} 4096 0)
+array-room = omega (arith, length-replicate {A = ℕ} 4096 0)
 
 module _ {s : Bytes} {at middle past : ℕ} {p q : Part} {n l whole : ℕ} {t : Term} {x y : Name} {e v w : Term} (j : Pairing s at middle past p q n l whole t x y e v w) where
   pub body-bounds : (at + 2 ≤ middle) × (middle ≤ length s) × (length s ≤ q .end + 4096) × (at + 2 ≤ length s)

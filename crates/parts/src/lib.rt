@@ -111,7 +111,7 @@ pub fn put_here(
     told(rule, end, put)
 }
 
-// The same as `both`, one value after the other by way of `half`: for what may not be done at once.
+// The same as `both`, one value after the other by way of what is there halfway: for what may not be done at once.
 fn one_by_one(
     s: &[u8],
     at: usize,
@@ -123,13 +123,13 @@ fn one_by_one(
     nodes: usize,
     length: usize,
     places: &mut [u8],
-    half: &mut [u8],
     made: &mut [u8],
 ) -> Contracted
     requires { ⌜ ((n : ℕ) × (t : Term) × (x : Name) × (y : Name) × (e : Term) × (v : Term) × (w : Term) × Pairing (now s) at middle past a b nodes length n t x y e v w) ⌝ }
-    requires { ⌜ Room (now places) × Room (now half) × Room (now made) ⌝ }
+    requires { ⌜ Room (now places) × Room (now made) ⌝ }
     ensures { λ c. ⌜ ((n : ℕ) → (t : Term) → (x : Name) → (y : Name) → (e : Term) → (v : Term) → (w : Term) → Pairing (now (s .entry)) at middle past a b nodes length n t x y e v w → Contracts (now (s .entry)) at n length t rule (some (subst x v e)) (subst y w (subst x v e)) (now (made .exit)) c) ⌝ }
 {
+    let mut half = [0u8; 4096];
     let body = b.end;
     let found = find_in(s, body, at + 2, middle, places);
     let end = found.end;
@@ -149,7 +149,7 @@ fn one_by_one(
         nodes,
         length - (end - at),
         places,
-        half,
+        &mut half,
         made,
     );
     told(rule, end, put)
@@ -168,11 +168,10 @@ pub fn both(
     nodes: usize,
     length: usize,
     places: &mut [u8],
-    half: &mut [u8],
     made: &mut [u8],
 ) -> Contracted
     requires { ⌜ ((n : ℕ) × (t : Term) × (x : Name) × (y : Name) × (e : Term) × (v : Term) × (w : Term) × Pairing (now s) at middle past a b nodes length n t x y e v w) ⌝ }
-    requires { ⌜ Room (now places) × Room (now half) × Room (now made) ⌝ }
+    requires { ⌜ Room (now places) × Room (now made) ⌝ }
     ensures { λ c. ⌜ ((n : ℕ) → (t : Term) → (x : Name) → (y : Name) → (e : Term) → (v : Term) → (w : Term) → Pairing (now (s .entry)) at middle past a b nodes length n t x y e v w → Contracts (now (s .entry)) at n length t rule (some (subst x v e)) (subst y w (subst x v e)) (now (made .exit)) c) ⌝ }
 {
     let body = b.end;
@@ -194,20 +193,7 @@ pub fn both(
         made,
     );
     if joined.size == 0 {
-        return one_by_one(
-            s,
-            at,
-            rule,
-            middle,
-            past,
-            a,
-            b,
-            nodes,
-            length,
-            places,
-            half,
-            made,
-        );
+        return one_by_one(s, at, rule, middle, past, a, b, nodes, length, places, made);
     }
     Contracted::Made {
         rule,

@@ -15,13 +15,14 @@ use Rattle.rules.specs.Free.{occurrences}
 use Rattle.laws.specs.SubstSize.{occurrences-bytes}
 use Rattle.runs.specs.Wrote.{Wrote}
 use Rattle.runs.specs.Writing.{chain, wrote-none, wrote-length}
-use Rattle.walk.specs.Node.{head, encodeAll, hides, hidden}
+use Rattle.walk.specs.Node.{encodeAll, hidden}
 use Rattle.walk.specs.Place.{TermAt, TermsAt}
 use Rattle.walk.specs.Seen.{Seen}
 use Rattle.walk.specs.declared.Node.{Node}
-use Rattle.walk.proofs.Terms.{Some, SkipIs, skip-one, apart-size, at-inside, at-end, at-parts, first, others, some-first}
+use Rattle.walk.proofs.Terms.{Some, SkipIs, skip-one, apart-size, at-inside, at-end, first, others, some-first}
 use Rattle.places.specs.Places.{places, placesAll, kept}
-use Rattle.places.proofs.Shapes.{var-size, var-parts, var-places, node-places, places-many}
+use Rattle.places.proofs.Shapes.{var-places, places-many}
+use Rattle.places.proofs.Nodes as nodes
 
 -- ---- what is kept
 
@@ -127,23 +128,17 @@ module _ {s : Bytes} {at n mask : ℕ} {x : Name} {out₀ : Bytes} {to : ℕ} {o
 
       module _ (hit : node .is ≡ true) where
         pub hit-end : (t : Term) → TermAt s i t → node .start ≡ i + size t
-        hit-end t w = bare-end t w (var-parts x t (sym (f t w .is) ∙ hit))
+        hit-end t w = nodes.hit-end s x i node t w (f t w) hit
 
         pub hit-further : (i + 2 ≤ node .start) × (node .start ≤ length s)
-        hit-further =
-            let a = here in
-            let e = var-size x (a .0) (sym (f (a .0) (a .1) .is) ∙ hit) in
-            (omega (arith, hit-end (a .0) (a .1)), further (node .start) hit-end .1)
+        hit-further = let a = here in nodes.hit-far s x i node (a .0) (a .1) (f (a .0) (a .1)) hit
 
         pub hit-turn : (out₁ : Bytes) (o₁ : ℕ) → Wrote out o (low-high i) out₁ o₁ → Going s at n mask x out₀ to out₁ (node .start) (left - 1) (hide / 2) o₁
         hit-turn out₁ o₁ w = turn (node .start) hit-end out₁ o₁ (λ t u. rw (open-first t, var-places x t i (sym (f t u .is) ∙ hit)) w)
 
       module _ (miss : node .is ≡ false) where
         pub seen-places : (t : Term) → TermAt s i t → places x t i ≡ placesAll x (node .hides) (parts t) (node .start)
-        seen-places t w =
-            node-places x t i (sym (f t w .is) ∙ miss)
-            ∙ ap (λ (m : ℕ). placesAll x m (parts t) (i + length (head t))) (sym (f t w .hides))
-            ∙ ap (λ (j : ℕ). placesAll x (node .hides) (parts t) j) (sym (f t w .start))
+        seen-places t w = nodes.seen-places s x i node t w (f t w) miss
 
         -- without parts
         module _ (none : node .parts ≡ 0) where
@@ -164,15 +159,13 @@ module _ {s : Bytes} {at n mask : ℕ} {x : Name} {out₀ : Bytes} {to : ℕ} {o
           bare-turn = turn (node .start) bare-ends out o (λ t u. rw (open-first t, seen-places t u, no-parts t u) (wrote-none out o))
 
         seen-parts : (t : Term) → TermAt s i t → TermsAt s (node .start) (node .parts) (parts t)
-        seen-parts t w = at-parts s i t w (node .start) (node .parts) (f t w .start) (f t w .parts)
+        seen-parts t w = nodes.seen-parts s x i node t w (f t w) miss
 
         pub some-parts : Some s (node .start) (node .parts)
         some-parts = let a = here in (parts (a .0), seen-parts (a .0) (a .1))
 
         pub parts-further : (i < node .start) × (node .start ≤ length s)
-        parts-further =
-            let a = here in
-            (omega (arith, f (a .0) (a .1) .start), omega (arith, f (a .0) (a .1) .start, apart-size (a .0), at-end s i (a .0) (a .1)))
+        parts-further = let a = here in nodes.start-far s x i node (a .0) (a .1) (f (a .0) (a .1))
 
         -- the last of the row
         module _ (last : left ≡ 1) where

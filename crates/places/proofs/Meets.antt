@@ -1,5 +1,5 @@
 -- A node by itself: it is the variable, it covers some of its parts, or its parts take its place. Assumes nothing.
-use Prim.Native.Nat.{ℕ, _+_, _-_, _<_, _≤_}
+use Prim.Native.Nat.{ℕ, _+_}
 use mathlib.Core.Path.{_≡_, refl, sym, ap, _∙_}
 use mathlib.Core.Bool.{true, false}
 use mathlib.Core.List.{List, [], _∷_, _++_, append-nil}
@@ -10,15 +10,16 @@ use Rattle.rules.specs.Name.{Name}
 use Rattle.rules.specs.Term.{Term, encode, size, parts}
 use Rattle.runs.specs.Wrote.{Wrote}
 use Rattle.runs.specs.Writing.{wrote-none}
-use Rattle.walk.specs.Node.{head, encodeAll, hides, isVar}
-use Rattle.walk.specs.Place.{TermAt, TermsAt}
+use Rattle.walk.specs.Node.{head}
+use Rattle.walk.specs.Place.{TermAt}
 use Rattle.walk.specs.Seen.{Seen}
 use Rattle.walk.specs.declared.Node.{Node}
-use Rattle.walk.proofs.Terms.{Some, apart, apart-size, at-end, at-parts}
+use Rattle.walk.proofs.Terms.{Some, apart, apart-size}
 use Rattle.places.specs.Places.{places, placesAll, kept}
 use Rattle.places.specs.Passed.{Passed}
 use Rattle.places.specs.Passing.{plain}
-use Rattle.places.proofs.Shapes.{var-size, var-parts, var-places, node-places}
+use Rattle.places.proofs.Shapes.{var-places}
+use Rattle.places.proofs.Nodes.{hit-var, hit-end, seen-places, seen-parts}
 use Rattle.places.proofs.Finds.{FindIs, kept-small}
 
 -- a term that is passed whole
@@ -38,41 +39,19 @@ passed-whole x t i out o m out₁ o₁ e w =
     }
 
 module _ (s : Bytes) (x : Name) (i : ℕ) (node : Node) (t : Term) (w : TermAt s i t) (f : Seen x i t node) where
-  pub start-far : (i < node .start) × (node .start ≤ length s)
-  start-far = (omega (arith, f .start), omega (arith, f .start, apart-size t, at-end s i t w))
-
   module _ (hit : node .is ≡ true) where
-    hit-var : isVar x t ≡ true
-    hit-var = sym (f .is) ∙ hit
-
-    hit-end : node .start ≡ i + size t
-    hit-end = omega (arith, f .start, apart-size t, ap (λ (z : List Term). length (encodeAll z)) (var-parts x t hit-var))
-
-    -- there is room for its place
-    pub hit-far : (i + 2 ≤ node .start) × (node .start ≤ length s)
-    hit-far = (omega (arith, hit-end, var-size x t hit-var), start-far .1)
-
     pub hit-passed : (out : Bytes) (o : ℕ) (out₁ : Bytes) (o₁ : ℕ) → Wrote out o (low-high i) out₁ o₁ → Passed x t i out o (node .start) 0 out₁ o₁
-    hit-passed out o out₁ o₁ k = passed-whole x t i out o (node .start) out₁ o₁ hit-end (rw (var-places x t i hit-var) k)
+    hit-passed out o out₁ o₁ k = passed-whole x t i out o (node .start) out₁ o₁ (hit-end s x i node t w f hit) (rw (var-places x t i (hit-var s x i node t w f hit)) k)
 
   module _ (miss : node .is ≡ false) where
-    seen-places : places x t i ≡ placesAll x (node .hides) (parts t) (node .start)
-    seen-places =
-        node-places x t i (sym (f .is) ∙ miss)
-        ∙ ap (λ (m : ℕ). placesAll x m (parts t) (i + length (head t))) (sym (f .hides))
-        ∙ ap (λ (j : ℕ). placesAll x (node .hides) (parts t) j) (sym (f .start))
-
-    seen-parts : TermsAt s (node .start) (node .parts) (parts t)
-    seen-parts = at-parts s i t w (node .start) (node .parts) (f .start) (f .parts)
-
     pub parts-there : Some s (node .start) (node .parts)
-    parts-there = (parts t, seen-parts)
+    parts-there = (parts t, seen-parts s x i node t w f miss)
 
     -- a binder of the name, whose parts were walked
     pub deep-passed : (out : Bytes) (o m : ℕ) (out₁ : Bytes) (o₁ : ℕ) → FindIs s (node .start) (node .parts) (node .hides) x out o m o₁ out₁ → Passed x t i out o m 0 out₁ o₁
     deep-passed out o m out₁ o₁ k =
-        let r = k (parts t) seen-parts in
-        passed-whole x t i out o m out₁ o₁ (omega (arith, r .0, f .start, apart-size t)) (rw seen-places (r .1))
+        let r = k (parts t) (seen-parts s x i node t w f miss) in
+        passed-whole x t i out o m out₁ o₁ (omega (arith, r .0, f .start, apart-size t)) (rw (seen-places s x i node t w f miss) (r .1))
 
     -- neither the variable nor a binder of it
     pub plain-passed : node .hides ≡ 0 → (out : Bytes) (o : ℕ) → Passed x t i out o (node .start) (node .parts) out o
@@ -87,7 +66,7 @@ module _ (s : Bytes) (x : Name) (i : ℕ) (node : Node) (t : Term) (w : TermAt s
           found = [];
           small = omega arith;
           wrote = wrote-none out o;
-          all = seen-places ∙ ap (λ (m : ℕ). placesAll x m (parts t) (node .start)) clear;
+          all = seen-places s x i node t w f miss ∙ ap (λ (m : ℕ). placesAll x m (parts t) (node .start)) clear;
         }
 
 -- a node that was passed by the last bytes of its names

@@ -48,8 +48,8 @@ module _ {term : Bytes} {n : ℕ} {out : Bytes} {t : Term} (d : Reads term n out
     settled e h = rests none-done (f .ends e) h
 
 -- the arrays in which a contraction works
-pub room-made : Room (replicate 4096 0) (replicate 4096 0) (replicate 4096 0)
-room-made = record { places-room = long; half-room = long; made-room = long }
+pub room-made : Room (replicate 4096 0) (replicate 4096 0)
+room-made = record { places-room = long; made-room = long }
   where
     long : 4096 ≤ length (replicate {A = ℕ} 4096 0)
     long = omega (arith, length-replicate {A = ℕ} 4096 0)

@@ -39,9 +39,8 @@ pub record AtRedex (limit : ℕ) (t : Term) (out scratch stack : List ℕ) (g : 
   pub small : limit ≤ 4294967295
 
 -- room to contract in
-pub record Room (places half made : Bytes) : Type 0 where
+pub record Room (places made : Bytes) : Type 0 where
   pub places-room : outputRoom limits ≤ length places
-  pub half-room : outputRoom limits ≤ length half
   pub made-room : outputRoom limits ≤ length made
 
 -- the last term that fitted

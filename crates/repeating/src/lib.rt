@@ -25,15 +25,14 @@ fn go_on(
     scratch: &mut [u8],
     stack: &mut [u16],
     places: &mut [u8],
-    half: &mut [u8],
     made: &mut [u8],
 ) -> Repeated
-    requires { ⌜ ((t : Term) × Stands limit t (now out) (now scratch) (now stack) from) × Room (now places) (now half) (now made) ⌝ }
+    requires { ⌜ ((t : Term) × Stands limit t (now out) (now scratch) (now stack) from) × Room (now places) (now made) ⌝ }
     ensures { λ r. ⌜ ((t : Term) → Stands limit t (now (out .entry)) (now (scratch .entry)) (now (stack .entry)) from → Repeats (reduce limits limit t) (now (out .exit)) r) ⌝ }
 {
     let mut course = from;
     loop {
-        match turn(course, limit, out, scratch, stack, places, half, made) {
+        match turn(course, limit, out, scratch, stack, places, made) {
             Turned::Ended(repeated) => {
                 return repeated;
             }
@@ -56,18 +55,8 @@ fn with_room(
     ensures { λ r. ⌜ ((t : Term) → Stands limit t (now (out .entry)) (now (scratch .entry)) (now (stack .entry)) from → Repeats (reduce limits limit t) (now (out .exit)) r) ⌝ }
 {
     let mut places = [0u8; 4096];
-    let mut half = [0u8; 4096];
     let mut made = [0u8; 4096];
-    go_on(
-        from,
-        limit,
-        out,
-        scratch,
-        stack,
-        &mut places,
-        &mut half,
-        &mut made,
-    )
+    go_on(from, limit, out, scratch, stack, &mut places, &mut made)
 }
 
 // Reduces a term that was read. Room to contract is made only where there is a redex.

@@ -27,17 +27,16 @@ fn contract(
     scratch: &mut [u8],
     stack: &[u16],
     places: &mut [u8],
-    half: &mut [u8],
     made: &mut [u8],
 ) -> Turned
-    requires { ⌜ ((limit : ℕ) × (t : Term) × AtRedex limit t (now out) (now scratch) (now stack) course place) × Room (now places) (now half) (now made) ⌝ }
+    requires { ⌜ ((limit : ℕ) × (t : Term) × AtRedex limit t (now out) (now scratch) (now stack) course place) × Room (now places) (now made) ⌝ }
     ensures { λ r. ⌜ ((limit : ℕ) (t : Term) → AtRedex limit t (now (out .entry)) (now (scratch .entry)) (now (stack .entry)) course place → Turns limit t (course .steps) (now (out .exit)) (now (scratch .exit)) (now (stack .entry)) r) ⌝ }
 {
     let o = place.o;
     let i = place.i;
     let depth = place.depth;
     let nodes = course.nodes;
-    match fire(out, o, scratch, i, stack, depth, nodes, places, half, made) {
+    match fire(out, o, scratch, i, stack, depth, nodes, places, made) {
         Fired::Outgrown => Turned::Ended(Repeated::Outgrown {
             steps: course.steps,
             length: runs::copy(scratch, i, scratch.len(), out, o),
@@ -58,10 +57,9 @@ pub fn turn(
     scratch: &mut [u8],
     stack: &mut [u16],
     places: &mut [u8],
-    half: &mut [u8],
     made: &mut [u8],
 ) -> Turned
-    requires { ⌜ ((t : Term) × Stands limit t (now out) (now scratch) (now stack) course) × Room (now places) (now half) (now made) ⌝ }
+    requires { ⌜ ((t : Term) × Stands limit t (now out) (now scratch) (now stack) course) × Room (now places) (now made) ⌝ }
     ensures { λ r. ⌜ ((t : Term) → Stands limit t (now (out .entry)) (now (scratch .entry)) (now (stack .entry)) course → Turns limit t (course .steps) (now (out .exit)) (now (scratch .exit)) (now (stack .exit)) r) ⌝ }
 {
     let from = course.at;
@@ -76,5 +74,5 @@ pub fn turn(
         let length = runs::copy(scratch, place.i, scratch.len(), out, o);
         return Turned::Ended(cut_short(steps, counts, length));
     }
-    contract(course, place, out, scratch, stack, places, half, made)
+    contract(course, place, out, scratch, stack, places, made)
 }

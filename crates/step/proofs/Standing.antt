@@ -57,9 +57,9 @@ module _ {src : Bytes} {n place : ℕ} {out : Bytes} {f : Term → Term} {t : Te
   long : length src ≡ place + (size t + length right)
   long = ap (λ (z : Bytes). length z) bytes ∙ omega (arith, length-append left (encode t ++ right), length-append (encode t) right, j .frame .long)
 
-  pub job : {places half work : Bytes} → 4096 ≤ length places → 4096 ≤ length half → 4096 ≤ length work
-      → contracting.Contracting src place n (length src) places half work t (j .rule) h u
-  job a b c =
+  pub job : {places work : Bytes} → 4096 ≤ length places → 4096 ≤ length work
+      → contracting.Contracting src place n (length src) places work t (j .rule) h u
+  job a c =
       let w = within (f t) (j .fits) in
       record {
         redex =
@@ -73,7 +73,6 @@ module _ {src : Bytes} {n place : ℕ} {out : Bytes} {f : Term → Term} {t : Te
             };
         contracts = j .contracts;
         places-room = a;
-        half-room = b;
         made-room = c;
       }
 

@@ -29,8 +29,7 @@ fn contract_at(src: &[u8], nodes: usize, place: usize, out: &mut [u8], work: &mu
     ensures { λ r. ⌜ ((f : Term → Term) → (t : Term) → Contracting (now (src .entry)) nodes place (now (out .entry)) f t → Takes (contracted place f t) (now (out .entry)) (now (out .exit)) r) ⌝ }
 {
     let mut places = [0u8; 4096];
-    let mut half = [0u8; 4096];
-    match contract(src, place, nodes, src.len(), &mut places, &mut half, work) {
+    match contract(src, place, nodes, src.len(), &mut places, work) {
         Contracted::Outgrown => Taken::Outgrown,
         Contracted::Made {
             rule,

@@ -6,11 +6,11 @@ use Rattle.contracting.proofs.contract.Statement.{statement}
 use Rattle.contracting.proofs.contract.Tie as tie
 
 shared-slice-read-tag : tie.Need-shared-slice-read-tag
-shared-slice-read-tag c = redex-inside (c .before .before .before .before .before .pre .4)
+shared-slice-read-tag c = redex-inside (c .before .before .before .before .pre .4)
 
 apply-requires : tie.Need-apply-requires
 apply-requires c κs =
-    let j = c .before .before .before .before .before .before .before .before .pre .4 in
+    let j = c .before .before .before .before .before .before .before .pre .4 in
     let p = as-app j (c .before .before .if1 .taken) in
     ((p .0, p .1, p .2, rw (p .3) at (j .redex)), (j .places-room, j .made-room))
 
@@ -27,9 +27,9 @@ returns c t r h u j =
 
 let-pair-requires : tie.Need-let-pair-requires
 let-pair-requires c κs =
-    let j = c .before .before .before .before .before .before .before .before .before .before .pre .4 in
-    let p = as-let j (c .before .before .before .if2 .taken) in
-    ((p .0, p .1, p .2, p .3, p .4, rw (p .5) at (j .redex)), (j .places-room, j .half-room, j .made-room))
+    let j = c .before .before .before .before .before .before .before .before .pre .4 in
+    let p = as-let j (c .before .before .if2 .taken) in
+    ((p .0, p .1, p .2, p .3, p .4, rw (p .5) at (j .redex)), (j .places-room, j .made-room))
 
 same-length-3 : tie.Need-same-length-3
 same-length-3 c = search needs
@@ -37,25 +37,22 @@ same-length-3 c = search needs
 same-length-4 : tie.Need-same-length-4
 same-length-4 c = search needs
 
-same-length-5 : tie.Need-same-length-5
-same-length-5 c = search needs
-
 returns-2 : tie.Need-returns-2
 returns-2 c t r h u j =
-    let p = as-let j (c .before .before .before .before .before .before .before .before .before .before .if2 .taken) in
-    answers j (p .5) (let-is (p .0) (p .1) (p .2) (p .3) (p .4)) (c .before .before .before .before .before .before .let-pair .ensures (p .0) (p .1) (p .2) (p .3) (p .4) (rw (p .5) at (j .redex)))
+    let p = as-let j (c .before .before .before .before .before .before .before .if2 .taken) in
+    answers j (p .5) (let-is (p .0) (p .1) (p .2) (p .3) (p .4)) (c .before .before .before .before .let-pair .ensures (p .0) (p .1) (p .2) (p .3) (p .4) (rw (p .5) at (j .redex)))
 
 branch-requires : tie.Need-branch-requires
 branch-requires c κs =
-    let j = c .before .before .before .before .before .before .before .before .before .before .pre .4 in
+    let j = c .before .before .before .before .before .before .before .before .before .pre .4 in
     let p = as-case j (c .before .before .if3 .taken) in
     ((p .0, p .1, p .2, p .3, p .4, p .5, rw (p .6) at (j .redex)), (j .places-room, j .made-room))
 
+same-length-5 : tie.Need-same-length-5
+same-length-5 c = search needs
+
 same-length-6 : tie.Need-same-length-6
 same-length-6 c = search needs
-
-same-length-7 : tie.Need-same-length-7
-same-length-7 c = search needs
 
 returns-3 : tie.Need-returns-3
 returns-3 c t r h u j =
@@ -64,12 +61,12 @@ returns-3 c t r h u j =
 
 first-requires : tie.Need-first-requires
 first-requires c κs =
-    let j = c .before .before .before .before .before .before .before .before .before .before .pre .4 in
+    let j = c .before .before .before .before .before .before .before .before .before .pre .4 in
     let p = as-fst j (c .before .if4 .taken) in
     ((_, p .0, p .1, rw (p .2) at (j .redex)), j .made-room)
 
-same-length-8 : tie.Need-same-length-8
-same-length-8 c = search needs
+same-length-7 : tie.Need-same-length-7
+same-length-7 c = search needs
 
 returns-4 : tie.Need-returns-4
 returns-4 c t r h u j =
@@ -78,7 +75,7 @@ returns-4 c t r h u j =
 
 second-requires : tie.Need-second-requires
 second-requires c κs =
-    let j = c .before .before .before .before .before .before .before .before .before .before .pre .4 in
+    let j = c .before .before .before .before .before .before .before .before .before .pre .4 in
     let p = as-snd j (c .if5 .taken) in
     (_, p .0, p .1, rw (p .2) at (j .redex))
 
@@ -89,7 +86,7 @@ returns-5 c t r h u j =
 
 derelict-requires : tie.Need-derelict-requires
 derelict-requires c κs =
-    let j = c .before .before .before .before .before .before .before .before .before .before .before .pre .4 in
+    let j = c .before .before .before .before .before .before .before .before .before .before .pre .4 in
     let p = as-derelict j (c .if6 .taken) in
     (_, p .0, rw (p .1) at (j .redex))
 
@@ -100,27 +97,24 @@ returns-6 c t r h u j =
 
 copy-requires : tie.Need-copy-requires
 copy-requires c κs =
-    let j = c .before .before .before .before .before .before .before .before .before .before .before .before .before .before .before .pre .4 in
-    let p = as-copy j (c .before .before .before .if7 .taken) in
-    ((p .0, p .1, p .2, p .3, rw (p .4) at (j .redex)), (j .places-room, j .half-room, j .made-room))
+    let j = c .before .before .before .before .before .before .before .before .before .before .before .before .before .pre .4 in
+    let p = as-copy j (c .before .before .if7 .taken) in
+    ((p .0, p .1, p .2, p .3, rw (p .4) at (j .redex)), (j .places-room, j .made-room))
+
+same-length-8 : tie.Need-same-length-8
+same-length-8 c = search needs
 
 same-length-9 : tie.Need-same-length-9
 same-length-9 c = search needs
 
-same-length-10 : tie.Need-same-length-10
-same-length-10 c = search needs
-
-same-length-11 : tie.Need-same-length-11
-same-length-11 c = search needs
-
 returns-7 : tie.Need-returns-7
 returns-7 c t r h u j =
-    let p = as-copy j (c .before .before .before .before .before .before .before .before .before .before .if7 .taken) in
-    answers j (p .4) (copy-is (p .0) (p .1) (p .2) (p .3)) (c .before .before .before .before .before .before .copy .ensures (p .0) (p .1) (p .2) (p .3) (rw (p .4) at (j .redex)))
+    let p = as-copy j (c .before .before .before .before .before .before .before .if7 .taken) in
+    answers j (p .4) (copy-is (p .0) (p .1) (p .2) (p .3)) (c .before .before .before .before .copy .ensures (p .0) (p .1) (p .2) (p .3) (rw (p .4) at (j .redex)))
 
 discard-requires : tie.Need-discard-requires
 discard-requires c κs =
-    let j = c .before .before .before .before .before .before .before .before .before .before .before .before .pre .4 in
+    let j = c .before .before .before .before .before .before .before .before .before .before .before .pre .4 in
     let p = as-discard j (c .before .before .before .before .before .before .if1 .left) (c .before .before .before .before .before .if2 .left) (c .before .before .before .before .if3 .left) (c .before .before .before .if4 .left) (c .before .before .if5 .left) (c .before .if6 .left) (c .if7 .left) in
     (_, p .0, p .1, rw (p .2) at (j .redex))
 
@@ -141,23 +135,21 @@ contract-spec =
     let-pair-requires
     same-length-3
     same-length-4
-    same-length-5
     returns-2
     branch-requires
+    same-length-5
     same-length-6
-    same-length-7
     returns-3
     first-requires
-    same-length-8
+    same-length-7
     returns-4
     second-requires
     returns-5
     derelict-requires
     returns-6
     copy-requires
+    same-length-8
     same-length-9
-    same-length-10
-    same-length-11
     returns-7
     discard-requires
     returns-8)

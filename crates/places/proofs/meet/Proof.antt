@@ -1,6 +1,7 @@
 -- `places::meet` meets its contract: by what one look at the node tells. Assumes nothing.
 use native.Mathlib.Omega.{arith}
-use Rattle.places.proofs.Meets.{start-far, hit-far, hit-passed, parts-there, plain-passed, deep-passed}
+use Rattle.places.proofs.Nodes.{start-far, hit-far}
+use Rattle.places.proofs.Meets.{hit-passed, parts-there, plain-passed, deep-passed}
 use borrow.Author.Needs.{needs}
 use Rattle.places.proofs.meet.Statement.{statement}
 use Rattle.places.proofs.meet.Tie as tie
