@@ -16,6 +16,7 @@ use parts::Part;
 use parts::find_in;
 use parts::put_here;
 use rules::Rule;
+use sides::is_left;
 use spans::Extent;
 use spans::Names;
 use spans::span;
@@ -118,7 +119,7 @@ pub fn branch(
     let names = span_names(s, at + 1);
     let scrutinee = names.end;
     let value = span(s, scrutinee + 1);
-    if s[scrutinee] == 7 {
+    if is_left(s[scrutinee]) {
         return left(s, at, names, value, nodes, length, places, made);
     }
     right(s, at, names, value, nodes, length, places, made)

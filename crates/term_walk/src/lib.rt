@@ -21,7 +21,8 @@ use phrases::one_part;
 use phrases::past_names;
 use phrases::right_name;
 use phrases::sign;
-use second_part::second_part;
+use turns::second_part;
+use turns::with_own;
 use words::byte;
 use words::closed;
 
@@ -130,7 +131,7 @@ pub fn walk(s: &[u8], at: usize, out: &mut [u8], to: usize) -> usize
         match tag {
             1 => return last_name(s, x, out, o, brackets),
             3 | 6 => {
-                brackets += 1;
+                brackets = with_own(brackets);
                 if s[x] == 1 {
                     let y = i + 2;
                     i = past(s, y);

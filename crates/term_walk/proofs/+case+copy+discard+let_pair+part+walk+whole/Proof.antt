@@ -30,7 +30,7 @@ use Rattle.term_walk.proofs.+case+copy+discard+let_pair+part+walk+whole
 use Rattle.term_walk.proofs.+case+copy+discard+let_pair+part+walk+whole.Proof.Discard.{discard-discard-words-requires, discard-second-part-requires, discard-part-requires, discard-same-length, discard-returns}
 use Rattle.term_walk.proofs.+case+copy+discard+let_pair+part+walk+whole.Proof.LetPair.{let-pair-add-x, let-pair-let-names-requires, let-pair-past-names-requires, let-pair-part-requires, let-pair-in-word-requires, let-pair-part-requires-2, let-pair-same-length, let-pair-returns}
 use Rattle.term_walk.proofs.+case+copy+discard+let_pair+part+walk+whole.Proof.Part.{part-Inv-loop, part-μ-loop, part-loop-holds, part-shared-slice-read-tag, part-add-x, part-walk-requires, part-same-length, part-returns, part-past-requires, part-bound-name-requires, part-loop-less, part-loop-again, part-one-part-requires, part-sign-requires, part-loop-less-2, part-loop-again-2, part-whole-requires, part-same-length-2, part-returns-2}
-use Rattle.term_walk.proofs.+case+copy+discard+let_pair+part+walk+whole.Proof.Walk.{walk-Inv-loop, walk-μ-loop, walk-loop-holds, walk-shared-slice-read-tag, walk-add-x, walk-last-name-requires, walk-same-length, walk-returns, walk-add-brackets, walk-shared-slice-read-if1, walk-add-y, walk-past-requires, walk-first-name-requires, walk-loop-less, walk-loop-again, walk-byte-requires, walk-walk-requires, walk-between-requires, walk-loop-less-2, walk-loop-again-2, walk-past-requires-2, walk-bound-name-requires, walk-loop-less-3, walk-loop-again-3, walk-part-requires, walk-closed-requires, walk-same-length-2, walk-returns-2}
+use Rattle.term_walk.proofs.+case+copy+discard+let_pair+part+walk+whole.Proof.Walk.{walk-Inv-loop, walk-μ-loop, walk-loop-holds, walk-shared-slice-read-tag, walk-add-x, walk-last-name-requires, walk-same-length, walk-returns, walk-with-own-requires, walk-shared-slice-read-if1, walk-add-y, walk-past-requires, walk-first-name-requires, walk-loop-less, walk-loop-again, walk-byte-requires, walk-walk-requires, walk-between-requires, walk-loop-less-2, walk-loop-again-2, walk-past-requires-2, walk-bound-name-requires, walk-loop-less-3, walk-loop-again-3, walk-part-requires, walk-closed-requires, walk-same-length-2, walk-returns-2}
 use Rattle.term_walk.proofs.+case+copy+discard+let_pair+part+walk+whole.Proof.Whole.{whole-shared-slice-read-match, whole-leaf-requires, whole-let-pair-requires, whole-case-requires, whole-discard-requires, whole-copy-requires, whole-same-length, whole-returns, whole-same-length-2, whole-returns-2, whole-same-length-3, whole-returns-3, whole-same-length-4, whole-returns-4, whole-same-length-5, whole-returns-5}
 
 pub +case+copy+discard+let-pair+part+walk+whole-spec : {M : Type 1} → statement M
@@ -107,7 +107,7 @@ pub +case+copy+discard+let-pair+part+walk+whole-spec : {M : Type 1} → statemen
     (walk-last-name-requires t)
     (walk-same-length t)
     (walk-returns t)
-    (walk-add-brackets t)
+    (walk-with-own-requires t)
     (walk-shared-slice-read-if1 t)
     (walk-add-y t)
     (walk-past-requires t)

@@ -44,7 +44,8 @@ use Rattle.phrases.proofs.one_part.Reads as one-part-reads
 use Rattle.phrases.proofs.past_names.Reads as past-names-reads
 use Rattle.phrases.proofs.right_name.Reads as right-name-reads
 use Rattle.phrases.proofs.sign.Reads as sign-reads
-use Rattle.second_part.proofs.second_part.Reads as second-part-reads
+use Rattle.turns.proofs.second_part.Reads as second-part-reads
+use Rattle.turns.proofs.with_own.Reads as with-own-reads
 use Rattle.words.proofs.byte.Reads as byte-reads
 use Rattle.words.proofs.closed.Reads as closed-reads
 
@@ -128,7 +129,7 @@ abbrev pub part-claims : ℕ → part-lts.Claims
 part-claims t = (walk-below t, walk.Post, past-reads.Asked, past-reads.Learnt, bound-name-reads.Asked, bound-name-reads.Learnt, one-part-reads.Asked, one-part-reads.Learnt, sign-reads.Asked, sign-reads.Learnt, whole-below t, whole.Post)
 
 abbrev pub walk-claims : ℕ → walk-lts.Claims
-walk-claims t = (last-name-reads.Asked, last-name-reads.Learnt, past-reads.Asked, past-reads.Learnt, first-name-reads.Asked, first-name-reads.Learnt, byte-reads.Asked, byte-reads.Learnt, walk-below t, walk.Post, between-reads.Asked, between-reads.Learnt, bound-name-reads.Asked, bound-name-reads.Learnt, part-below t, part.Post, closed-reads.Asked, closed-reads.Learnt)
+walk-claims t = (last-name-reads.Asked, last-name-reads.Learnt, with-own-reads.Asked, with-own-reads.Learnt, past-reads.Asked, past-reads.Learnt, first-name-reads.Asked, first-name-reads.Learnt, byte-reads.Asked, byte-reads.Learnt, walk-below t, walk.Post, between-reads.Asked, between-reads.Learnt, bound-name-reads.Asked, bound-name-reads.Learnt, part-below t, part.Post, closed-reads.Asked, closed-reads.Learnt)
 
 abbrev pub whole-claims : ℕ → whole-lts.Claims
 whole-claims t = (leaf-reads.Asked, leaf-reads.Learnt, let-pair-below t, let-pair.Post, case-below t, case.Post, discard-below t, discard.Post, copy-below t, copy.Post)

@@ -44,74 +44,74 @@ walk-same-length t c = c .before .before .last-name .kept .1 .1 .0 ∙ c .before
 pub walk-returns : (t : ℕ) → walk-lts.Need-returns (walk-claims t) (walk-at t) walk.Post walk-Inv-loop walk-μ-loop
 walk-returns t c T w = name-ends (c .before .before .before .before .before .before .loop .inv .on T w) (c .before .before .before .before .match .keys1) (c .before .before .last-name .ensures)
 
-pub walk-add-brackets : (t : ℕ) → walk-lts.Need-add-brackets (walk-claims t) (walk-at t) walk.Post walk-Inv-loop walk-μ-loop
-walk-add-brackets t c =
+pub walk-with-own-requires : (t : ℕ) → walk-lts.Need-with-own-requires (walk-claims t) (walk-at t) walk.Post walk-Inv-loop walk-μ-loop
+walk-with-own-requires t c κs =
     let w = c .before .before .before .before .before .pre .1 in
     let n = c .before .before .loop .inv .on (w .0) (w .1) in
-    omega (arith, few-brackets n)
+    few-brackets n
 
 pub walk-shared-slice-read-if1 : (t : ℕ) → walk-lts.Need-shared-slice-read-if1 (walk-claims t) (walk-at t) walk.Post walk-Inv-loop walk-μ-loop
 walk-shared-slice-read-if1 t c =
-    let w = c .before .before .before .before .before .before .pre .1 in
-    let n = c .before .before .before .loop .inv .on (w .0) (w .1) in
-    first-begun n (c .before .match .keys2)
+    let w = c .before .before .before .before .before .before .before .pre .1 in
+    let n = c .before .before .before .before .loop .inv .on (w .0) (w .1) in
+    first-begun n (c .before .before .match .keys2)
 
 pub walk-add-y : (t : ℕ) → walk-lts.Need-add-y (walk-claims t) (walk-at t) walk.Post walk-Inv-loop walk-μ-loop
 walk-add-y t c =
-    let w = c .before .before .before .before .before .before .before .pre .1 in
-    let n = c .before .before .before .before .loop .inv .on (w .0) (w .1) in
-    omega (arith, first-begun n (c .before .before .match .keys2))
+    let w = c .before .before .before .before .before .before .before .before .pre .1 in
+    let n = c .before .before .before .before .before .loop .inv .on (w .0) (w .1) in
+    omega (arith, first-begun n (c .before .before .before .match .keys2))
 
 pub walk-past-requires : (t : ℕ) → walk-lts.Need-past-requires (walk-claims t) (walk-at t) walk.Post walk-Inv-loop walk-μ-loop
 walk-past-requires t c κs =
-    let w = c .before .before .before .before .before .before .before .pre .1 in
-    let n = c .before .before .before .before .loop .inv .on (w .0) (w .1) in
-    first-here n (c .before .before .match .keys2) (c .if1 .taken) .0 .fits
+    let w = c .before .before .before .before .before .before .before .before .pre .1 in
+    let n = c .before .before .before .before .before .loop .inv .on (w .0) (w .1) in
+    first-here n (c .before .before .before .match .keys2) (c .if1 .taken) .0 .fits
 
 pub walk-first-name-requires : (t : ℕ) → walk-lts.Need-first-name-requires (walk-claims t) (walk-at t) walk.Post walk-Inv-loop walk-μ-loop
 walk-first-name-requires t c κs =
-    let w = c .before .before .before .before .before .before .before .before .before .pre .1 in
-    let n = c .before .before .before .before .before .before .loop .inv .on (w .0) (w .1) in
-    first-here n (c .before .before .before .before .match .keys2) (c .before .before .if1 .taken)
+    let w = c .before .before .before .before .before .before .before .before .before .before .pre .1 in
+    let n = c .before .before .before .before .before .before .before .loop .inv .on (w .0) (w .1) in
+    first-here n (c .before .before .before .before .before .match .keys2) (c .before .before .if1 .taken)
 
 pub walk-loop-less : (t : ℕ) → walk-lts.Need-loop-less (walk-claims t) (walk-at t) walk.Post walk-Inv-loop walk-μ-loop
 walk-loop-less t c =
-    let w = c .before .before .before .before .before .before .before .before .before .before .before .before .pre .1 in
-    let n = c .before .before .before .before .before .before .before .before .before .loop .inv .on (w .0) (w .1) in
+    let w = c .before .before .before .before .before .before .before .before .before .before .before .before .before .pre .1 in
+    let n = c .before .before .before .before .before .before .before .before .before .before .loop .inv .on (w .0) (w .1) in
     omega (arith, on-begun n, c .before .before .before .before .past .ensures)
 
 pub walk-loop-again : (t : ℕ) → walk-lts.Need-loop-again (walk-claims t) (walk-at t) walk.Post walk-Inv-loop walk-μ-loop
-walk-loop-again t c = record { same = c .before .before .first-name .ensures .long ∙ c .before .before .before .before .before .before .before .before .before .loop .inv .same; past = omega (arith, c .before .before .before .before .before .before .before .before .before .loop .inv .past, c .before .before .before .before .past .ensures); on = λ T w. first-next (c .before .before .before .before .before .before .before .before .before .loop .inv .on T w) (c .before .before .before .before .before .before .before .match .keys2) (c .before .before .before .before .before .if1 .taken) (c .before .before .first-name .ensures) (c .before .before .before .before .past .ensures) }
+walk-loop-again t c = record { same = c .before .before .first-name .ensures .long ∙ c .before .before .before .before .before .before .before .before .before .before .loop .inv .same; past = omega (arith, c .before .before .before .before .before .before .before .before .before .before .loop .inv .past, c .before .before .before .before .past .ensures); on = λ T w. rw (c .before .before .before .before .before .before .before .with-own .ensures) (first-next (c .before .before .before .before .before .before .before .before .before .before .loop .inv .on T w) (c .before .before .before .before .before .before .before .before .match .keys2) (c .before .before .before .before .before .if1 .taken) (c .before .before .first-name .ensures) (c .before .before .before .before .past .ensures)) }
 
 pub walk-byte-requires : (t : ℕ) → walk-lts.Need-byte-requires (walk-claims t) (walk-at t) walk.Post walk-Inv-loop walk-μ-loop
 walk-byte-requires t c κs =
-    let w = c .before .before .before .before .before .before .before .before .pre .1 in
-    let n = c .before .before .before .before .before .loop .inv .on (w .0) (w .1) in
-    open-room n (c .before .before .before .match .keys2)
+    let w = c .before .before .before .before .before .before .before .before .before .pre .1 in
+    let n = c .before .before .before .before .before .before .loop .inv .on (w .0) (w .1) in
+    open-room n (c .before .before .before .before .match .keys2)
 
 pub walk-walk-requires : (t : ℕ) → walk-lts.Need-walk-requires (walk-claims t) (walk-at t) walk.Post walk-Inv-loop walk-μ-loop
 walk-walk-requires t c κs =
-    let w = c .before .before .before .before .before .before .before .before .before .before .before .before .pre .1 in
-    let n = c .before .before .before .before .before .before .before .before .before .loop .inv .on (w .0) (w .1) in
-    (omega (arith, c .before .before .before .before .before .before .before .before .before .before .before .before .pre .0, c .before .before .before .before .before .before .before .before .before .loop .inv .past, on-begun n, rank-most (getD (now (c .before .before .before .before .before .before .before .before .before .before .before .before .args .s)) (c .before .before .before .before .before .before .before .before .before .loop .i + 1) 0)), left-here n (c .before .before .before .before .before .before .before .match .keys2) (c .before .before .before .byte .ensures))
+    let w = c .before .before .before .before .before .before .before .before .before .before .before .before .before .pre .1 in
+    let n = c .before .before .before .before .before .before .before .before .before .before .loop .inv .on (w .0) (w .1) in
+    (omega (arith, c .before .before .before .before .before .before .before .before .before .before .before .before .before .pre .0, c .before .before .before .before .before .before .before .before .before .before .loop .inv .past, on-begun n, rank-most (getD (now (c .before .before .before .before .before .before .before .before .before .before .before .before .before .args .s)) (c .before .before .before .before .before .before .before .before .before .before .loop .i + 1) 0)), left-here n (c .before .before .before .before .before .before .before .before .match .keys2) (c .before .before .before .byte .ensures))
 
 pub walk-between-requires : (t : ℕ) → walk-lts.Need-between-requires (walk-claims t) (walk-at t) walk.Post walk-Inv-loop walk-μ-loop
 walk-between-requires t c κs =
-    let w = c .before .before .before .before .before .before .before .before .before .before .before .before .before .before .before .before .pre .1 in
-    let n = c .before .before .before .before .before .before .before .before .before .before .before .before .before .loop .inv .on (w .0) (w .1) in
-    left-room n (c .before .before .before .before .before .before .before .before .before .before .before .match .keys2) (c .before .before .before .before .before .before .before .byte .ensures) (c .before .before .before .walk .ensures)
+    let w = c .before .before .before .before .before .before .before .before .before .before .before .before .before .before .before .before .before .pre .1 in
+    let n = c .before .before .before .before .before .before .before .before .before .before .before .before .before .before .loop .inv .on (w .0) (w .1) in
+    left-room n (c .before .before .before .before .before .before .before .before .before .before .before .before .match .keys2) (c .before .before .before .before .before .before .before .byte .ensures) (c .before .before .before .walk .ensures)
 
 pub walk-loop-less-2 : (t : ℕ) → walk-lts.Need-loop-less-2 (walk-claims t) (walk-at t) walk.Post walk-Inv-loop walk-μ-loop
 walk-loop-less-2 t c =
-    let w = c .before .before .before .before .before .before .before .before .before .before .before .before .before .before .before .before .before .before .before .pre .1 in
-    let n = c .before .before .before .before .before .before .before .before .before .before .before .before .before .before .before .before .loop .inv .on (w .0) (w .1) in
-    omega (arith, on-begun n, left-further n (c .before .before .before .before .before .before .before .before .before .before .before .before .before .before .match .keys2) (c .before .before .before .before .before .before .before .before .before .before .byte .ensures) (c .before .before .before .before .before .before .walk .ensures))
+    let w = c .before .before .before .before .before .before .before .before .before .before .before .before .before .before .before .before .before .before .before .before .pre .1 in
+    let n = c .before .before .before .before .before .before .before .before .before .before .before .before .before .before .before .before .before .loop .inv .on (w .0) (w .1) in
+    omega (arith, on-begun n, left-further n (c .before .before .before .before .before .before .before .before .before .before .before .before .before .before .before .match .keys2) (c .before .before .before .before .before .before .before .before .before .before .byte .ensures) (c .before .before .before .before .before .before .walk .ensures))
 
 pub walk-loop-again-2 : (t : ℕ) → walk-lts.Need-loop-again-2 (walk-claims t) (walk-at t) walk.Post walk-Inv-loop walk-μ-loop
 walk-loop-again-2 t c =
-    let w = c .before .before .before .before .before .before .before .before .before .before .before .before .before .before .before .before .before .before .before .pre .1 in
-    let n = c .before .before .before .before .before .before .before .before .before .before .before .before .before .before .before .before .loop .inv .on (w .0) (w .1) in
-    record { same = c .before .before .between .ensures .long ∙ c .before .before .before .before .before .before .walk .kept .1 .1 .0 ∙ c .before .before .before .before .before .before .before .before .before .before .byte .ensures .long ∙ c .before .before .before .before .before .before .before .before .before .before .before .before .before .before .before .before .loop .inv .same; past = omega (arith, c .before .before .before .before .before .before .before .before .before .before .before .before .before .before .before .before .loop .inv .past, left-further n (c .before .before .before .before .before .before .before .before .before .before .before .before .before .before .match .keys2) (c .before .before .before .before .before .before .before .before .before .before .byte .ensures) (c .before .before .before .before .before .before .walk .ensures)); on = λ T y. left-next (c .before .before .before .before .before .before .before .before .before .before .before .before .before .before .before .before .loop .inv .on T y) (c .before .before .before .before .before .before .before .before .before .before .before .before .before .before .match .keys2) (c .before .before .before .before .before .before .before .before .before .before .byte .ensures) (c .before .before .before .before .before .before .walk .ensures) (c .before .before .between .ensures) }
+    let w = c .before .before .before .before .before .before .before .before .before .before .before .before .before .before .before .before .before .before .before .before .pre .1 in
+    let n = c .before .before .before .before .before .before .before .before .before .before .before .before .before .before .before .before .before .loop .inv .on (w .0) (w .1) in
+    record { same = c .before .before .between .ensures .long ∙ c .before .before .before .before .before .before .walk .kept .1 .1 .0 ∙ c .before .before .before .before .before .before .before .before .before .before .byte .ensures .long ∙ c .before .before .before .before .before .before .before .before .before .before .before .before .before .before .before .before .before .loop .inv .same; past = omega (arith, c .before .before .before .before .before .before .before .before .before .before .before .before .before .before .before .before .before .loop .inv .past, left-further n (c .before .before .before .before .before .before .before .before .before .before .before .before .before .before .before .match .keys2) (c .before .before .before .before .before .before .before .before .before .before .byte .ensures) (c .before .before .before .before .before .before .walk .ensures)); on = λ T y. rw (c .before .before .before .before .before .before .before .before .before .before .before .before .before .before .with-own .ensures) (left-next (c .before .before .before .before .before .before .before .before .before .before .before .before .before .before .before .before .before .loop .inv .on T y) (c .before .before .before .before .before .before .before .before .before .before .before .before .before .before .before .match .keys2) (c .before .before .before .before .before .before .before .before .before .before .byte .ensures) (c .before .before .before .before .before .before .walk .ensures) (c .before .before .between .ensures)) }
 
 pub walk-past-requires-2 : (t : ℕ) → walk-lts.Need-past-requires-2 (walk-claims t) (walk-at t) walk.Post walk-Inv-loop walk-μ-loop
 walk-past-requires-2 t c κs =

@@ -1,7 +1,7 @@
--- `second_part::second_part` meets its contract: by that of `skip`. Assumes nothing.
+-- `turns::second_part` meets its contract: by that of `skip`. Assumes nothing.
 use borrow.Author.Needs.{needs}
-use Rattle.second_part.proofs.second_part.Statement.{statement}
-use Rattle.second_part.proofs.second_part.Tie as tie
+use Rattle.turns.proofs.second_part.Statement.{statement}
+use Rattle.turns.proofs.second_part.Tie as tie
 
 add-skip : tie.Need-add-skip
 add-skip c = search needs

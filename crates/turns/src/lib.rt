@@ -1,4 +1,4 @@
-// Where the second part of a node without names stands.
+// Turns of the walk that prints a term: where the second part of a node without names stands, and one bracket more to come.
 ghost use mathlib.Core.Path.{_≡_};
 ghost use mathlib.Core.List.{List};
 ghost use Prim.Native.Nat.{_+_, _<_};
@@ -13,4 +13,12 @@ pub fn second_part(s: &[u8], at: usize) -> usize
     ensures { λ r. ⌜ ((ts : List Term) → TermsAt (now (s .entry)) (at + 1) 1 ts → r ≡ at + 1 + length (encodeAll ts)) ⌝ }
 {
     walk::skip(s, at + 1, 1)
+}
+
+// The brackets to come behind the last part of a pair or an application: its own is one more.
+pub fn with_own(brackets: usize) -> usize
+    requires { ⌜ brackets < 65536 ⌝ }
+    ensures { λ r. ⌜ r ≡ brackets + 1 ⌝ }
+{
+    brackets + 1
 }
