@@ -4,22 +4,22 @@ use native.Mathlib.Omega.{arith}
 use mathlib.Core.Path.{_≡_, refl, sym, ap, _∙_}
 use mathlib.Core.Bool.{false}
 use mathlib.Core.List.{List, [], _∷_}
-use mathlib.Core.Option.{none, some}
+use mathlib.Core.Option.{some}
 use lib.ListN.{length, getD, getElem?, drop}
 use Rattle.rules.specs.Basic.{Bytes}
 use Rattle.rules.specs.Name.{follows}
 use Rattle.rules.specs.Layout.{Layout, headAt}
-use Rattle.rules.specs.Reading.{times, name, node}
+use Rattle.rules.specs.Reading.{times, name}
 use Rattle.letters.specs.declared.Form.{Form}
 use Rattle.letters.specs.declared.Form.the-variants.{Term, Formula}
 use Rattle.letters.specs.declared.names.Skip.the-variants.{To}
-use Rattle.letters.specs.Form.{HeadOf, layoutOf}
+use Rattle.letters.specs.Form.{layoutOf}
 use Rattle.letters.specs.Classes.{codeAt}
 use Rattle.letters.specs.View.{view, skipped}
 use Rattle.letters.proofs.Coded.{few, Coded, coded}
 use Rattle.nodes.proofs.Rest.{Rest, rest-is, rest-same}
 use Rattle.nodes.proofs.Turn.{turn-on}
-use Rattle.letter_count.specs.Letters.{one, lettersFrom}
+use Rattle.letter_count.specs.Letters.{lettersFrom}
 use Rattle.ahead.specs.Count.{NamesTo, Gone}
 use Rattle.letter_count.proofs.Counts.{low, count-none, count-next, count-apart}
 

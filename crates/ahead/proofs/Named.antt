@@ -1,12 +1,12 @@
 -- Names whose lengths and first letters are good: where their other bytes are letters too, they are read as names. Assumes nothing.
-use Prim.Native.Nat.{ℕ, suc, _+_, _-_, _*_, _<_, _≤_}
+use Prim.Native.Nat.{ℕ, suc, _+_, _-_, _≤_}
 use native.Mathlib.Omega.{arith}
 use mathlib.Core.Path.{_≡_, refl, sym, ap, _∙_}
 use mathlib.Core.Bool.{true}
 use lib.ListN.{length, getD, drop}
 use Rattle.rules.specs.Basic.{Bytes}
 use Rattle.rules.specs.Name.{leads, follows}
-use Rattle.rules.specs.Reading.{times, name}
+use Rattle.rules.specs.Reading.{name}
 use Rattle.laws.specs.Steady.{steady-name}
 use Rattle.letters.specs.declared.Read.the-variants.{Whole}
 use Rattle.letters.specs.View.{view}

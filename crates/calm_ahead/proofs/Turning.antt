@@ -9,7 +9,7 @@ use lib.Dec.{eqb}
 use borrow.Author.Tests.{eqb-true, eqb-false}
 use Rattle.rules.specs.Basic.{Bytes}
 use Rattle.rules.specs.Layout.{headAt}
-use Rattle.rules.specs.Term.{Term, var, leaf, one, two, abs, both, branch, unit, trivial, inl, inr, fst, snd, abort, promote, derelict, pair, app, discard, letPair, copy, terms, encode}
+use Rattle.rules.specs.Term.{Term, var, leaf, one, two, abs, both, branch, unit, trivial, inl, inr, fst, snd, abort, promote, derelict, pair, app, discard, letPair, copy, terms}
 use Rattle.letters.specs.Classes.{codeAt}
 use Rattle.walk.specs.Node.{tag, names, namesAfter}
 use Rattle.walk.specs.Place.{TermAt}

@@ -2,7 +2,7 @@
 ghost use mathlib.Core.Path.{_≡_};
 ghost use mathlib.Core.Bool.{true};
 ghost use Prim.Native.Nat.{_+_, _≤_, _<_};
-ghost use lib.ListN.{length, getD};
+ghost use lib.ListN.{length};
 ghost use Rattle.letters.specs.Form.{layoutOf};
 ghost use Rattle.letters.specs.declared.Form.the-variants.{Term};
 ghost use Rattle.letters.specs.Classes.{Classes};

@@ -1,6 +1,6 @@
 -- What a call of the rules leaves, from how the extraction beside the row ended: by cases of its answer.
 -- Assumes nothing.
-use Prim.Native.Nat.{ℕ, _+_, _<_, _≤_}
+use Prim.Native.Nat.{ℕ, _<_, _≤_}
 use mathlib.Core.Path.{_≡_, refl, sym, ap, subst, _∙_}
 use mathlib.Core.Bool.{Bool, true, false, not, _&&_}
 use mathlib.Core.List.{List, []}
@@ -26,7 +26,7 @@ use Rattle.rules.specs.Refusal.{Outcome, good, refused, mapped, answered, spare
 use Rattle.rules.specs.Term.{Term}
 use Rattle.rules.specs.Buffers.{cleared}
 use Rattle.rules.specs.Calls.{Entry, noEntry, workRoom, counterAfter, proofOutcome, extractCall}
-use Rattle.extract.specs.Whole.{extraction, Finished, Checked}
+use Rattle.extract.specs.Whole.{extraction, Checked}
 use Rattle.extract.proofs.Starting.{whole, over-counter, checked-many}
 use Rattle.extract.proofs.Calling.{short-output, short-scratch, bad-proof, read, good-proof, value}
 use Rattle.extract.specs.declared.Extraction.{Extraction}

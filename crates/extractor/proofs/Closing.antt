@@ -22,7 +22,6 @@ use denote.Plain.{uint-makes}
 use denote.Ref.{RefT}
 use denote.Slice.{sliceVal, MutSlice, ShrSlice, Room, shr-slice-copy}
 use denote.Steps.{owned, heard, nothing}
-use denote.Struct.Steps.{spelt}
 use denote.Triple.Clauses.{lasts}
 use denote.Triple.Spec.{tripleOf}
 use denote.Triple.Statement.{Contract}

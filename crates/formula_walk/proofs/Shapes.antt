@@ -1,16 +1,15 @@
 -- The words and the shapes of a formula's tags, tag by tag; and what a formula is whose tag has a shape.
 -- Assumes nothing.
-use Prim.Native.Nat.{ℕ, zero, suc, _%_, _<_, _≤_}
+use Prim.Native.Nat.{ℕ, _<_}
 use mathlib.Core.Path.{_≡_, refl, ap, _∙_}
-use mathlib.Core.Bool.{Bool, true, _&&_}
 use mathlib.Core.List.{List, [], _∷_}
 use native.Mathlib.Omega.{arith}
 use lib.ListN.{length, getD}
-use Rattle.rules.specs.Basic.{say, _≤?_}
+use Rattle.rules.specs.Basic.{say}
 use Rattle.rules.specs.Formula.{Formula, atom, constant, exponential, connective, Sign, plain, negated, Constant, One, Bottom, Top, Zero, Exponential, OfCourse, WhyNot, Connective, Tensor, Par, With, Plus, Lolli, signTag, constantTag, exponentialTag, connectiveTag, encodeFormula}
 use Rattle.rules.specs.Text.{signText, constantText, exponentialText, connectiveText}
 use Rattle.formula_walk.specs.Task.{FormulaTask, Leaf}
-use Rattle.formula_signs.specs.Words.{words, longOf, wordOf, signOf, shapeOf, openingOf}
+use Rattle.formula_signs.specs.Words.{signOf, shapeOf, openingOf}
 use Rattle.words.specs.Steps.{first-byte, ends-in}
 
 pub sign-word : (k : Sign) → signOf (signTag k) ≡ say (signText k)

@@ -1,6 +1,6 @@
 -- A turn of the sweep at a variable: what stands before it and its value are written, and the sweep goes on behind it. Assumes nothing.
 use Prim.Native.Nat.{ℕ, _+_, _-_, _<_, _≤_}
-use mathlib.Core.Path.{_≡_, refl, sym, ap, _∙_}
+use mathlib.Core.Path.{_≡_, sym, ap, _∙_}
 use mathlib.Core.Bool.{true, false}
 use mathlib.Core.List.{List, _++_, append-assoc}
 use native.Mathlib.Omega.{arith}
@@ -8,7 +8,7 @@ use lib.ListN.{length, length-append}
 use lib.Seq.{slice, slice-empty}
 use Rattle.rules.specs.Basic.{Bytes}
 use Rattle.rules.specs.Name.{Name}
-use Rattle.rules.specs.Term.{Term, encode, nodes, size, parts}
+use Rattle.rules.specs.Term.{Term, encode, nodes, size}
 use Rattle.rules.specs.Substitution.{subst}
 use Rattle.laws.specs.SubstNone.{subst-none}
 use Rattle.runs.specs.Writing.{chain}

@@ -1,17 +1,17 @@
 -- A node that is neither variable and binds neither name keeps its head, and the values go into its parts. By the shapes of terms.
 -- Assumes nothing.
-use Prim.Native.Nat.{ℕ, _+_, _≤_}
+use Prim.Native.Nat.{ℕ, _+_}
 use mathlib.Core.Path.{_≡_, refl, sym, ap, _∙_}
 use mathlib.Core.Bool.{true, false}
 use mathlib.Core.List.{List, [], _∷_, _++_}
 use native.Mathlib.Omega.{arith}
-use lib.ListN.{length, length-append}
+use lib.ListN.{length}
 use Rattle.rules.specs.Basic.{Bytes}
 use Rattle.rules.specs.Name.{Name}
 use Rattle.rules.specs.Term.{Term, var, leaf, one, two, abs, both, branch, encode, nodes, size, parts}
 use Rattle.rules.specs.Substitution.{subst}
 use Rattle.walk.specs.Node.{head, encodeAll, isVar, hides}
-use Rattle.walk.proofs.Terms.{apart, apart-size, encodeAll-append}
+use Rattle.walk.proofs.Terms.{apart, apart-size}
 use Rattle.places.proofs.Shapes.{substAll, node-head, node-parts}
 use Rattle.joint.specs.Joint.{all, nodesAll}
 

@@ -6,7 +6,7 @@ use mathlib.Core.Path.{_≡_, refl, ap}
 use mathlib.Core.List.{List, [], _∷_, _++_, append-assoc}
 use lib.ListN.{length, length-append}
 use borrow.Author.Tests.{lt-ltb, le-leb}
-use Rattle.rules.specs.Basic.{Bytes, _≤?_}
+use Rattle.rules.specs.Basic.{Bytes}
 use Rattle.rules.specs.Limits.{Limits}
 use Rattle.rules.specs.Layout.{headAt}
 use Rattle.rules.specs.Formula.{Formula, formulas, encodeFormula, formulaNodes}

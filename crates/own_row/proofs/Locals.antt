@@ -22,9 +22,8 @@ use types.SemTy.{cells, Arr}
 use denote.RattleType.{RattleType}
 use denote.Memory.{mem, lone}
 use denote.Laws.{Is, Tells, Copy, Lawful, Typed}
-use denote.Array.{arrayVal, Array, array-lawful}
+use denote.Array.{arrayVal, array-lawful}
 use denote.ArrayMemory.{Single}
-use denote.Ref.{RefT}
 use denote.Slice.{sliceVal, MutSlice, heres, Room, finally, codedHoleys, res-finally}
 use denote.Lend.{Held, lends-slice, slice-back}
 use denote.Index.{row, whole-out, whole-in}

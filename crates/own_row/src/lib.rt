@@ -1,5 +1,4 @@
 // The draft of a whole proof, over a row of cut entries of the call's own.
-ghost use mathlib.Core.Path.{_≡_};
 ghost use mathlib.Core.List.{[]};
 ghost use Rattle.rules.specs.Proof.{Proof};
 ghost use Rattle.planning.specs.Walk.{Done};

@@ -14,7 +14,7 @@ use Rattle.runs.specs.Writing.{chain, wrote-length}
 use Rattle.walk.specs.Node.{encodeAll}
 use Rattle.walk.specs.Place.{TermAt, TermsAt}
 use Rattle.walk.proofs.Names.{drop-app}
-use Rattle.walk.proofs.Terms.{Some, encodeAll-append, alone, first, some-fits, some-first, at-end}
+use Rattle.walk.proofs.Terms.{Some, encodeAll-append, alone, first, some-fits, at-end}
 use Rattle.places.specs.Places.{places, placesAll, kept}
 use Rattle.places.specs.Passed.{Passed}
 use Rattle.places.proofs.Finds.{FindIs, Going, begin, done, kept-append}

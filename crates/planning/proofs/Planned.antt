@@ -10,7 +10,7 @@ use Rattle.rules.specs.Name.{Name}
 use Rattle.rules.specs.Formula.{Formula}
 use Rattle.rules.specs.Term.{Term, leaf, unit, two, pair}
 use Rattle.rules.specs.Proof.{Proof, encodeProof}
-use Rattle.rules.specs.Extraction.{terms, Entries, identity, axiomName, joined}
+use Rattle.rules.specs.Extraction.{terms, Entries, identity, joined}
 use Rattle.draft.specs.Draft.{Drafts}
 use Rattle.draft.specs.Made.{made, mostNumber, over}
 use Rattle.one_rule.specs.Place.{FormulaAt, ProofAt}
@@ -23,15 +23,15 @@ use Rattle.acts.specs.declared.Act.{Act}
 use Rattle.acts.specs.declared.Act.the-variants.{Leaf, Bare, Axiom, First, Pair, Cut}
 use Rattle.one_rule.proofs.Items.{Some, SkipIs}
 use Rattle.entries.specs.declared.CutEntry.{CutEntry}
-use Rattle.seeking.specs.Entry.{EntriesAt, inRow}
+use Rattle.seeking.specs.Entry.{EntriesAt}
 use Rattle.seeking.specs.Searching.{nameSaid, Row, Takes}
 use Rattle.planning.specs.Walk.{Starts, Ends}
-use Rattle.planning.specs.Planning.{numberOf, kindOf, namesOf, planOf, Planned, Began}
+use Rattle.planning.specs.Planning.{numberOf, kindOf, namesOf, Planned, Began}
 use Rattle.planning.specs.declared.plan.Plan.{Plan}
 use Rattle.seeking.specs.declared.Search.{Search}
-use Rattle.planning.proofs.Pushing.{pushed, restored}
+use Rattle.planning.proofs.Pushing.{pushed}
 use Rattle.planning.proofs.Premised.{FirstOf, TwoOf, CutOf, first-starts, first-some, first-rest, first-open, first-ends, one-starts, two-on, two-starts, pair-open, pair-ends, withEntry, cut-two, cut-formula-here, cut-on, consumer-starts, cut-open, cut-ends}
-use Rattle.planning.proofs.Ruled.{starts-here, starts-inside, starts-later, starts-open, premises-some, axiom-asks, first-asks, pair-asks, cut-asks, ends-leaf, ends-bare, ends-axiom, ends-first, ends-pair, ends-cut}
+use Rattle.planning.proofs.Ruled.{starts-inside, starts-later, premises-some, axiom-asks, first-asks, pair-asks, cut-asks, ends-leaf, ends-bare, ends-axiom, ends-first, ends-pair, ends-cut}
 
 -- ---- the act, by its number
 

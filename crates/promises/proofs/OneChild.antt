@@ -1,15 +1,13 @@
 -- Where a child stands is settled too, not only which bytes it is: it starts behind the parts before it, and is as long as its bytes.
 -- Assumes nothing.
-use Prim.Native.Nat.{ℕ, _+_, _-_, _≤_}
-use mathlib.Core.Path.{_≡_, refl, sym, ap, ap₂, _∙_}
+use Prim.Native.Nat.{ℕ, _+_, _-_}
+use mathlib.Core.Path.{_≡_, sym, ap, ap₂, _∙_}
 use native.Mathlib.Omega.{arith}
 use lib.ListN.{length, take, drop, length-drop}
 use lib.Seq.{length-take-le}
 use Rattle.rules.specs.Basic.{Bytes}
-use Rattle.rules.specs.Limits.{limits}
-use Rattle.rules.specs.Refusal.{Outcome, good, refused}
+use Rattle.rules.specs.Refusal.{Outcome, good}
 use Rattle.rules.specs.Term.{Term, parts}
-use Rattle.rules.specs.Calls.{childOf}
 use Rattle.walk.specs.Node.{head, encodeAll}
 use Rattle.child.specs.Child.{Stands, Located}
 use Rattle.child.specs.declared.Piece.{Piece}

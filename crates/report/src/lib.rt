@@ -6,7 +6,7 @@ use runs::copy;
 ghost use mathlib.Core.List.{[], _∷_};
 ghost use Prim.Native.Nat.{_+_, _≤_};
 ghost use lib.ListN.{length};
-ghost use Rattle.rules.specs.Basic.{say, decimal, _‥_};
+ghost use Rattle.rules.specs.Basic.{say, _‥_};
 ghost use Rattle.rules.specs.Program.{yesNo, countsLine, refusalLine};
 ghost use Rattle.runs.specs.Wrote.{Wrote};
 ghost use Rattle.report.specs.Field.{Field, Three, Line};

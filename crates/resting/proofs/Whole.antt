@@ -9,7 +9,6 @@ use Rattle.rules.specs.Limits.{limits}
 use Rattle.rules.specs.Refusal.{refuse, mapped, answered}
 use Rattle.rules.specs.Reading.{node, times, readTerm}
 use Rattle.rules.specs.Term.{Term, terms, encode, nodes}
-use Rattle.rules.specs.declared.Refusal.{Refusal}
 use Rattle.rules.specs.declared.Answer.the-variants.{Good}
 use Rattle.laws.specs.Decoding.{term-sound}
 use Rattle.letters.specs.declared.Form.the-variants.{Term as TermForm}

@@ -1,10 +1,10 @@
 -- Runs of bytes: a slice cut in two, two writes one after the other, and zeros behind the last. By induction on the lists. Assumes nothing.
-use Prim.Native.Nat.{ℕ, zero, suc, _+_, _-_, _<_, _≤_}
+use Prim.Native.Nat.{ℕ, zero, suc, _+_, _-_, _≤_}
 use mathlib.Core.Path.{_≡_, refl, sym, ap, _∙_}
-use mathlib.Core.List.{List, [], _∷_, _++_, append-nil, append-assoc}
+use mathlib.Core.List.{List, [], _∷_, _++_, append-nil}
 use native.Mathlib.Nat.{add-zero, zero-add, suc-add, le-of-suc-le-suc, not-suc-le-zero}
 use native.Mathlib.Omega.{arith}
-use lib.ListN.{length, drop, take, set, replicate, length-append, length-replicate}
+use lib.ListN.{length, drop, set, replicate, length-append, length-replicate}
 use lib.Seq.{sets, length-sets, sets-eq, drop-length, slice, take-append-seam, take-nil}
 use Rattle.runs.specs.Wrote.{Wrote}
 

@@ -10,7 +10,7 @@ use Rattle.rules.specs.Name.{Name}
 use Rattle.rules.specs.Formula.{Formula, atom, constant, exponential, connective, Sign, plain, negated, signTag, encodeFormula}
 use Rattle.rules.specs.Extraction.{Entries, oldest, orItself, axiomName}
 use Rattle.draft.specs.Draft.{nameOf}
-use Rattle.one_rule.specs.Place.{FormulaAt, FormulasAt}
+use Rattle.one_rule.specs.Place.{FormulaAt}
 use Rattle.one_rule.specs.Shape.{formulaTag}
 use Rattle.seeking.specs.Entry.{EntriesAt}
 use Rattle.entries.specs.declared.CutEntry.{CutEntry}

@@ -1,6 +1,6 @@
 -- A search goes on: what was sought is what the rest of the entries give for its atom, or else what the formulas behind that atom take. Assumes nothing.
 use Prim.Native.Nat.{ℕ, _+_, _-_, _*_, _<_, _≤_}
-use mathlib.Core.Path.{_≡_, refl, sym, ap, subst, _∙_}
+use mathlib.Core.Path.{_≡_, refl, sym, subst}
 use mathlib.Core.Bool.{Bool, true, false}
 use mathlib.Core.List.{List}
 use mathlib.Core.Option.{Option, none, some}
@@ -14,11 +14,11 @@ use Rattle.draft.specs.Draft.{nameOf}
 use Rattle.draft.specs.Made.{mostNumber}
 use Rattle.one_rule.proofs.Items.{Some, SkipIs}
 use Rattle.entries.specs.declared.CutEntry.{CutEntry}
-use Rattle.seeking.specs.Entry.{EntriesAt, inRow}
+use Rattle.seeking.specs.Entry.{inRow}
 use Rattle.seeking.specs.Searching.{nameSaid, Left, Row, Takes, Going, Seeks, weight}
 use Rattle.seeking.specs.declared.Search.{Search}
 use Rattle.seeking.proofs.Opposites.{Two, Cuts, Sought, left-all, left-next, finds-none, finds-here, entry-two, entry-room}
-use Rattle.seeking.proofs.Axioms.{Gives, given-inside, gives-silent, atom-sought, gives-own, gives-entry, gives-nothing, row-first, row-one, row-next, takes-none, takes-first, takes-next}
+use Rattle.seeking.proofs.Axioms.{Gives, given-inside, atom-sought, gives-own, gives-entry, gives-nothing, row-first, row-one, row-next, takes-none, takes-first, takes-next}
 
 abbrev pub ended : Bool → (stem number : ℕ) → Search
 ended f p m = record { at = 0; formulas = 0; left = 0; found = f; stem = p; number = m }

@@ -2,17 +2,16 @@
 -- the whole calm. Assumes nothing.
 use Prim.Native.Nat.{ℕ, _+_, _-_, _<_, _≤_}
 use native.Mathlib.Omega.{arith}
-use mathlib.Core.Path.{_≡_, refl, sym, ap, _∙_}
-use mathlib.Core.Bool.{true, false}
+use mathlib.Core.Path.{_≡_, sym, ap, _∙_}
+use mathlib.Core.Bool.{false}
 use mathlib.Core.List.{List, [], _∷_, _++_, append-nil}
-use lib.ListN.{length, getD, drop, length-append}
+use lib.ListN.{length, getD, length-append}
 use Rattle.rules.specs.Basic.{Bytes}
-use Rattle.rules.specs.Name.{Name}
 use Rattle.rules.specs.Term.{Term, var, leaf, one, two, abs, both, branch, encode, parts}
-use Rattle.walk.specs.Node.{tag, head, namesAfter, encodeAll}
-use Rattle.walk.specs.Place.{TermAt, TermsAt, NamesAt}
-use Rattle.walk.proofs.Names.{AfterIs, long}
-use Rattle.walk.proofs.Terms.{apart-size, first, unrolled, at-tag, at-small, at-inside, some-names, starts, whole, alone, encodeAll-append}
+use Rattle.walk.specs.Node.{tag, namesAfter, encodeAll}
+use Rattle.walk.specs.Place.{TermAt, TermsAt}
+use Rattle.walk.proofs.Names.{AfterIs}
+use Rattle.walk.proofs.Terms.{apart-size, first, unrolled, at-tag, starts, whole, alone, encodeAll-append}
 use Rattle.search.specs.Searched.{reduces}
 use Rattle.sweep.specs.Calm.{Calm, AllCalm, CalmAfter}
 use Rattle.sweep.specs.Swept.{Left, Swept}

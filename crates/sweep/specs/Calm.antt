@@ -1,8 +1,8 @@
 -- Calm terms: no node, wherever it stands, is a redex by its tag and its first part's. A calm term is normal: the search goes to its end.
 -- By induction on the term. Assumes nothing.
 use Prim.Native.Nat.{ℕ}
-use mathlib.Core.Path.{_≡_, sym, _∙_}
-use mathlib.Core.Bool.{true, false}
+use mathlib.Core.Path.{_≡_}
+use mathlib.Core.Bool.{false}
 use mathlib.Core.List.{List, [], _∷_}
 use Rattle.rules.specs.Term.{Term, var, leaf, one, two, abs, both, branch, oneTag, twoTag, bothTag}
 use Rattle.walk.specs.Node.{tag}

@@ -1,5 +1,4 @@
 // The text of a checked term. A walk hands back the place after the text, times 65,536, and the place after the bytes, in one number.
-ghost use mathlib.Core.Path.{_≡_};
 ghost use Rattle.rules.specs.Name.{Name};
 ghost use Rattle.rules.specs.Term.{Term, two as twoOf, both as bothOf, branch as branchOf, discard as discardOf, letPair as letPairOf, copy as copyOf};
 ghost use Rattle.phrases.specs.Task.{TermTask, TermDone, Whole};

@@ -1,6 +1,5 @@
 -- `ending::begin` meets its contract: in the order of the refusals. Assumes nothing.
 use mathlib.Core.Path.{refl, sym, _∙_}
-use native.Mathlib.Omega.{arith}
 use Rattle.laws.specs.Octets.{octets}
 use Rattle.ending.proofs.Ending.{begins-short, begins-output, begins-scratch, begins-bad, begins-nine, begins-walk}
 use borrow.Author.Needs.{needs}

@@ -5,7 +5,7 @@ use native.Mathlib.Omega.{arith}
 use mathlib.Core.Path.{_≡_, ap, _∙_}
 use lib.ListN.{length, getD}
 use Rattle.rules.specs.Name.{follows}
-use Rattle.letter_count.specs.Letters.{one, lettersFrom}
+use Rattle.letter_count.specs.Letters.{lettersFrom}
 use Rattle.letter_count.proofs.Counts.{count-none, count-next, one-most}
 use Rattle.letter_count.proofs.count_block.Statement.{statement}
 use Rattle.letter_count.proofs.count_block.Tie as tie

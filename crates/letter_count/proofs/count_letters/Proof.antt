@@ -3,7 +3,6 @@ use Prim.Native.Nat.{_+_, _-_, _≤_}
 use native.Mathlib.Omega.{arith}
 use mathlib.Core.Path.{_≡_, ap, _∙_}
 use lib.ListN.{length}
-use borrow.Author.Needs.{needs}
 use Rattle.letter_count.specs.Letters.{lettersFrom}
 use Rattle.letter_count.proofs.Counts.{count-none, count-most, count-split, grown, summed}
 use Rattle.letter_count.proofs.count_letters.Statement.{statement}

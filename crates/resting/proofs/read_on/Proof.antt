@@ -1,5 +1,4 @@
 -- `read_on` meets its contract: what was gone over is read, or all is read exactly. Assumes nothing.
-use native.Mathlib.Omega.{arith}
 use Rattle.resting.proofs.Whole.{gone-on}
 use borrow.Author.Needs.{needs}
 use Rattle.resting.proofs.read_on.Statement.{statement}

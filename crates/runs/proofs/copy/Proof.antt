@@ -1,8 +1,8 @@
 -- `runs::copy` meets its contract: what is left to copy makes up the whole. Assumes nothing.
-use Prim.Native.Nat.{ℕ, _≤_, _-_, _+_}
-use mathlib.Core.Path.{_≡_, refl, sym, _∙_}
+use Prim.Native.Nat.{_≤_, _-_, _+_}
+use mathlib.Core.Path.{_≡_, refl, _∙_}
 use native.Mathlib.Omega.{arith}
-use lib.ListN.{length, getD, drop, length-set}
+use lib.ListN.{length, getD, length-set}
 use denote.Ref.{now}
 use lib.Seq.{sets, slice, length-slice}
 use Rattle.runs.proofs.Bytes.{copy-more, copy-end}

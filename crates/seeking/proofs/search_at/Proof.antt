@@ -1,6 +1,5 @@
 -- `seeking::search_at` meets its contract: the count stands before the formulas. Assumes nothing.
 use native.Mathlib.Omega.{arith}
-use borrow.Author.Needs.{needs}
 use Rattle.seeking.proofs.search_at.Statement.{statement}
 use Rattle.seeking.proofs.search_at.Tie as tie
 

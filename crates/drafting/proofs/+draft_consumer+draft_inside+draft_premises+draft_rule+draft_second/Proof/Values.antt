@@ -5,8 +5,6 @@ use mir.Syntax.{w64}
 use mir.Val.{Val, vint, vstruct, vnil, vcons}
 use base.Fml.{GName}
 use denote.Laws.{Is}
-use denote.Steps.{owned}
-use denote.Struct.Steps.{spelt}
 use denote.Struct.Laws as LL
 use Rattle.draft_rows.specs.declared.Drafted.{Drafted}
 use Rattle.draft_rows.proofs.Drafted as D
