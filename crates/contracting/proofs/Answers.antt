@@ -4,7 +4,8 @@ use Prim.Native.Nat.{ℕ, _<_}
 use mathlib.Core.Path.{_≡_, refl, sym, ap, _∙_}
 use mathlib.Core.Bool.{Bool, true, false}
 use mathlib.Core.Option.{Option, none, some}
-use lib.ListN.{length, getD}
+use native.Mathlib.Omega.{arith}
+use lib.ListN.{length, getD, replicate, length-replicate}
 use borrow.Author.Tests.{ne-eqb}
 use Rattle.rules.specs.Basic.{Bytes, if_then_else_}
 use Rattle.rules.specs.Name.{Name}
@@ -19,11 +20,15 @@ use Rattle.search.proofs.Firsts.{contracts}
 use Rattle.search.proofs.Forms.{Form, form, IsApp, IsLet, IsCase, IsFst, IsSnd, IsDerelict, IsCopy, IsDiscard}
 use Rattle.parts.specs.Contracts.{Contracts}
 use Rattle.parts.specs.declared.Contracted.{Contracted}
-use Rattle.contracting.specs.Contracting.{Contracting}
+use Rattle.contracting.specs.Contracting.{Contractible, Contracting}
 
-module _ {s : Bytes} {at n l : ℕ} {places made : Bytes} {t : Term} {r : Rule} {h : Option Term} {u : Term} (j : Contracting s at n l places made t r h u) where
+module _ {s : Bytes} {at n l : ℕ} {made : Bytes} {t : Term} {r : Rule} {h : Option Term} {u : Term} (j : Contractible s at n l made t r h u) where
   pub redex-inside : at < length s
   redex-inside = at-inside s at t (j .redex .stands)
+
+  -- with an array to work in
+  pub in-array : Contracting s at n l (replicate {A = ℕ} 4096 0) made t r h u
+  in-array = record { bare = j; places-room = omega (arith, length-replicate {A = ℕ} 4096 0) }
 
   -- the form, by the byte that stands at the place
   form-here : Form (getD s at 0) t

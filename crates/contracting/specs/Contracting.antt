@@ -10,9 +10,13 @@ use Rattle.rules.specs.declared.Rule.{Rule}
 use Rattle.rules.specs.Step.{by, contract}
 use Rattle.parts.specs.Contracts.{Redex}
 
--- t contracts by the rule r to u, by way of h; the buffers are long enough
-pub record Contracting (s : Bytes) (at n l : ℕ) (places made : Bytes) (t : Term) (r : Rule) (h : Option Term) (u : Term) : Type 0 where
+-- t contracts by the rule r to u, by way of h; there is room for what is made
+pub record Contractible (s : Bytes) (at n l : ℕ) (made : Bytes) (t : Term) (r : Rule) (h : Option Term) (u : Term) : Type 0 where
   pub redex : Redex s at n l t
   pub contracts : contract t ≡ by r h u
-  pub places-room : outputRoom limits ≤ length places
   pub made-room : outputRoom limits ≤ length made
+
+-- and room to work in
+pub record Contracting (s : Bytes) (at n l : ℕ) (places made : Bytes) (t : Term) (r : Rule) (h : Option Term) (u : Term) : Type 0 where
+  pub bare : Contractible s at n l made t r h u
+  pub places-room : outputRoom limits ≤ length places

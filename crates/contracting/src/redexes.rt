@@ -17,16 +17,9 @@ use spans::span_names;
 use spans::span_two;
 
 // LetPair of Pair: a for x, then b for y in all that results.
-pub fn let_pair(
-    s: &[u8],
-    at: usize,
-    nodes: usize,
-    length: usize,
-    places: &mut [u8],
-    made: &mut [u8],
-) -> Contracted
+pub fn let_pair(s: &[u8], at: usize, nodes: usize, length: usize, made: &mut [u8]) -> Contracted
     requires { ⌜ ((x : Name) × (y : Name) × (a : Term) × (b : Term) × (e : Term) × Redex (now s) at nodes length (twoNamed letPair x y (two pair a b) e)) ⌝ }
-    requires { ⌜ Room (now places) × Room (now made) ⌝ }
+    requires { ⌜ Room (now made) ⌝ }
     ensures { λ c. ⌜ ((x : Name) → (y : Name) → (a : Term) → (b : Term) → (e : Term) → Redex (now (s .entry)) at nodes length (twoNamed letPair x y (two pair a b) e) → Contracts (now (s .entry)) at nodes length (twoNamed letPair x y (two pair a b) e) Let (some (subst x a e)) (subst y b (subst x a e)) (now (made .exit)) c) ⌝ }
 {
     let names = span_names(s, at + 1);
@@ -54,7 +47,6 @@ pub fn let_pair(
         b,
         rest,
         length,
-        places,
         made,
     )
 }
@@ -104,16 +96,9 @@ pub fn derelict(s: &[u8], at: usize, nodes: usize) -> Contracted
 }
 
 // Copy of Promote: the whole Promote for x, then for y.
-pub fn copy(
-    s: &[u8],
-    at: usize,
-    nodes: usize,
-    length: usize,
-    places: &mut [u8],
-    made: &mut [u8],
-) -> Contracted
+pub fn copy(s: &[u8], at: usize, nodes: usize, length: usize, made: &mut [u8]) -> Contracted
     requires { ⌜ ((x : Name) × (y : Name) × (v : Term) × (e : Term) × Redex (now s) at nodes length (twoNamed aCopy x y (one promote v) e)) ⌝ }
-    requires { ⌜ Room (now places) × Room (now made) ⌝ }
+    requires { ⌜ Room (now made) ⌝ }
     ensures { λ c. ⌜ ((x : Name) → (y : Name) → (v : Term) → (e : Term) → Redex (now (s .entry)) at nodes length (twoNamed aCopy x y (one promote v) e) → Contracts (now (s .entry)) at nodes length (twoNamed aCopy x y (one promote v) e) Copy (some (subst x (one promote v) e)) (subst y (one promote v) (subst x (one promote v) e)) (now (made .exit)) c) ⌝ }
 {
     let names = span_names(s, at + 1);
@@ -135,7 +120,6 @@ pub fn copy(
         part,
         rest,
         length,
-        places,
         made,
     )
 }

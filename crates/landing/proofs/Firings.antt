@@ -68,18 +68,21 @@ module _ {w : Term} {out scratch stack : List ℕ} {o i d n : ℕ} {places out�
   pub job : Contracting scratch i n l places out₁ t (x .rule) (x .half) u
   job =
       record {
-        redex =
+        bare =
             record {
-              stands = stands-at s;
-              nodes-in = omega (arith, e .count, ap nodes (s .is), plug-frame (s .above) .count t);
-              bytes-in = omega (arith, sides-size s, ap size (s .is), plug-size (s .above) t);
-              behind = omega arith;
-              few = omega (arith, e .count, fits-few w (s .fits));
-              short = short;
+              redex =
+                  record {
+                    stands = stands-at s;
+                    nodes-in = omega (arith, e .count, ap nodes (s .is), plug-frame (s .above) .count t);
+                    bytes-in = omega (arith, sides-size s, ap size (s .is), plug-size (s .above) t);
+                    behind = omega arith;
+                    few = omega (arith, e .count, fits-few w (s .fits));
+                    short = short;
+                  };
+              contracts = x .is;
+              made-room = e .made-room;
             };
-        contracts = x .is;
         places-room = e .places-room;
-        made-room = e .made-room;
       }
 
   steps : Steps w (x .rule) (x .half) next

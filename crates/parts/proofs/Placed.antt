@@ -70,7 +70,7 @@ module _ {s : Bytes} {at end : ℕ} {b : Body} {p : Part} {n l : ℕ} {held : By
 
 -- ---- two in turn
 
--- the array in which what is there halfway is made
+-- an array made here
 pub array-room : 4096 ≤ length (replicate {A = ℕ} 4096 0)
 array-room = omega (arith, length-replicate {A = ℕ} 4096 0)
 

@@ -122,16 +122,16 @@ fn one_by_one(
     b: Part,
     nodes: usize,
     length: usize,
-    places: &mut [u8],
     made: &mut [u8],
 ) -> Contracted
     requires { ⌜ ((n : ℕ) × (t : Term) × (x : Name) × (y : Name) × (e : Term) × (v : Term) × (w : Term) × Pairing (now s) at middle past a b nodes length n t x y e v w) ⌝ }
-    requires { ⌜ Room (now places) × Room (now made) ⌝ }
+    requires { ⌜ Room (now made) ⌝ }
     ensures { λ c. ⌜ ((n : ℕ) → (t : Term) → (x : Name) → (y : Name) → (e : Term) → (v : Term) → (w : Term) → Pairing (now (s .entry)) at middle past a b nodes length n t x y e v w → Contracts (now (s .entry)) at n length t rule (some (subst x v e)) (subst y w (subst x v e)) (now (made .exit)) c) ⌝ }
 {
+    let mut places = [0u8; 4096];
     let mut half = [0u8; 4096];
     let body = b.end;
-    let found = find_in(s, body, at + 2, middle, places);
+    let found = find_in(s, body, at + 2, middle, &mut places);
     let end = found.end;
     let first = a.from;
     let first_end = a.end;
@@ -148,7 +148,7 @@ fn one_by_one(
         b.nodes,
         nodes,
         length - (end - at),
-        places,
+        &mut places,
         &mut half,
         made,
     );
@@ -167,11 +167,10 @@ pub fn both(
     b: Part,
     nodes: usize,
     length: usize,
-    places: &mut [u8],
     made: &mut [u8],
 ) -> Contracted
     requires { ⌜ ((n : ℕ) × (t : Term) × (x : Name) × (y : Name) × (e : Term) × (v : Term) × (w : Term) × Pairing (now s) at middle past a b nodes length n t x y e v w) ⌝ }
-    requires { ⌜ Room (now places) × Room (now made) ⌝ }
+    requires { ⌜ Room (now made) ⌝ }
     ensures { λ c. ⌜ ((n : ℕ) → (t : Term) → (x : Name) → (y : Name) → (e : Term) → (v : Term) → (w : Term) → Pairing (now (s .entry)) at middle past a b nodes length n t x y e v w → Contracts (now (s .entry)) at n length t rule (some (subst x v e)) (subst y w (subst x v e)) (now (made .exit)) c) ⌝ }
 {
     let body = b.end;
@@ -193,7 +192,7 @@ pub fn both(
         made,
     );
     if joined.size == 0 {
-        return one_by_one(s, at, rule, middle, past, a, b, nodes, length, places, made);
+        return one_by_one(s, at, rule, middle, past, a, b, nodes, length, made);
     }
     Contracted::Made {
         rule,

@@ -6,7 +6,7 @@ use mathlib.Core.Bool.{Bool, true, false, _&&_}
 use mathlib.Core.Option.{Option}
 use mathlib.Core.List.{[], _++_, append-nil, append-assoc}
 use native.Mathlib.Omega.{arith}
-use lib.ListN.{length, drop, replicate, length-append, length-replicate}
+use lib.ListN.{length, drop, length-append}
 use lib.Seq.{sets, slice, drop-at, length-slice}
 use borrow.Author.Tests.{leb-true}
 use Rattle.rules.specs.Basic.{Bytes, _≤?_, if_then_else_}
@@ -26,10 +26,6 @@ use Rattle.parts.specs.declared.Contracted.the-variants.{Made, Outgrown}
 use Rattle.contracting.specs.Contracting as contracting
 use Rattle.step.specs.Taken.{contracted, Contracting, Takes}
 use Rattle.step.specs.declared.Taken.the-variants.{Found, Outgrown as Outgrew}
-
--- a local array
-pub array-room : 4096 ≤ length (replicate {A = ℕ} 4096 0)
-array-room = omega (arith, length-replicate {A = ℕ} 4096 0)
 
 within : (t : Term) → fits limits t ≡ true → (nodes t ≤ 512) × (size t ≤ 4096)
 unfolding fits
@@ -57,9 +53,8 @@ module _ {src : Bytes} {n place : ℕ} {out : Bytes} {f : Term → Term} {t : Te
   long : length src ≡ place + (size t + length right)
   long = ap (λ (z : Bytes). length z) bytes ∙ omega (arith, length-append left (encode t ++ right), length-append (encode t) right, j .frame .long)
 
-  pub job : {places work : Bytes} → 4096 ≤ length places → 4096 ≤ length work
-      → contracting.Contracting src place n (length src) places work t (j .rule) h u
-  job a c =
+  pub job : {work : Bytes} → 4096 ≤ length work → contracting.Contractible src place n (length src) work t (j .rule) h u
+  job c =
       let w = within (f t) (j .fits) in
       record {
         redex =
@@ -72,7 +67,6 @@ module _ {src : Bytes} {n place : ℕ} {out : Bytes} {f : Term → Term} {t : Te
               short = omega (arith, w, ap (λ (z : Bytes). length z) (j .whole));
             };
         contracts = j .contracts;
-        places-room = a;
         made-room = c;
       }
 

@@ -6,7 +6,7 @@ ghost use Rattle.rules.specs.Term.{Term};
 ghost use Rattle.rules.specs.Step.{step};
 ghost use Rattle.spans.specs.Given.{Reads};
 ghost use Rattle.step.specs.Taken.{Contracting, contracted, Takes};
-use contracting::contract;
+use contracting::contract_alone;
 use parts::Contracted;
 use rules::Rule;
 use search::Sought;
@@ -28,8 +28,7 @@ fn contract_at(src: &[u8], nodes: usize, place: usize, out: &mut [u8], work: &mu
     requires { ⌜ ((f : Term → Term) × (t : Term) × Contracting (now src) nodes place (now out) f t) × (outputRoom limits ≤ length (now work)) ⌝ }
     ensures { λ r. ⌜ ((f : Term → Term) → (t : Term) → Contracting (now (src .entry)) nodes place (now (out .entry)) f t → Takes (contracted place f t) (now (out .entry)) (now (out .exit)) r) ⌝ }
 {
-    let mut places = [0u8; 4096];
-    match contract(src, place, nodes, src.len(), &mut places, work) {
+    match contract_alone(src, place, nodes, src.len(), work) {
         Contracted::Outgrown => Taken::Outgrown,
         Contracted::Made {
             rule,

@@ -12,10 +12,10 @@ add-other : tie.Need-add-other
 add-other c = search needs
 
 sub-at-once : tie.Need-sub-at-once
-sub-at-once c = omega (arith, joint-bounds (c .before .before .before .pre .0 .7))
+sub-at-once c = omega (arith, joint-bounds (c .before .before .pre .0 .7))
 
 part-at-once-start : tie.Need-part-at-once-start
-part-at-once-start c = omega (arith, joint-bounds (c .before .before .before .pre .0 .7))
+part-at-once-start c = omega (arith, joint-bounds (c .before .before .pre .0 .7))
 
 part-at-once-end : tie.Need-part-at-once-end
 part-at-once-end c = search needs
@@ -45,7 +45,7 @@ part-at-once-start-4 : tie.Need-part-at-once-start-4
 part-at-once-start-4 c = search needs
 
 part-at-once-end-4 : tie.Need-part-at-once-end-4
-part-at-once-end-4 c = omega (arith, part-in (c .before .before .before .before .before .before .pre .0 .7 .first))
+part-at-once-end-4 c = omega (arith, part-in (c .before .before .before .before .before .pre .0 .7 .first))
 
 sub-at-once-5 : tie.Need-sub-at-once-5
 sub-at-once-5 c = search needs
@@ -54,7 +54,7 @@ part-at-once-start-5 : tie.Need-part-at-once-start-5
 part-at-once-start-5 c = search needs
 
 part-at-once-end-5 : tie.Need-part-at-once-end-5
-part-at-once-end-5 c = omega (arith, part-in (c .before .before .before .before .before .before .before .pre .0 .7 .second))
+part-at-once-end-5 c = omega (arith, part-in (c .before .before .before .before .before .before .pre .0 .7 .second))
 
 sub-at-once-6 : tie.Need-sub-at-once-6
 sub-at-once-6 c = search needs
@@ -63,28 +63,25 @@ sub-at-once-7 : tie.Need-sub-at-once-7
 sub-at-once-7 c = search needs
 
 at-once-requires : tie.Need-at-once-requires
-at-once-requires c κs = ((_, _, _, joint (c .before .before .before .before .before .before .before .before .before .pre .0 .7)), c .before .before .before .before .before .before .before .before .before .pre .1 .1)
+at-once-requires c κs = ((_, _, _, joint (c .before .before .before .before .before .before .before .before .pre .0 .7)), c .before .before .before .before .before .before .before .before .pre .1)
 
 one-by-one-requires : tie.Need-one-by-one-requires
-one-by-one-requires c κs = let b = c .before .before .before .before .before .before .before .before .before .before .before .before .before .before .before .before .pre in (b .0, (b .1 .0, omega (arith, b .1 .1, c .before .before .before .before .before .before .at-once .kept .1 .1 .1 .1 .1 .1 .1 .1 .1 .0)))
+one-by-one-requires c κs = search needs
 
 same-length : tie.Need-same-length
 same-length c = search needs
 
-same-length-2 : tie.Need-same-length-2
-same-length-2 c = search needs
-
 returns : tie.Need-returns
 returns c = search needs
 
-add-t20 : tie.Need-add-t20
-add-t20 c = let j = c .before .before .before .before .before .before .before .before .before .before .before .before .before .before .before .pre .0 .7 in omega (arith, joint-bounds j, c .before .before .before .before .before .at-once .ensures (c .before .if1 .left) _ _ _ (joint j) .0)
+add-t19 : tie.Need-add-t19
+add-t19 c = let j = c .before .before .before .before .before .before .before .before .before .before .before .before .before .before .pre .0 .7 in omega (arith, joint-bounds j, c .before .before .before .before .before .at-once .ensures (c .before .if1 .left) _ _ _ (joint j) .0)
 
-same-length-3 : tie.Need-same-length-3
-same-length-3 c = search needs
+same-length-2 : tie.Need-same-length-2
+same-length-2 c = search needs
 
 returns-2 : tie.Need-returns-2
-returns-2 c = λ n t x y e v w j. joined j (c .before .before .before .before .before .before .before .before .before .before .before .before .before .before .before .pre .1 .1) (c .before .before .before .before .before .at-once .ensures (c .before .if1 .left) _ _ _ (joint j))
+returns-2 c = λ n t x y e v w j. joined j (c .before .before .before .before .before .before .before .before .before .before .before .before .before .before .pre .1) (c .before .before .before .before .before .at-once .ensures (c .before .if1 .left) _ _ _ (joint j))
 
 pub both-spec : {M : Type 1} → statement M
 both-spec =
@@ -112,8 +109,7 @@ both-spec =
     at-once-requires
     one-by-one-requires
     same-length
-    same-length-2
     returns
-    add-t20
-    same-length-3
+    add-t19
+    same-length-2
     returns-2)
