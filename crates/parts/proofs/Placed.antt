@@ -75,12 +75,6 @@ pub array-room : 4096 ≤ length (replicate {A = ℕ} 4096 0)
 array-room = omega (arith, length-replicate {A = ℕ} 4096 0)
 
 module _ {s : Bytes} {at middle past : ℕ} {p q : Part} {n l whole : ℕ} {t : Term} {x y : Name} {e v w : Term} (j : Pairing s at middle past p q n l whole t x y e v w) where
-  pub body-bounds : (at + 2 ≤ middle) × (middle ≤ length s) × (length s ≤ q .end + 4096) × (at + 2 ≤ length s)
-  body-bounds =
-      let m = j .names-in in
-      let r = j .redex in
-      (m .0, omega (arith, m), omega (arith, r .behind, r .short, j .body-past), omega (arith, m))
-
   module _ {held : Bytes} {b : Body} (k : Kept (q .end) (take (middle - (at + 2)) (drop (at + 2) s)) e held b) where
     ends : b .end ≡ at + size t
     ends = k .next ∙ j .ends

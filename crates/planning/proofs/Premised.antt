@@ -60,9 +60,6 @@ module _ {s : Bytes} {at m : ℕ} {cs : List CutEntry} {k : ℕ} {ws : List ℕ}
     pub first-starts : FirstOf s at m cs k ws used n → Starts s at cs k ws used (n + names)
     first-starts (p, qs, es, w) = (p, es, first-task p qs es w)
 
-    pub first-counts : FirstOf s at m cs k ws used n → n + names < mostNumber
-    first-counts (p, qs, es, w) = omega (arith, w .ready .few)
-
     pub first-some : FirstOf s at m cs k ws used n → 0 < m
     first-some (p, qs, es, w) = omega (arith, w .proofs .many)
 
@@ -111,15 +108,9 @@ module _ {s : Bytes} {at : ℕ} {cs : List CutEntry} {k : ℕ} {ws : List ℕ} {
   pub one-starts : (names : ℕ) → names ≤ 1 → TwoOf s at cs k ws used n → Starts s at cs k ws used (n + names)
   one-starts names h (p, q, es, w) = (p, es, one-task names h p q es w)
 
-  pub one-counts : TwoOf s at cs k ws used n → n + 3 < mostNumber
-  one-counts (p, q, es, w) = omega (arith, w .ready .few)
-
   -- without a name before it
   bare-task : (p q : Proof) (es : Entries) → Premises s at 2 cs k ws used n (p ∷ q ∷ []) es → Task s at cs k ws used n p es
   bare-task p q es w = let z : n + 0 ≡ n = omega arith in rw z at (one-task 0 (omega arith) p q es w)
-
-  pub bare-starts : TwoOf s at cs k ws used n → Starts s at cs k ws used n
-  bare-starts (p, q, es, w) = (p, es, bare-task p q es w)
 
   -- ---- paired
 

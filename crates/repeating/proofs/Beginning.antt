@@ -18,7 +18,7 @@ use Rattle.gap.specs.declared.place.Place.{Place}
 use Rattle.gap.proofs.Wholes.{stands-first}
 use Rattle.course.specs.Told.{repeatedOf}
 use Rattle.course.specs.declared.Repeated.{Repeated}
-use Rattle.repeating.specs.Turning.{Carried, Stands, Room, Repeats}
+use Rattle.repeating.specs.Turning.{Carried, Stands, Repeats}
 use Rattle.repeating.proofs.Turns.{rests}
 
 -- a term that was read, put at the end of the scratch
@@ -46,10 +46,3 @@ module _ {term : Bytes} {n : ℕ} {out : Bytes} {t : Term} (d : Reads term n out
     -- there is no redex
     pub settled : p .going ≡ false → {r : Repeated} → ((w : Term) → p .o ≡ size w → r ≡ repeatedOf (stopped 0 c true w)) → Repeats (reduce limits limit t) out₁ r
     settled e h = rests none-done (f .ends e) h
-
--- the arrays in which a contraction works
-pub room-made : Room (replicate 4096 0) (replicate 4096 0)
-room-made = record { places-room = long; made-room = long }
-  where
-    long : 4096 ≤ length (replicate {A = ℕ} 4096 0)
-    long = omega (arith, length-replicate {A = ℕ} 4096 0)

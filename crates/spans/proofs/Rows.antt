@@ -99,9 +99,6 @@ module _ {src : Bytes} {place at heads : ℕ} {t a b : Term} (i : InTwo src plac
   pub a-at : TermAt src at a
   a-at = first src at 2 a (b ∷ []) (i .row)
 
-  pub b-at : TermAt src (r .second) b
-  b-at = first src (r .second) 1 b [] (others src at 2 a (b ∷ []) (i .row) (r .second) (m .second))
-
 module _ {src : Bytes} {place at heads : ℕ} {t a b d : Term} (i : InThree src place at heads t a b d) {r : Spans3} (m : MeasuredThree at a b d r) where
   later : TermsAt src (r .second) 2 (b ∷ d ∷ [])
   later = others src at 3 a (b ∷ d ∷ []) (i .row) (r .second) (m .second)
@@ -111,9 +108,6 @@ module _ {src : Bytes} {place at heads : ℕ} {t a b d : Term} (i : InThree src 
 
   pub second-at : TermAt src (r .second) b
   second-at = first src (r .second) 2 b (d ∷ []) later
-
-  pub third-at : TermAt src (r .third) d
-  third-at = first src (r .third) 1 d [] (others src (r .second) 2 b (d ∷ []) later (r .third) (m .third))
 
 -- the parts of the first part, then the others
 row : (src : Bytes) (place : ℕ) (t : Term) → TermAt src place t → (u : Term) (ts : List Term) → parts t ≡ u ∷ ts

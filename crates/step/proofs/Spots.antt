@@ -5,13 +5,12 @@ use mathlib.Core.Option.{Option, none, some}
 use native.Mathlib.Omega.{arith}
 use Rattle.rules.specs.Basic.{Bytes}
 use Rattle.rules.specs.Term.{Term, encode, nodes, size}
-use Rattle.rules.specs.Step.{Stepped, normal, step}
-use Rattle.search.specs.Spot.{Spot, spot, stepAt, step-spot, Contracts, spot-contracts}
+use Rattle.rules.specs.Step.{normal, step}
+use Rattle.search.specs.Spot.{Spot, spot, step-spot, Contracts, spot-contracts}
 use Rattle.search.specs.Around.{Around, Arounds, spot-around}
 use Rattle.search.specs.Searched.{soughtAt, sought}
 use Rattle.spans.specs.Given.{Reads}
 use Rattle.step.specs.Taken.{contracted, Contracting, Takes}
-use Rattle.search.specs.declared.Sought.{Sought}
 use Rattle.search.specs.declared.Sought.the-variants.{Redex, After}
 use Rattle.step.specs.declared.Taken.the-variants.{Normal}
 

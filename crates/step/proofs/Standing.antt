@@ -2,14 +2,14 @@
 -- one after the other, are the bytes of the new whole. Assumes nothing.
 use Prim.Native.Nat.{ℕ, _+_, _-_, _≤_}
 use mathlib.Core.Path.{_≡_, refl, sym, ap, _∙_}
-use mathlib.Core.Bool.{Bool, true, false, _&&_}
+use mathlib.Core.Bool.{true, _&&_}
 use mathlib.Core.Option.{Option}
 use mathlib.Core.List.{[], _++_, append-nil, append-assoc}
 use native.Mathlib.Omega.{arith}
 use lib.ListN.{length, drop, length-append}
-use lib.Seq.{sets, slice, drop-at, length-slice}
+use lib.Seq.{slice, drop-at, length-slice}
 use borrow.Author.Tests.{leb-true}
-use Rattle.rules.specs.Basic.{Bytes, _≤?_, if_then_else_}
+use Rattle.rules.specs.Basic.{Bytes, _≤?_}
 use Rattle.rules.specs.Limits.{limits}
 use Rattle.rules.specs.Term.{Term, encode, nodes, size, fits}
 use Rattle.rules.specs.declared.Rule.{Rule}
@@ -17,10 +17,9 @@ use Rattle.rules.specs.Step.{found, halfFits, stepFits}
 use Rattle.laws.specs.Same.{both-true}
 use Rattle.runs.specs.Wrote.{Wrote}
 use Rattle.runs.specs.Writing.{slice-split, slice-is, chain, wrote-length}
-use Rattle.walk.specs.Place.{TermAt}
 use Rattle.walk.proofs.Names.{drop-app}
 use Rattle.parts.specs.Beside.{fitsAround, step-fits-in-frame}
-use Rattle.parts.specs.Contracts.{Redex, Replaced, Contracts, becomes, outgrows}
+use Rattle.parts.specs.Contracts.{Replaced, Contracts, becomes, outgrows}
 use Rattle.parts.specs.declared.Contracted.{Contracted}
 use Rattle.parts.specs.declared.Contracted.the-variants.{Made, Outgrown}
 use Rattle.contracting.specs.Contracting as contracting

@@ -1,7 +1,6 @@
 -- `contracting::redexes::derelict` meets its contract: the part of the Promote stays where it is. Assumes nothing.
 use native.Mathlib.Omega.{arith}
 use Rattle.contracting.proofs.Staying.{one-bounds, one-stays}
-use borrow.Author.Needs.{needs}
 use Rattle.contracting.proofs.redexes.derelict.Statement.{statement}
 use Rattle.contracting.proofs.redexes.derelict.Tie as tie
 

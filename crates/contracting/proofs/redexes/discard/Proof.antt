@@ -2,7 +2,6 @@
 use native.Mathlib.Omega.{arith}
 use Rattle.parts.proofs.Standing.{inside}
 use Rattle.contracting.proofs.Staying.{in-two, first-part, gone-nodes, second-stays}
-use borrow.Author.Needs.{needs}
 use Rattle.contracting.proofs.redexes.discard.Statement.{statement}
 use Rattle.contracting.proofs.redexes.discard.Tie as tie
 

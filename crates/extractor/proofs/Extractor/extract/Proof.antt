@@ -124,9 +124,6 @@ module _ {M : Type 1} (𝓤 : URA M) (H : Heap 𝓤) (A : Atoms 𝓤) (W : Given
   abbrev v-row : Val
   v-row = sliceVal (b-row, o-row) m-row
 
-  abbrev Shr-row : Lft → GName → List (CutEntry) → Fml
-  Shr-row ν δ x = ShrSlice erased ν (R) .own (ref-row δ x) (v-row ∷ [])
-
   abbrev Mut-row : Lft → GName → List (CutEntry) → Fml
   Mut-row ν δ x = MutSlice erased ν (R) .own (ref-row δ x) (v-row ∷ [])
 
