@@ -1,6 +1,6 @@
 -- From a rule's contract to that of `contract`: the tag of what stands at the place says which form it has, and the rules' `contract`
 -- computes on it. Assumes nothing.
-use Prim.Native.Nat.{ℕ, _<_}
+use Prim.Native.Nat.{ℕ, _<_, _≤_}
 use mathlib.Core.Path.{_≡_, refl, sym, ap, _∙_}
 use mathlib.Core.Bool.{Bool, true, false}
 use mathlib.Core.Option.{Option, none, some}
@@ -28,7 +28,13 @@ module _ {s : Bytes} {at n l : ℕ} {made : Bytes} {t : Term} {r : Rule} {h : Op
 
   -- with an array to work in
   pub in-array : Contracting s at n l (replicate {A = ℕ} 4096 0) made t r h u
-  in-array = record { bare = j; places-room = omega (arith, length-replicate {A = ℕ} 4096 0) }
+  in-array =
+      let room : 4096 ≤ length (replicate {A = ℕ} 4096 0) = omega (arith, length-replicate {A = ℕ} 4096 0) in
+      record { bare = j; app-room = λ _. room; case-room = λ _. room }
+
+  -- with none, where none is needed
+  pub in-none : {places : Bytes} → (getD s at 0 ≡ 6 → ⊥) → (getD s at 0 ≡ 9 → ⊥) → Contracting s at n l places made t r h u
+  in-none a b = record { bare = j; app-room = λ e. absurd (a e); case-room = λ e. absurd (b e) }
 
   -- the form, by the byte that stands at the place
   form-here : Form (getD s at 0) t

@@ -2,7 +2,7 @@
 use Prim.Native.Nat.{ℕ, _≤_}
 use mathlib.Core.Path.{_≡_}
 use mathlib.Core.Option.{Option}
-use lib.ListN.{length}
+use lib.ListN.{length, getD}
 use Rattle.rules.specs.Basic.{Bytes}
 use Rattle.rules.specs.Limits.{limits, outputRoom}
 use Rattle.rules.specs.Term.{Term}
@@ -16,7 +16,8 @@ pub record Contractible (s : Bytes) (at n l : ℕ) (made : Bytes) (t : Term) (r 
   pub contracts : contract t ≡ by r h u
   pub made-room : outputRoom limits ≤ length made
 
--- and room to work in
+-- and room to work in, where it is needed
 pub record Contracting (s : Bytes) (at n l : ℕ) (places made : Bytes) (t : Term) (r : Rule) (h : Option Term) (u : Term) : Type 0 where
   pub bare : Contractible s at n l made t r h u
-  pub places-room : outputRoom limits ≤ length places
+  pub app-room : getD s at 0 ≡ 6 → outputRoom limits ≤ length places
+  pub case-room : getD s at 0 ≡ 9 → outputRoom limits ≤ length places

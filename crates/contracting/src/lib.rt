@@ -1,7 +1,5 @@
 // The contraction of a redex where it stands: what it becomes is written by itself, and nothing around it is touched.
 ghost use mathlib.Core.Option.{Option};
-ghost use mathlib.Core.Path.{_≡_};
-ghost use lib.ListN.{getD};
 ghost use Rattle.rules.specs.declared.Rule.{Rule};
 ghost use Rattle.rules.specs.Term.{Term};
 ghost use Rattle.parts.specs.Contracts.{Contracts};
@@ -10,33 +8,8 @@ use parts::Contracted;
 
 mod redexes;
 
-// A redex that is neither an App nor a Case needs no room to work in.
-fn contract_bare(s: &[u8], at: usize, nodes: usize, length: usize, made: &mut [u8]) -> Contracted
-    requires { ⌜ ((t : Term) × (r : Rule) × (h : Option Term) × (u : Term) × Contractible (now s) at nodes length (now made) t r h u) ⌝ }
-    requires { ⌜ (getD (now s) at 0 ≡ 6 → ⊥) × (getD (now s) at 0 ≡ 9 → ⊥) ⌝ }
-    ensures { λ c. ⌜ ((t : Term) → (r : Rule) → (h : Option Term) → (u : Term) → Contractible (now (s .entry)) at nodes length (now (made .entry)) t r h u → Contracts (now (s .entry)) at nodes length t r h u (now (made .exit)) c) ⌝ }
-{
-    let tag = s[at];
-    if tag == 4 {
-        return redexes::let_pair(s, at, nodes, length, made);
-    }
-    if tag == 11 {
-        return redexes::first(s, at, nodes, made);
-    }
-    if tag == 12 {
-        return redexes::second(s, at, nodes);
-    }
-    if tag == 15 {
-        return redexes::derelict(s, at, nodes);
-    }
-    if tag == 17 {
-        return redexes::copy(s, at, nodes, length, made);
-    }
-    redexes::discard(s, at, nodes)
-}
-
 // Contracts the redex in s at `at`, by its tag. It is a part of a whole of so many nodes and bytes.
-// What is written stands at the start of `made`; `places` is room to work in.
+// What is written stands at the start of `made`; `places` is room to work in, which only an App and a Case need.
 pub fn contract(
     s: &[u8],
     at: usize,
@@ -55,7 +28,22 @@ pub fn contract(
     if tag == 9 {
         return branching::branch(s, at, nodes, length, places, made);
     }
-    contract_bare(s, at, nodes, length, made)
+    if tag == 4 {
+        return redexes::let_pair(s, at, nodes, length, made);
+    }
+    if tag == 11 {
+        return redexes::first(s, at, nodes, made);
+    }
+    if tag == 12 {
+        return redexes::second(s, at, nodes);
+    }
+    if tag == 15 {
+        return redexes::derelict(s, at, nodes);
+    }
+    if tag == 17 {
+        return redexes::copy(s, at, nodes, length, made);
+    }
+    redexes::discard(s, at, nodes)
 }
 
 // The room for an App or a Case is made here, so that no other redex waits for it.
@@ -85,5 +73,6 @@ pub fn contract_alone(
     if tag == 9 {
         return with_array(s, at, nodes, length, made);
     }
-    contract_bare(s, at, nodes, length, made)
+    let mut none = [0u8; 0];
+    contract(s, at, nodes, length, &mut none, made)
 }

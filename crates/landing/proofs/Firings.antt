@@ -82,7 +82,8 @@ module _ {w : Term} {out scratch stack : List ℕ} {o i d n : ℕ} {places out�
               contracts = x .is;
               made-room = e .made-room;
             };
-        places-room = e .places-room;
+        app-room = λ _. e .places-room;
+        case-room = λ _. e .places-room;
       }
 
   steps : Steps w (x .rule) (x .half) next
