@@ -31,12 +31,12 @@ fn under<T>(below: usize, work: &mut Option<impl FnOnce() -> T>) {
 }
 
 /// So many levels, one in the other, by a way of nesting.
-fn nested(before: &[u8], last: &[u8], behind: &[u8], levels: usize) -> Vec<u8> {
-    [before.repeat(levels), last.to_vec(), behind.repeat(levels)].concat()
+fn nested(before: &[u8], last: &[u8], behind: &[u8], levels: usize) -> (usize, Vec<u8>) {
+    (levels, [before.repeat(levels), last.to_vec(), behind.repeat(levels)].concat())
 }
 
-/// Terms, formulas or proofs of a part of the full depth, in 256ths.
-fn deep(call: Call, part: usize) -> Vec<Vec<u8>> {
+/// Terms, formulas or proofs of a part of the full depth, in 256ths, each with its levels.
+fn deep(call: Call, part: usize) -> Vec<(usize, Vec<u8>)> {
     let of = |full: usize| full * part / 256;
     match call {
         Call::CheckFormula | Call::FormulaText => {
@@ -66,16 +66,16 @@ fn cases(call: Call, part: usize) -> Vec<Case> {
         Call::LoadProof => vec![patch_model::stored::blocks(2, &input)],
         _ => vec![input],
     };
-    deep(call, part).into_iter().map(|input| Case { number: 3, ..Case::new(call, more(input)) }).collect()
+    deep(call, part).into_iter().map(|(_, input)| Case { number: 3, ..Case::new(call, more(input)) }).collect()
 }
 
-/// Runs the deep inputs of call number `call` on a thread of `bytes`; in a process of its own, since it may not come back.
+/// Runs one deep input of call number `call` on a thread of `bytes`; in a process of its own, since it may not come back.
 pub fn one(numbers: &[String]) -> ExitCode {
     let numbers: Vec<usize> = numbers.iter().filter_map(|n| n.parse().ok()).collect();
-    let [call, part, bytes] = numbers[..] else {
+    let [call, part, bytes, which] = numbers[..] else {
         return ExitCode::from(2);
     };
-    for case in cases(Call::ALL[call], part) {
+    if let Some(case) = cases(Call::ALL[call], part).into_iter().nth(which) {
         let inputs = case.inputs.clone();
         let mut lent: Vec<Vec<u8>> = case.lent.iter().map(|n| vec![0; *n]).collect();
         let work = move || {
@@ -92,18 +92,18 @@ pub fn one(numbers: &[String]) -> ExitCode {
     ExitCode::SUCCESS
 }
 
-fn enough(call: usize, part: usize, bytes: usize) -> bool {
+fn enough(call: usize, part: usize, bytes: usize, which: usize) -> bool {
     let own = std::env::current_exe().unwrap();
-    let words = ["stack-one".to_string(), call.to_string(), part.to_string(), bytes.to_string()];
+    let words = ["stack-one".to_string(), call.to_string(), part.to_string(), bytes.to_string(), which.to_string()];
     Command::new(own).args(words).stdout(Stdio::null()).stderr(Stdio::null()).status().unwrap().success()
 }
 
 /// The least stack that is enough, to the kilobyte.
-fn least(call: usize, part: usize) -> usize {
+fn least(call: usize, part: usize, which: usize) -> usize {
     let (mut low, mut high) = (0, ENOUGH >> 10);
     while high - low > 1 {
         let middle = (low + high) / 2;
-        if enough(call, part, middle << 10) {
+        if enough(call, part, middle << 10, which) {
             high = middle;
         } else {
             low = middle;
@@ -112,16 +112,26 @@ fn least(call: usize, part: usize) -> usize {
     high
 }
 
-/// Whether all calls live with `ENOUGH`; with `measure`, what each takes at full depth, and what is there without depth.
+/// What the input that takes most has at full depth and without, in kilobytes, and so the bytes of a level.
+fn measured(call: usize) -> (usize, usize, usize) {
+    let inputs = deep(Call::ALL[call], 256);
+    let takes = |(which, (levels, _)): (usize, &(usize, Vec<u8>))| {
+        let (full, flat) = (least(call, 256, which), least(call, 0, which));
+        (full, flat, ((full - flat) << 10) / levels)
+    };
+    inputs.iter().enumerate().map(takes).max().unwrap()
+}
+
+/// Whether all calls live with `ENOUGH`; with `measure`, what each takes at full depth, without, and for a level.
 pub fn all(measure: bool) -> ExitCode {
     for (number, call) in Call::ALL.iter().enumerate() {
-        if !enough(number, 256, ENOUGH) {
+        if !(0..deep(*call, 256).len()).all(|which| enough(number, 256, ENOUGH, which)) {
             println!("{call:?} takes more than {} KB of stack", ENOUGH >> 10);
             return ExitCode::FAILURE;
         }
         if measure {
-            let (full, flat) = (least(number, 256), least(number, 0));
-            println!("{:18} {full:4} KB at full depth, {flat:4} KB without", format!("{call:?}"));
+            let (full, flat, level) = measured(number);
+            println!("{:18} {full:4} KB at full depth, {flat:4} KB without, {level:4} bytes a level", format!("{call:?}"));
         }
     }
     println!("stack: {} KB are enough for the deepest input of each call", ENOUGH >> 10);
