@@ -28,7 +28,3 @@ shapeOf k = 244832192 / 2 ^ (k * 2) % 4
 -- what stands before the parts of an exponential or a connective
 abbrev pub openingOf : (tag : ℕ) → ℕ
 openingOf k = if k == 11 then 33 else if k == 12 then 63 else 40
-
--- the brackets after the first part of a node of that shape, where so many come after the node
-abbrev pub keptOf : (shape brackets : ℕ) → ℕ
-keptOf k c = if k == 3 then 0 else c

@@ -1,9 +1,9 @@
-// What is printed of a formula's tag, and what is kept of a connective until its second part is printed.
+// What is printed of a formula's tag.
 ghost use mathlib.Core.Path.{_≡_};
-ghost use Prim.Native.Nat.{_+_, _*_, _/_, _%_, _≤_, _<_};
+ghost use Prim.Native.Nat.{_+_, _≤_, _<_};
 ghost use lib.ListN.{length};
 ghost use Rattle.words.specs.Prints.{Prints};
-ghost use Rattle.formula_signs.specs.Words.{wordOf, signOf, shapeOf, openingOf, keptOf};
+ghost use Rattle.formula_signs.specs.Words.{wordOf, signOf, shapeOf, openingOf};
 use words::chosen;
 use words::number;
 
@@ -59,35 +59,4 @@ pub fn opening(tag: u8) -> u8
         return 63;
     }
     40
-}
-
-// The brackets to come after the next part: a connective keeps them for its second part.
-pub fn kept(shape: usize, brackets: usize) -> usize
-    ensures { λ r. ⌜ r ≡ keptOf shape brackets ⌝ }
-{
-    if shape == 3 {
-        return 0;
-    }
-    brackets
-}
-
-// A connective that is open: its tag, and the brackets that come after its own.
-pub fn entry(brackets: usize, tag: u8) -> u16
-    requires { ⌜ (brackets < 4095) × (tag < 16) ⌝ }
-    ensures { λ r. ⌜ r ≡ brackets * 16 + tag ⌝ }
-{
-    (brackets * 16 + tag as usize) as u16
-}
-
-pub fn tag_of(entry: u16) -> u8
-    ensures { λ r. ⌜ r ≡ entry % 16 ⌝ }
-{
-    (entry % 16) as u8
-}
-
-// The brackets after its second part, its own among them.
-pub fn brackets_of(entry: u16) -> usize
-    ensures { λ r. ⌜ r ≡ entry / 16 + 1 ⌝ }
-{
-    entry as usize / 16 + 1
 }

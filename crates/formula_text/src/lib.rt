@@ -22,8 +22,7 @@ pub fn pretty(formula: &[u8], out: &mut [u8]) -> Answer
     }
     match reader::check_formula(formula) {
         Answer::Good(_) => {
-            let mut row = [0u16; 512];
-            let past = walk(formula, out, &mut row);
+            let past = walk(formula, 0, out, 0) / 65536;
             runs::clear(out, past);
             Answer::Good(past)
         }

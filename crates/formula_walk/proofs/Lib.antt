@@ -1,5 +1,4 @@
 -- What the proofs of several functions use.
 mod Shapes
 mod Leaves
-mod Pending
 mod Walking

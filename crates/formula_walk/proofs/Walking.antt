@@ -1,237 +1,137 @@
--- The walk over a formula: the formula at which it stands and the second parts of the open connectives make up what is still to be printed.
--- Assumes nothing.
-use Prim.Native.Nat.{ℕ, suc, _+_, _*_, _-_, _/_, _%_, _<_, _≤_}
+-- The walk over a formula with parts: what each call is asked, and that what they print is the formula's text. Assumes nothing.
+use Prim.Native.Nat.{ℕ, _+_, _<_, _≤_, _/_, _%_}
 use mathlib.Core.Path.{_≡_, refl, sym, ap, _∙_}
-use mathlib.Core.List.{List, [], _∷_, _++_, append-assoc, append-nil}
-use native.Mathlib.Nat.{zero-add}
+use mathlib.Core.List.{List, [], _∷_, _++_}
 use native.Mathlib.Omega.{arith}
-use lib.ListN.{length, getD, take, set, length-set, length-replicate}
-use lib.Seq.{length-take-le}
+use lib.ListN.{length, getD}
 use Rattle.rules.specs.Basic.{say}
-use Rattle.rules.specs.Limits.{limits}
-use Rattle.rules.specs.Refusal.{Outcome, good}
-use Rattle.rules.specs.Legal.{LegalFormula, LegalFormulas}
-use Rattle.rules.specs.Formula.{Formula, atom, constant, exponential, connective, Exponential, Connective, exponentialTag, connectiveTag, encodeFormula, formulaNodes}
-use Rattle.rules.specs.Reading.{readFormula}
+use Rattle.rules.specs.Formula.{Formula, atom, constant, exponential, connective, Exponential, Connective, exponentialTag, connectiveTag, encodeFormula}
 use Rattle.rules.specs.Text.{exponentialText, connectiveText, formulaText}
-use Rattle.laws.specs.Decoding.{FormulaIn, formula-sound}
-use Rattle.words.specs.Prints.{Prints, brackets}
-use Rattle.words.specs.Task.{Task}
-use Rattle.words.specs.Steps.{passed, printed, part-of, part-end, part-prints, after-part, no-more, print-on, spelt, told}
-use Rattle.formula_walk.specs.Task.{FormulaTask, FormulaDone, Leaf, textOf, said}
-use Rattle.formula_signs.specs.Words.{signOf, shapeOf, openingOf, keptOf}
-use Rattle.formula_walk.proofs.Shapes.{connective-word, exponential-opens, connective-opens, tag-at, tag-below, shape-at, leaf-shape, begun}
-use Rattle.formula_walk.proofs.Pending.{later, owed, parts, counts, counted, counts-most, owed-most, later-most, later-same, owed-same, later-opened, owed-opened, Last, last}
-use Rattle.formula_walk.specs.Read.{task}
+use Rattle.words.specs.Prints.{Prints}
+use Rattle.words.specs.Task.{Task, Done}
+use Rattle.words.specs.Steps.{passed, printed, part-of, part-end, after-part, part-then, pass-then, print-then, no-more, no-more-done}
+use Rattle.formula_walk.specs.Task.{FormulaTask, FormulaDone}
+use Rattle.formula_signs.specs.Words.{signOf, shapeOf, openingOf}
+use Rattle.formula_walk.proofs.Shapes.{connective-word, exponential-opens, connective-opens, tag-at, shape-at}
 
--- The walk stands at f; gs are the second parts of the open connectives.
-pub record Stand (s out₀ out row : List ℕ) (at to depth c : ℕ) (f : Formula) (gs : List Formula) : Type 0 where
-  pub legal : LegalFormula f
-  pub all-legal : LegalFormulas gs
-  pub many : length gs ≡ depth
-  pub few : owed row depth c + (formulaNodes f + counts gs) ≤ 1024
-  pub task : Task s at out to (encodeFormula f ++ parts gs) (formulaText f ++ later row depth c gs)
-  pub whole : take to out ++ (formulaText f ++ later row depth c gs) ≡ said s
-  pub same : length out ≡ length out₀
-  pub wide : length row ≡ 512
+-- a formula of which the tag has the shape k
+module _ {s : List ℕ} {at : ℕ} {out : List ℕ} {to : ℕ} {k : ℕ} (e : k ≡ shapeOf (getD s at 0)) where
+  an-exponential : k ≡ 2 → (f : Formula) → FormulaTask s at out to f → (j : Exponential) × (a : Formula) × (f ≡ exponential j a)
+  an-exponential h (exponential j a) t = (j, a, refl)
+  an-exponential h (atom j x) t = absurd (omega (arith, shape-at (atom j x) t))
+  an-exponential h (constant j) t = absurd (omega (arith, shape-at (constant j) t))
+  an-exponential h (connective j a b) t = absurd (omega (arith, shape-at (connective j a b) t))
 
-pub record Going (s out₀ out row : List ℕ) (at to depth c : ℕ) : Type 0 where
-  pub f : Formula
-  pub gs : List Formula
-  pub stand : Stand s out₀ out row at to depth c f gs
+  a-connective : 2 ≤ k → (k ≡ 2 → ⊥) → (f : Formula) → FormulaTask s at out to f → (j : Connective) × (a : Formula) × (b : Formula) × (f ≡ connective j a b)
+  a-connective h g (connective j a b) t = (j, a, b, refl)
+  a-connective h g (atom j x) t = absurd (omega (arith, shape-at (atom j x) t))
+  a-connective h g (constant j) t = absurd (omega (arith, shape-at (constant j) t))
+  a-connective h g (exponential j a) t = absurd (g (e ∙ shape-at (exponential j a) t))
 
-pub begin : (s out row : List ℕ) (f : Formula) → readFormula limits 1 s ≡ good f → 11264 ≤ length out → length row ≡ 512 → Going s out out row 0 0 0 0
-begin s out row f e h w =
-    let a : FormulaIn limits s f = formula-sound limits 1 s f e in
-    record {
-      f = f;
-      gs = [];
-      stand = record {
-        legal = a .legal;
-        all-legal = tt;
-        many = refl;
-        few = omega (arith, a .few);
-        task = told (sym (append-nil (formulaText f))) (no-more (task s out h f e .task));
-        whole = append-nil (formulaText f) ∙ sym (ap (λ (r : Outcome Formula). textOf r) e);
-        same = refl;
-        wide = w;
-      };
-    }
+pub room : {s : List ℕ} {at : ℕ} {out : List ℕ} {to : ℕ} → ((f : Formula) × FormulaTask s at out to f) → to < length out
+room (f, t) = omega (arith, t .task .room)
 
-some-bytes : (f : Formula) → 1 ≤ length (encodeFormula f)
-unfolding encodeFormula
-some-bytes (atom k x) = omega arith
-some-bytes (constant k) = omega arith
-some-bytes (exponential k a) = omega arith
-some-bytes (connective k a b) = omega arith
+module _ {s : List ℕ} {at : ℕ} {out : List ℕ} {to w : ℕ} (opens : w ≡ openingOf (getD s at 0)) {o : List ℕ} {p : ℕ} (a : Prints out to (w ∷ []) o p) where
+  -- ---- an exponential
+  module _ (k : Exponential) (f : Formula) (t : FormulaTask s at out to (exponential k f)) where
+    exponential-prints : Prints out to (say (exponentialText k)) o p
+    exponential-prints =
+        let q : w ≡ openingOf (exponentialTag k) = opens ∙ ap (λ (n : ℕ). openingOf n) (tag-at (exponential k f) t) in
+        rw (ap (λ (n : ℕ). n ∷ []) q ∙ exponential-opens k) at a
 
-module _ {s out₀ out row : List ℕ} {at to depth c : ℕ} where
-  stand-task : {f : Formula} {gs : List Formula} → Stand s out₀ out row at to depth c f gs → FormulaTask s at out to f
-  stand-task {f} {gs} t = record { legal = t .legal; task = part-of (encodeFormula f) (parts gs) (formulaText f) (later row depth c gs) (t .task) }
+    exponential-part : FormulaTask s (at + 1) o p f
+    unfolding encodeFormula formulaText
+    exponential-part = record { legal = t .legal; task = printed (say (exponentialText k)) (passed (exponentialTag k ∷ []) (t .task)) exponential-prints }
 
-  -- ---- a node with parts
-  module _ {o : List ℕ} {p : ℕ} where
-    exponential-turn : (k : Exponential) (f : Formula) (gs : List Formula) (v w : ℕ) → Stand s out₀ out row at to depth c (exponential k f) gs
-        → w ≡ openingOf (getD s at 0) → Prints out to (w ∷ []) o p → Stand s out₀ o (set row depth v) (at + 1) p depth c f gs
-    unfolding encodeFormula formulaText formulaNodes
-    exponential-turn k f gs v w t ew a =
-        let l = later row depth c gs in
-        let q : openingOf (getD s at 0) ∷ [] ≡ say (exponentialText k) = ap (λ (i : ℕ). openingOf i ∷ []) (tag-at (exponential k f) (stand-task t)) ∙ exponential-opens k in
-        let b : Prints out to (say (exponentialText k)) o p = rw (ap (λ (i : ℕ). i ∷ []) ew ∙ q) at a in
-        let g : (say (exponentialText k) ++ formulaText f) ++ l ≡ say (exponentialText k) ++ (formulaText f ++ l) = append-assoc (say (exponentialText k)) (formulaText f) l in
-        let z : formulaText f ++ l ≡ formulaText f ++ later (set row depth v) depth c gs = ap (λ (y : List ℕ). formulaText f ++ y) (sym (later-same row depth v depth c gs (omega arith))) in
-        record {
-          legal = t .legal;
-          all-legal = t .all-legal;
-          many = t .many;
-          few = omega (arith, t .few, owed-same row depth v depth c (omega arith));
-          task = told z (printed (say (exponentialText k)) (told g (passed (exponentialTag k ∷ []) (t .task))) b);
-          whole = ap (λ (y : List ℕ). take p o ++ y) (sym z) ∙ print-on (formulaText f ++ l) b (ap (λ (y : List ℕ). take to out ++ y) (sym g) ∙ t .whole);
-          same = b .long ∙ t .same;
-          wide = length-set row depth _ ∙ t .wide;
-        }
+    exponential-done : {o′ : List ℕ} {r : ℕ} → FormulaDone (at + 1) o p f o′ r → FormulaDone at out to (exponential k f) o′ r
+    unfolding encodeFormula formulaText
+    exponential-done d = pass-then (exponentialTag k ∷ []) (encodeFormula f) (print-then exponential-prints d)
 
-    connective-turn : (k : Connective) (f g : Formula) (gs : List Formula) (w : ℕ) → Stand s out₀ out row at to depth c (connective k f g) gs
-        → w ≡ openingOf (getD s at 0) → Prints out to (w ∷ []) o p → depth < length row
-        → Stand s out₀ o (set row depth (c * 16 + getD s at 0)) (at + 1) p (suc depth) 0 f (g ∷ gs)
-    unfolding encodeFormula formulaText formulaNodes
-    connective-turn k f g gs w t ew a h =
-        let l = later row depth c gs in
-        let i = getD s at 0 in
-        let b : Prints out to (say "(") o p = rw (ew ∙ ap (λ (n : ℕ). openingOf n) (tag-at (connective k f g) (stand-task t)) ∙ connective-opens k) at a in
-        let y : signOf i ≡ say (connectiveText k) = ap (λ (n : ℕ). signOf n) (tag-at (connective k f g) (stand-task t)) ∙ connective-word k in
-        let low : i < 16 = tag-below (connective k f g, stand-task t) in
-        let x : later (set row depth (c * 16 + i)) (suc depth) 0 (g ∷ gs) ≡ say (connectiveText k) ++ (formulaText g ++ 41 ∷ l) =
-        later-opened row depth c i h low g gs ∙ ap (λ (n : List ℕ). n ++ (formulaText g ++ 41 ∷ l)) y in
-        let z : (formulaText f ++ (say (connectiveText k) ++ (formulaText g ++ say ")"))) ++ l ≡ formulaText f ++ later (set row depth (c * 16 + i)) (suc depth) 0 (g ∷ gs) =
-        append-assoc (formulaText f) (say (connectiveText k) ++ (formulaText g ++ say ")")) l
-        ∙ ap (λ (n : List ℕ). formulaText f ++ n)
-        (append-assoc (say (connectiveText k)) (formulaText g ++ say ")") l ∙ ap (λ (n : List ℕ). say (connectiveText k) ++ n) (append-assoc (formulaText g) (say ")") l) ∙ sym x) in
-        record {
-          legal = t .legal .0;
-          all-legal = (t .legal .1, t .all-legal);
-          many = ap suc (t .many);
-          few = omega (arith, t .few, owed-opened row depth c i h low);
-          task =
-              printed (say "(") (told (ap (λ (n : List ℕ). say "(" ++ n) z)
-              (spelt (append-assoc (encodeFormula f) (encodeFormula g) (parts gs)) (passed (connectiveTag k ∷ []) (t .task)))) b;
-          whole = print-on (formulaText f ++ later (set row depth (c * 16 + i)) (suc depth) 0 (g ∷ gs)) b (ap (λ (n : List ℕ). take to out ++ (say "(" ++ n)) (sym z) ∙ t .whole);
-          same = b .long ∙ t .same;
-          wide = length-set row depth _ ∙ t .wide;
-        }
+  -- ---- a connective
+  module _ (k : Connective) (f g : Formula) (t : FormulaTask s at out to (connective k f g)) where
+    abbrev close : List ℕ
+    close = say ")"
 
-    turned : (f : Formula) (gs : List Formula) → Stand s out₀ out row at to depth c f gs → (k b v w : ℕ) → k ≡ shapeOf (getD s at 0) → 2 ≤ k
-        → b ≡ keptOf k c → v ≡ c * 16 + getD s at 0 → w ≡ openingOf (getD s at 0) → Prints out to (w ∷ []) o p → depth < length row
-        → Going s out₀ o (set row depth v) (at + 1) p (depth + (k - 2)) b
-    turned (atom k x) gs t n b v w en h eb ev ew a i = absurd (omega (arith, en, shape-at (atom k x) (stand-task t)))
-    turned (constant k) gs t n b v w en h eb ev ew a i = absurd (omega (arith, en, shape-at (constant k) (stand-task t)))
-    turned (exponential k f) gs t n b v w en h eb ev ew a i =
-        let q : n ≡ 2 = en ∙ shape-at (exponential k f) (stand-task t) in
-        let z : depth + (n - 2) ≡ depth = omega arith in
-        let y : b ≡ c = eb ∙ ap (λ (j : ℕ). keptOf j c) q in
-        rw (z, y) (record { f = f; gs = gs; stand = exponential-turn k f gs v w t ew a })
-    turned (connective k f g) gs t n b v w en h eb ev ew a i =
-        let q : n ≡ 3 = en ∙ shape-at (connective k f g) (stand-task t) in
-        let z : depth + (n - 2) ≡ suc depth = omega arith in
-        let y : b ≡ 0 = eb ∙ ap (λ (j : ℕ). keptOf j c) q in
-        rw (z, y, ev) (record { f = f; gs = g ∷ gs; stand = connective-turn k f g gs w t ew a i })
+    abbrev later : List ℕ
+    later = say (connectiveText k) ++ (formulaText g ++ close)
 
-  module _ (g : Going s out₀ out row at to depth c) where
-    pub here : FormulaTask s at out to (g .f)
-    here = stand-task (g .stand)
+    connective-prints : Prints out to (say "(") o p
+    connective-prints =
+        let q : w ≡ 40 = opens ∙ ap (λ (n : ℕ). openingOf n) (tag-at (connective k f g) t) ∙ connective-opens k in
+        rw (ap (λ (n : ℕ). n ∷ []) q) at a
 
-    pub inside : at < length s
-    inside = begun (g .f) here
+    both : Task s (at + 1) o p (encodeFormula f ++ encodeFormula g) (formulaText f ++ later)
+    unfolding encodeFormula formulaText
+    both = printed (say "(") (passed (connectiveTag k ∷ []) (t .task)) connective-prints
 
-    pub low-tag : getD s at 0 < 16
-    low-tag = tag-below (g .f, here)
+    left-part : FormulaTask s (at + 1) o p f
+    left-part = record { legal = t .legal .0; task = part-of (encodeFormula f) (encodeFormula g) (formulaText f) later both }
 
-    pub to-room : to < length out
-    to-room = omega (arith, here .task .room)
+    module _ {o₁ : List ℕ} {l : ℕ} (d : FormulaDone (at + 1) o p f o₁ l) where
+      between : Task s (l % 65536) o₁ (l / 65536) (encodeFormula g) later
+      between = after-part (encodeFormula f) (encodeFormula g) (formulaText f) later both d
 
-    pub entry-fits : c < 4095
-    entry-fits = omega (arith, owed-most row depth c, counted (g .f), g .stand .few)
+      further : at < l % 65536
+      further = omega (arith, part-end (encodeFormula f) (encodeFormula g) (formulaText f) later both d)
 
-    pub depth-low : depth < 512
-    depth-low = omega (arith, owed-most row depth c, counted (g .f), counts-most (g .gs), g .stand .many, g .stand .few)
+      module _ {o₂ : List ℕ} {q : ℕ} (b : Prints o₁ (l / 65536) (signOf (getD s at 0)) o₂ q) where
+        between-prints : Prints o₁ (l / 65536) (say (connectiveText k)) o₂ q
+        between-prints = rw (ap (λ (n : ℕ). signOf n) (tag-at (connective k f g) t) ∙ connective-word k) at b
 
-    pub turn : {o : List ℕ} {p k b v w : ℕ} → k ≡ shapeOf (getD s at 0) → 2 ≤ k → b ≡ keptOf k c → v ≡ c * 16 + getD s at 0 → w ≡ openingOf (getD s at 0)
-        → Prints out to (w ∷ []) o p → Going s out₀ o (set row depth v) (at + 1) p (depth + (k - 2)) b
-    turn ek h eb ev ew a = turned (g .f) (g .gs) (g .stand) _ _ _ _ ek h eb ev ew a (omega (arith, depth-low, g .stand .wide))
+        second : Task s (l % 65536) o₂ q (encodeFormula g ++ []) (formulaText g ++ close)
+        second = no-more (printed (say (connectiveText k)) between between-prints)
 
-    -- ---- a leaf
-    pub leaf-here : shapeOf (getD s at 0) < 2 → Leaf (g .f)
-    leaf-here h = leaf-shape (g .f) here h
+        right-part : FormulaTask s (l % 65536) o₂ q g
+        right-part = record { legal = t .legal .1; task = part-of (encodeFormula g) [] (formulaText g) close second }
 
-    module _ {o : List ℕ} {r : ℕ} (d : FormulaDone at out to (g .f) o r) where
-      abbrev e : List ℕ
-      e = encodeFormula (g .f)
+        module _ {o₃ : List ℕ} {r : ℕ} (e : FormulaDone (l % 65536) o₂ q g o₃ r) where
+          last : Task s (r % 65536) o₃ (r / 65536) [] close
+          last = after-part (encodeFormula g) [] (formulaText g) close second e
 
-      abbrev x : List ℕ
-      x = formulaText (g .f)
+          connective-done : {o₄ : List ℕ} {n : ℕ} → Done (r % 65536) o₃ (r / 65536) [] close o₄ n → FormulaDone at out to (connective k f g) o₄ n
+          unfolding encodeFormula formulaText
+          connective-done c =
+              pass-then (connectiveTag k ∷ []) (encodeFormula f ++ encodeFormula g)
+              (print-then connective-prints (part-then (encodeFormula f) (encodeFormula g) (formulaText f) later both d
+              (print-then between-prints (no-more-done (encodeFormula g) (part-then (encodeFormula g) [] (formulaText g) close second e c)))))
 
-      abbrev l : List ℕ
-      l = later row depth c (g .gs)
+  -- ---- by the shape
+  module _ {k : ℕ} (e : k ≡ shapeOf (getD s at 0)) where
+    module _ (h : k ≡ 2) where
+      pub only-part : ((f : Formula) × FormulaTask s at out to f) → (f : Formula) × FormulaTask s (at + 1) o p f
+      only-part (F, t) = let v = an-exponential e h F t in (v .1, exponential-part (v .0) (v .1) (rw (v .2) at t))
 
-      remaining : Task s (r % 65536) o (r / 65536) (parts (g .gs)) l
-      remaining = after-part e (parts (g .gs)) x l (g .stand .task) d
+      pub only-done : {o′ : List ℕ} {r : ℕ} → ((f : Formula) → FormulaTask s (at + 1) o p f → FormulaDone (at + 1) o p f o′ r) → (f : Formula) → FormulaTask s at out to f → FormulaDone at out to f o′ r
+      only-done d F t =
+          let v = an-exponential e h F t in
+          let u : FormulaTask s at out to (exponential (v .0) (v .1)) = rw (v .2) at t in
+          rw (v .2) (exponential-done (v .0) (v .1) u (d (v .1) (exponential-part (v .0) (v .1) u)))
 
-      still : take (r / 65536) o ++ l ≡ said s
-      still = print-on l (part-prints e (parts (g .gs)) x l (g .stand .task) d) (g .stand .whole)
+    module _ (h : 2 ≤ k) (z : k ≡ 2 → ⊥) where
+      connected : (F : Formula) → FormulaTask s at out to F → (j : Connective) × (f : Formula) × (g : Formula) × (F ≡ connective j f g) × FormulaTask s at out to (connective j f g)
+      connected F t = let v = a-connective e h z F t in (v .0, v .1, v .2, v .3, rw (v .3) at t)
 
-      pub further : at < r % 65536
-      further = omega (arith, part-end e (parts (g .gs)) x l (g .stand .task) d, some-bytes (g .f))
+      pub first-part : ((f : Formula) × FormulaTask s at out to f) → (f : Formula) × FormulaTask s (at + 1) o p f
+      first-part (F, t) = let (j, f, g, i, u) = connected F t in (f, left-part j f g u)
 
-      pub closes-room : r / 65536 + c + 8 ≤ length o
-      closes-room = omega (arith, remaining .room, later-most row depth c (g .gs))
+      module _ {o₁ : List ℕ} {l : ℕ} (d : (f : Formula) → FormulaTask s (at + 1) o p f → FormulaDone (at + 1) o p f o₁ l) where
+        pub sign-room : ((f : Formula) × FormulaTask s at out to f) → (l / 65536 + 8 ≤ length o₁) × (at < l % 65536)
+        sign-room (F, t) = let (j, f, g, i, u) = connected F t in let w = d f (left-part j f g u) in (omega (arith, between j f g u w .room), further j f g u w)
 
-      module _ {o₂ : List ℕ} {p : ℕ} (a : Prints o (r / 65536) (brackets c) o₂ p) where
-        pub ended : depth ≡ 0 → Prints out₀ 0 (said s) o₂ p
-        ended z =
-            let y : l ≡ brackets c = ap (λ (n : ℕ). later row n c (g .gs)) z in
-            let w : take p o₂ ≡ said s = a .holds ∙ ap (λ (n : List ℕ). take (r / 65536) o ++ n) (sym y) ∙ still in
-            let i : p ≤ length o₂ = omega (arith, a .ends, a .long, closes-room, length-replicate {A = ℕ} c 41) in
-            record {
-              long = a .long ∙ d .prints .long ∙ g .stand .same;
-              ends = sym (length-take-le p o₂ i) ∙ ap length w ∙ sym (zero-add (length (said s)));
-              holds = w;
-            }
+        module _ {o₂ : List ℕ} {q : ℕ} (b : Prints o₁ (l / 65536) (signOf (getD s at 0)) o₂ q) where
+          pub second-part : ((f : Formula) × FormulaTask s at out to f) → (f : Formula) × FormulaTask s (l % 65536) o₂ q f
+          second-part (F, t) = let (j, f, g, i, u) = connected F t in (g, right-part j f g u (d f (left-part j f g u)) b)
 
-        module _ (h : depth ≡ 0 → ⊥) where
-          top : Last row depth c (g .gs) (getD row (depth - 1) 0)
-          top = last row depth c (g .gs) (g .stand .many) h
+          module _ {o₃ : List ℕ} {r : ℕ} (x : (f : Formula) → FormulaTask s (l % 65536) o₂ q f → FormulaDone (l % 65536) o₂ q f o₃ r) where
+            pub close-room : ((f : Formula) × FormulaTask s at out to f) → (r / 65536 + 1 + 8 ≤ length o₃) × (r / 65536 + 1 < 65536)
+            close-room (F, t) =
+                let (j, f, g, i, u) = connected F t in
+                let w = d f (left-part j f g u) in
+                let y = last j f g u w b (x g (right-part j f g u w b)) in
+                (omega (arith, y .room), omega (arith, y .low))
 
-          abbrev m : ℕ
-          m = getD row (depth - 1) 0
-
-          abbrev n : List ℕ
-          n = formulaText (top .part) ++ later row (depth - 1) (m / 16 + 1) (top .others)
-
-          after-brackets : Task s (r % 65536) o₂ p (parts (g .gs)) (signOf (m % 16) ++ n)
-          after-brackets = printed (brackets c) (told (top .says) remaining) a
-
-          pub next-room : p + 8 ≤ length o₂
-          next-room = omega (arith, after-brackets .room)
-
-          pub next : {o₃ : List ℕ} {q t k : ℕ} → t ≡ m % 16 → k ≡ m / 16 + 1 → Prints o₂ p (signOf t) o₃ q → Going s out₀ o₃ row (r % 65536) q (depth - 1) k
-          next {o₃} {q} et ek y = rw ek (go (rw et at y))
-            where
-              go : Prints o₂ p (signOf (m % 16)) o₃ q → Going s out₀ o₃ row (r % 65536) q (depth - 1) (m / 16 + 1)
-              go b =
-                  let u : LegalFormulas (top .part ∷ top .others) = rw (top .are) at (g .stand .all-legal) in
-                  let v : length (g .gs) ≡ suc (length (top .others)) = ap length (top .are) in
-                  let k : counts (g .gs) ≡ formulaNodes (top .part) + counts (top .others) = ap (λ (y : List Formula). counts y) (top .are) in
-                  record {
-                    f = top .part;
-                    gs = top .others;
-                    stand = record {
-                      legal = u .0;
-                      all-legal = u .1;
-                      many = omega (arith, v, g .stand .many);
-                      few = omega (arith, k, g .stand .few, top .owes);
-                      task = printed (signOf (m % 16)) (spelt (ap (λ (y : List Formula). parts y) (top .are)) after-brackets) b;
-                      whole = print-on n b (print-on (signOf (m % 16) ++ n) a (ap (λ (y : List ℕ). take (r / 65536) o ++ y) (sym (top .says)) ∙ still));
-                      same = b .long ∙ a .long ∙ d .prints .long ∙ g .stand .same;
-                      wide = g .stand .wide;
-                    };
-                  }
+            pub both-done : {o₄ : List ℕ} {n : ℕ} → Done (r % 65536) o₃ (r / 65536) [] (say ")") o₄ n → (f : Formula) → FormulaTask s at out to f → FormulaDone at out to f o₄ n
+            both-done c F t =
+                let (j, f, g, i, u) = connected F t in
+                let w = d f (left-part j f g u) in
+                rw i (connective-done j f g u w b (x g (right-part j f g u w b)) c)

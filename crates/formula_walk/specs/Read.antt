@@ -1,13 +1,13 @@
 -- A formula that was read can be printed: its text has room, and the walk from its start has its task.
 -- Assumes nothing.
-use Prim.Native.Nat.{ℕ, _+_, _≤_}
+use Prim.Native.Nat.{ℕ, _+_, _<_, _≤_}
 use mathlib.Core.Path.{_≡_, ap}
 use mathlib.Core.List.{List}
 use native.Mathlib.Omega.{arith}
 use lib.ListN.{length}
 use Rattle.rules.specs.Limits.{limits}
 use Rattle.rules.specs.Refusal.{good}
-use Rattle.rules.specs.Formula.{Formula}
+use Rattle.rules.specs.Formula.{Formula, encodeFormula}
 use Rattle.rules.specs.Reading.{readFormula}
 use Rattle.rules.specs.Text.{formulaText}
 use Rattle.laws.specs.Decoding.{FormulaIn, formula-sound}
@@ -21,6 +21,9 @@ module _ (s o : List ℕ) (h : 11264 ≤ length o) (x : Formula) (e : readFormul
 
   pub few : length (formulaText x) + 24 ≤ 11264
   few = let a = accepted in omega (arith, formula-text-size x, ap length (a .bytes), a .short, a .few)
+
+  pub size : length (encodeFormula x) < 65536
+  size = let a = accepted in omega (arith, ap length (a .bytes), a .short)
 
   pub task : FormulaTask s 0 o 0 x
   task = let a = accepted in record { legal = a .legal; task = start (a .bytes) (omega (arith, a .short)) (omega (arith, few)) (omega (arith, few)) }

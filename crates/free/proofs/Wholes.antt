@@ -14,7 +14,6 @@ use Rattle.laws.specs.FreeSize.{free-size}
 use Rattle.runs.specs.Wrote.{Wrote}
 use Rattle.runs.specs.Writing.{filled-up, wrote-length}
 use Rattle.walk.proofs.Terms.{whole}
-use Rattle.gathering.specs.declared.Gathered.{Gathered}
 use Rattle.gathering.specs.Gather.{gather-free}
 use Rattle.name_slots.specs.Rows.{Held, Passed, Writes}
 use Rattle.gathering.specs.Walk.{Task, Done}
@@ -38,8 +37,8 @@ module _ {s out : Bytes} {t : Term} (w : Lists s out t) where
   fits : length (encodeNames (free t)) ≤ length out
   fits = omega (arith, free-size t, w .short, ap length (w .bytes), w .room)
 
-  pub gathered : {row : List ℕ} {r : Gathered} → Done s 0 row 1024 0 t [] [] r → Writes s row (r .count) out (free t)
-  gathered {row = row} {r = r} z = record { held = rw (gather-free t) at (z .state .found); room = fits }
+  pub gathered : {row : List ℕ} {m c : ℕ} → Done s 0 row 1024 0 t [] [] m c → Writes s row c out (free t)
+  gathered z = record { held = rw (gather-free t) at (z .state .found); room = fits }
 
   module _ {out₁ : Bytes} {p : ℕ} (x : Wrote out 0 (encodeNames (free t)) out₁ p) where
     pub within : p ≤ length out₁

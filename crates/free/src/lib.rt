@@ -37,8 +37,8 @@ fn list_names(term: &[u8], out: &mut [u8]) -> usize
     ensures { λ r. ⌜ ((t : Term) → Lists (now (term .entry)) (now (out .entry)) t → Listed t (now (out .entry)) (now (out .exit)) r) ⌝ }
 {
     let mut row = [0u16; 1088];
-    let found = gather(term, 0, &mut row, BINDERS, 0);
-    let end = write_names(term, &row, found.count, out);
+    let found = gather(&term, 0, &mut row, BINDERS, 0);
+    let end = write_names(term, &row, found / 131072, out);
     buffers::behind(out, end);
     end
 }

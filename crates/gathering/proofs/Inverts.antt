@@ -1,10 +1,10 @@
--- Which term a node is, from its tag, as the walk tells tags apart: by the keys of an arm, or by ranges where it has none of them.
+-- Which term a node is, from its tag, as the walk tells tags apart: by the keys of an arm, or by its having none of them.
 -- By the seven shapes.
 -- Assumes nothing.
-use Prim.Native.Nat.{ℕ, _<_, _≤_}
+use Prim.Native.Nat.{ℕ}
 use mathlib.Core.Path.{_≡_, refl, sym, ap, _∙_}
 use mathlib.Core.Bool.{Bool, true, false, _||_}
-use mathlib.Core.Logic.{_⊎_, inl, inr}
+use mathlib.Core.Logic.{inl, inr}
 use mathlib.Core.List.{List, [], _∷_}
 use native.Mathlib.Omega.{arith}
 use lib.Dec.{eqb}
@@ -43,7 +43,7 @@ bothTags = 4 ∷ 17 ∷ []
 
 -- the tag is none of those
 abbrev pub Rest : ℕ → Type 0
-Rest k = ((((Unit {0} × (k ≡ 1 → ⊥)) × (OneOf leafTags k → ⊥)) × (OneOf twoTags k → ⊥)) × (k ≡ 5 → ⊥)) × (OneOf bothTags k → ⊥)
+Rest k = (((((Unit {0} × (k ≡ 1 → ⊥)) × (OneOf leafTags k → ⊥)) × (OneOf twoTags k → ⊥)) × (k ≡ 5 → ⊥)) × (OneOf bothTags k → ⊥)) × (k ≡ 9 → ⊥)
 
 module _ (t : Term) (k : ℕ) (is : k ≡ tag t) where
   told : (ks : List ℕ) → OneOf ks k → keyed ks (tag t) ≡ true
@@ -155,50 +155,40 @@ module _ (t : Term) (k : ℕ) (is : k ≡ tag t) where
       go (both i x y a b) e = (i, x, y, a, b, refl)
       go (branch x y a b c) e = none e
 
-  module _ (rest : Rest k) where
-    pub is-one : (k < 9) ⊎ ((10 ≤ k) × (k < 16)) → (i : One) × (e : Term) × (t ≡ one i e)
-    is-one h = go t is h
-      where
-        go : (u : Term) → k ≡ tag u → (k < 9) ⊎ ((10 ≤ k) × (k < 16)) → (i : One) × (e : Term) × (u ≡ one i e)
-        go (one i a) e r = (i, a, refl)
-        go (var x) e r = absurd (rest .0 .0 .0 .0 .1 e)
-        go (leaf unit) e r = absurd (rest .0 .0 .0 .1 (inl e))
-        go (leaf trivial) e r = absurd (rest .0 .0 .0 .1 (inr e))
-        go (two pair a b) e r = absurd (rest .0 .0 .1 (inl e))
-        go (two app a b) e r = absurd (rest .0 .0 .1 (inr (inl e)))
-        go (two discard a b) e r = absurd (rest .0 .0 .1 (inr (inr e)))
-        go (abs x a) e r = absurd (rest .0 .1 e)
-        go (both letPair x y a b) e r = absurd (rest .1 (inl e))
-        go (both copy x y a b) e r = absurd (rest .1 (inr e))
-        go (branch x y a b c) e (inl r) = absurd (omega arith)
-        go (branch x y a b c) e (inr r) = absurd (omega arith)
+  pub is-branch : k ≡ 9 → (x : Name) × (y : Name) × (e : Term) × (f : Term) × (g : Term) × (t ≡ branch x y e f g)
+  is-branch h = go t (told (9 ∷ []) h)
+    where
+      go : (u : Term) → keyed (9 ∷ []) (tag u) ≡ true → (x : Name) × (y : Name) × (e : Term) × (f : Term) × (g : Term) × (u ≡ branch x y e f g)
+      go (var x) e = none e
+      go (leaf unit) e = none e
+      go (leaf trivial) e = none e
+      go (one injectLeft a) e = none e
+      go (one injectRight a) e = none e
+      go (one fst a) e = none e
+      go (one snd a) e = none e
+      go (one abort a) e = none e
+      go (one promote a) e = none e
+      go (one derelict a) e = none e
+      go (two pair a b) e = none e
+      go (two app a b) e = none e
+      go (two discard a b) e = none e
+      go (abs x a) e = none e
+      go (both letPair x y a b) e = none e
+      go (both copy x y a b) e = none e
+      go (branch x y a b c) e = (x, y, a, b, c, refl)
 
-    pub is-branch : (k < 1) ⊎ ((9 ≤ k) × (k < 10)) ⊎ (16 ≤ k) → (x : Name) × (y : Name) × (e : Term) × (f : Term) × (g : Term) × (t ≡ branch x y e f g)
-    is-branch h = go t is (between h)
-      where
-        between : (k < 1) ⊎ ((9 ≤ k) × (k < 10)) ⊎ (16 ≤ k) → (6 < k) → (k < 9) ⊎ ((10 ≤ k) × (k < 16)) → ⊥
-        between (inl r) m (inl q) = omega arith
-        between (inl r) m (inr q) = omega arith
-        between (inr (inl r)) m (inl q) = omega arith
-        between (inr (inl r)) m (inr q) = omega arith
-        between (inr (inr r)) m (inl q) = omega arith
-        between (inr (inr r)) m (inr q) = omega arith
-
-        go : (u : Term) → k ≡ tag u → ((6 < k) → (k < 9) ⊎ ((10 ≤ k) × (k < 16)) → ⊥) → (x : Name) × (y : Name) × (e : Term) × (f : Term) × (g : Term) × (u ≡ branch x y e f g)
-        go (branch x y a b c) e r = (x, y, a, b, c, refl)
-        go (var x) e r = absurd (rest .0 .0 .0 .0 .1 e)
-        go (leaf unit) e r = absurd (rest .0 .0 .0 .1 (inl e))
-        go (leaf trivial) e r = absurd (rest .0 .0 .0 .1 (inr e))
-        go (one injectLeft a) e r = absurd (r (omega arith) (inl (omega arith)))
-        go (one injectRight a) e r = absurd (r (omega arith) (inl (omega arith)))
-        go (one fst a) e r = absurd (r (omega arith) (inr (omega arith, omega arith)))
-        go (one snd a) e r = absurd (r (omega arith) (inr (omega arith, omega arith)))
-        go (one abort a) e r = absurd (r (omega arith) (inr (omega arith, omega arith)))
-        go (one promote a) e r = absurd (r (omega arith) (inr (omega arith, omega arith)))
-        go (one derelict a) e r = absurd (r (omega arith) (inr (omega arith, omega arith)))
-        go (two pair a b) e r = absurd (rest .0 .0 .1 (inl e))
-        go (two app a b) e r = absurd (rest .0 .0 .1 (inr (inl e)))
-        go (two discard a b) e r = absurd (rest .0 .0 .1 (inr (inr e)))
-        go (abs x a) e r = absurd (rest .0 .1 e)
-        go (both letPair x y a b) e r = absurd (rest .1 (inl e))
-        go (both copy x y a b) e r = absurd (rest .1 (inr e))
+  pub is-one : Rest k → (i : One) × (e : Term) × (t ≡ one i e)
+  is-one rest = go t is
+    where
+      go : (u : Term) → k ≡ tag u → (i : One) × (e : Term) × (u ≡ one i e)
+      go (one i a) e = (i, a, refl)
+      go (var x) e = absurd (rest .0 .0 .0 .0 .0 .1 e)
+      go (leaf unit) e = absurd (rest .0 .0 .0 .0 .1 (inl e))
+      go (leaf trivial) e = absurd (rest .0 .0 .0 .0 .1 (inr e))
+      go (two pair a b) e = absurd (rest .0 .0 .0 .1 (inl e))
+      go (two app a b) e = absurd (rest .0 .0 .0 .1 (inr (inl e)))
+      go (two discard a b) e = absurd (rest .0 .0 .0 .1 (inr (inr e)))
+      go (abs x a) e = absurd (rest .0 .0 .1 e)
+      go (both letPair x y a b) e = absurd (rest .0 .1 (inl e))
+      go (both copy x y a b) e = absurd (rest .0 .1 (inr e))
+      go (branch x y a b c) e = absurd (rest .1 e)

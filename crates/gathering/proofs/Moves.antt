@@ -12,10 +12,7 @@ use Rattle.walk.specs.Node.{head, encodeAll}
 use Rattle.walk.specs.Place.{NameAt, NamesAt, TermAt, TermsAt}
 use Rattle.walk.proofs.Names.{AfterIs, first-name, other-names, name-end}
 use Rattle.walk.proofs.Terms.{apart-size, at-names, at-parts, first, others}
-use Rattle.gathering.specs.declared.Gathered.{Gathered}
 use Rattle.gathering.specs.Gather.{gather}
-use Rattle.ones.specs.Ones.{ones}
-use Rattle.gathering.specs.Cores.{core, core-gather, core-nodes, core-size}
 use Rattle.name_row.specs.State.{Meets, Met}
 use Rattle.gathering.specs.Walk.{Task, Done}
 use Rattle.name_row.proofs.States.{pushed, left-behind}
@@ -41,20 +38,6 @@ some-nodes (abs x e) = omega arith
 some-nodes (both k x y e f) = omega arith
 some-nodes (branch x y e f g) = omega arith
 
--- what stands above the core is passed
-core-at : (s : Bytes) (p : ℕ) (t : Term) → TermAt s p t → TermAt s (p + ones t) (core t)
-unfolding ones core encode
-core-at s p (one k e) w =
-    let v : TermAt s (p + 1) e = first s (p + 1) 1 e [] (at-parts s p (one k e) w (p + 1) 1 refl refl) in
-    let q : p + 1 + ones e ≡ p + (1 + ones e) = omega arith in
-    rw q at (core-at s (p + 1) e v)
-core-at s p (var x) w = let q : p ≡ p + 0 = omega arith in rw q at w
-core-at s p (leaf k) w = let q : p ≡ p + 0 = omega arith in rw q at w
-core-at s p (two k e f) w = let q : p ≡ p + 0 = omega arith in rw q at w
-core-at s p (abs x e) w = let q : p ≡ p + 0 = omega arith in rw q at w
-core-at s p (both k x y e f) w = let q : p ≡ p + 0 = omega arith in rw q at w
-core-at s p (branch x y e f g) w = let q : p ≡ p + 0 = omega arith in rw q at w
-
 -- the place of the second of two names, and the place after it
 module _ (s : Bytes) (p : ℕ) {x y : Name} (w : NamesAt s (p + 1) 2 (x ∷ y ∷ [])) (q : ℕ) (j : AfterIs s (p + 1) 1 q) where
   second-is : q ≡ p + 1 + length (encodeName x)
@@ -69,20 +52,20 @@ module _ (s : Bytes) (p : ℕ) {x y : Name} (w : NamesAt s (p + 1) 2 (x ∷ y �
 module _ {s : Bytes} {p : ℕ} {row : List ℕ} {low n : ℕ} {xs l : List Name} where
   -- ---- a node without parts
 
-  pub leaf-done : (k : Leaf) → Task s p row low n (leaf k) xs l → Done s p row low n (leaf k) xs l (record { next = p + 1; count = n })
+  pub leaf-done : (k : Leaf) → Task s p row low n (leaf k) xs l → Done s p row low n (leaf k) xs l (p + 1) n
   unfolding gather
-  leaf-done k w = record { next = omega (arith, apart-size (leaf k)); state = w .state; few = omega arith }
+  leaf-done k w = record { ends = omega (arith, apart-size (leaf k)); state = w .state; few = omega arith }
 
   pub var-meets : (x : Name) → Task s p row low n (var x) xs l → Meets s (p + 1) row low n x xs l
   unfolding nodes
   var-meets x w = record { name = first-name s (p + 1) 1 x [] (at-names s p (var x) (w .term)); state = w .state; room = omega (arith, w .room) }
 
   pub var-done : (x : Name) → Task s p row low n (var x) xs l → (h : ℕ) → AfterIs s (p + 1) 1 h → {row′ : List ℕ} {r : ℕ} → Met s row′ low n x xs l r
-      → Done s p row′ low n (var x) xs l (record { next = h; count = r })
+      → Done s p row′ low n (var x) xs l h r
   unfolding gather nodes
   var-done x w h f m =
       record {
-        next = omega (arith, apart-size (var x), f (x ∷ []) (at-names s p (var x) (w .term)));
+        ends = omega (arith, apart-size (var x), f (x ∷ []) (at-names s p (var x) (w .term)));
         state = m .state;
         few = m .few;
       }
@@ -90,41 +73,35 @@ module _ {s : Bytes} {p : ℕ} {row : List ℕ} {low n : ℕ} {xs l : List Name}
   -- ---- a node without names
 
   module _ (k : One) (e : Term) (w : Task s p row low n (one k e) xs l) where
-    pub one-part : TermAt s (p + 1) e
+    one-part : TermAt s (p + 1) e
     one-part = first s (p + 1) 1 e [] (at-parts s p (one k e) (w .term) (p + 1) 1 refl refl)
 
-    module _ (j : ℕ) (q : j ≡ p + 1 + ones e) where
-      pub one-task : Task s j row low n (core e) xs l
-      unfolding nodes
-      one-task = record { term = rw q (core-at s (p + 1) e one-part); state = w .state; room = omega (arith, w .room, core-nodes e) }
+    pub one-task : Task s (p + 1) row low n e xs l
+    unfolding nodes
+    one-task = record { term = one-part; state = w .state; room = omega (arith, w .room) }
 
-      pub one-done : {row′ : List ℕ} {r : Gathered} → Done s j row′ low n (core e) xs l r → Done s p row′ low n (one k e) xs l r
-      unfolding gather nodes
-      one-done z =
-          record {
-            next = omega (arith, z .next, apart-size (one k e), row-one e, core-size e);
-            state = rw (← core-gather xs e l) (z .state);
-            few = omega (arith, z .few, core-nodes e);
-          }
+    pub one-done : {row′ : List ℕ} {m c : ℕ} → Done s (p + 1) row′ low n e xs l m c → Done s p row′ low n (one k e) xs l m c
+    unfolding gather nodes
+    one-done z = record { ends = omega (arith, z .ends, apart-size (one k e), row-one e); state = z .state; few = omega (arith, z .few) }
 
   module _ (k : Two) (e f : Term) (w : Task s p row low n (two k e f) xs l) where
     pub two-task : Task s (p + 1) row low n e xs l
     unfolding nodes
     two-task = record { term = first s (p + 1) 2 e (f ∷ []) (at-parts s p (two k e f) (w .term) (p + 1) 2 refl refl); state = w .state; room = omega (arith, w .room) }
 
-    module _ {row₁ : List ℕ} {r : Gathered} (z : Done s (p + 1) row₁ low n e xs l r) where
-      pub two-again : Task s (r .next) row₁ low (r .count) f xs (gather xs e l)
+    module _ {row₁ : List ℕ} {m c : ℕ} (z : Done s (p + 1) row₁ low n e xs l m c) where
+      pub two-again : Task s m row₁ low c f xs (gather xs e l)
       unfolding nodes
       two-again =
           record {
-            term = first s (r .next) 1 f [] (others s (p + 1) 2 e (f ∷ []) (at-parts s p (two k e f) (w .term) (p + 1) 2 refl refl) (r .next) (z .next));
+            term = first s m 1 f [] (others s (p + 1) 2 e (f ∷ []) (at-parts s p (two k e f) (w .term) (p + 1) 2 refl refl) m (z .ends));
             state = z .state;
             room = omega (arith, w .room, z .few);
           }
 
-      pub two-done : {row₂ : List ℕ} {r′ : Gathered} → Done s (r .next) row₂ low (r .count) f xs (gather xs e l) r′ → Done s p row₂ low n (two k e f) xs l r′
+      pub two-done : {row₂ : List ℕ} {m′ c′ : ℕ} → Done s m row₂ low c f xs (gather xs e l) m′ c′ → Done s p row₂ low n (two k e f) xs l m′ c′
       unfolding gather nodes
-      two-done y = record { next = omega (arith, y .next, z .next, apart-size (two k e f), row-two e f); state = y .state; few = omega (arith, y .few, z .few) }
+      two-done y = record { ends = omega (arith, y .ends, z .ends, apart-size (two k e f), row-two e f); state = y .state; few = omega (arith, y .few, z .few) }
 
   -- ---- a node of one name
 
@@ -149,11 +126,11 @@ module _ {s : Bytes} {p : ℕ} {row : List ℕ} {low n : ℕ} {xs l : List Name}
             room = omega (arith, w .room);
           }
 
-      pub abs-done : {row₂ : List ℕ} {low₁ : ℕ} {r : Gathered} → low₁ ≡ low - 1 → Done s h row₂ low₁ n e (x ∷ xs) l r → Done s p row₂ low n (abs x e) xs l r
+      pub abs-done : {row₂ : List ℕ} {low₁ : ℕ} {m c : ℕ} → low₁ ≡ low - 1 → Done s h row₂ low₁ n e (x ∷ xs) l m c → Done s p row₂ low n (abs x e) xs l m c
       unfolding gather nodes
       abs-done d z =
           record {
-            next = omega (arith, z .next, after, apart-size (abs x e), row-one e);
+            ends = omega (arith, z .ends, after, apart-size (abs x e), row-one e);
             state = left-behind (z .state) low (omega (arith, w .room));
             few = omega (arith, z .few);
           }
@@ -171,33 +148,33 @@ module _ {s : Bytes} {p : ℕ} {row : List ℕ} {low n : ℕ} {xs l : List Name}
       pub both-second : NameAt s q y
       both-second = second-at s p both-names q j
 
-      module _ (h : ℕ) (m : AfterIs s q 1 h) where
+      module _ (h : ℕ) (j₂ : AfterIs s q 1 h) where
         both-start : h ≡ p + length (head (both k x y e f))
-        both-start = start-at s p both-names q j h m (bothTag k)
+        both-start = start-at s p both-names q j h j₂ (bothTag k)
 
         pub both-task : Task s h row low n e xs l
         unfolding nodes
         both-task = record { term = first s h 2 e (f ∷ []) (at-parts s p (both k x y e f) (w .term) h 2 both-start refl); state = w .state; room = omega (arith, w .room) }
 
-        module _ {row₁ : List ℕ} {r : Gathered} (z : Done s h row₁ low n e xs l r) where
-          pub both-room : r .count + 4 ≤ low
+        module _ {row₁ : List ℕ} {m c : ℕ} (z : Done s h row₁ low n e xs l m c) where
+          pub both-room : c + 4 ≤ low
           unfolding nodes
           both-room = omega (arith, w .room, z .few, some-nodes e, some-nodes f)
 
-          pub both-body : {row₂ : List ℕ} {low₂ : ℕ} → low₂ ≡ low - 1 - 1 → row₂ ≡ set (set row₁ (low - 1) (p + 1)) (low - 1 - 1) q → Task s (r .next) row₂ low₂ (r .count) f (y ∷ x ∷ xs) (gather xs e l)
+          pub both-body : {row₂ : List ℕ} {low₂ : ℕ} → low₂ ≡ low - 1 - 1 → row₂ ≡ set (set row₁ (low - 1) (p + 1)) (low - 1 - 1) q → Task s m row₂ low₂ c f (y ∷ x ∷ xs) (gather xs e l)
           unfolding nodes
           both-body d c =
               record {
-                term = first s (r .next) 1 f [] (others s h 2 e (f ∷ []) (at-parts s p (both k x y e f) (w .term) h 2 both-start refl) (r .next) (z .next));
+                term = first s m 1 f [] (others s h 2 e (f ∷ []) (at-parts s p (both k x y e f) (w .term) h 2 both-start refl) m (z .ends));
                 state = rw (d, c) (pushed (pushed (z .state) x (p + 1) both-first (omega (arith, both-room))) y q both-second (omega (arith, both-room)));
                 room = omega (arith, w .room, z .few);
               }
 
-          pub both-done : {row₃ : List ℕ} {low₂ : ℕ} {r′ : Gathered} → low₂ ≡ low - 1 - 1 → Done s (r .next) row₃ low₂ (r .count) f (y ∷ x ∷ xs) (gather xs e l) r′ → Done s p row₃ low n (both k x y e f) xs l r′
+          pub both-done : {row₃ : List ℕ} {low₂ : ℕ} {m′ c′ : ℕ} → low₂ ≡ low - 1 - 1 → Done s m row₃ low₂ c f (y ∷ x ∷ xs) (gather xs e l) m′ c′ → Done s p row₃ low n (both k x y e f) xs l m′ c′
           unfolding gather nodes
           both-done d v =
               record {
-                next = omega (arith, v .next, z .next, both-start, apart-size (both k x y e f), row-two e f);
+                ends = omega (arith, v .ends, z .ends, both-start, apart-size (both k x y e f), row-two e f);
                 state = left-behind (left-behind (v .state) (low - 1) (omega (arith, both-room))) low (omega (arith, both-room));
                 few = omega (arith, v .few, z .few);
               }
@@ -215,49 +192,49 @@ module _ {s : Bytes} {p : ℕ} {row : List ℕ} {low n : ℕ} {xs l : List Name}
       pub branch-second : NameAt s q y
       branch-second = second-at s p branch-names q j
 
-      module _ (h : ℕ) (m : AfterIs s q 1 h) where
+      module _ (h : ℕ) (j₂ : AfterIs s q 1 h) where
         branch-start : h ≡ p + length (head (branch x y e f g))
-        branch-start = start-at s p branch-names q j h m 9
+        branch-start = start-at s p branch-names q j h j₂ 9
 
         pub branch-task : Task s h row low n e xs l
         unfolding nodes
         branch-task = record { term = first s h 3 e (f ∷ g ∷ []) (at-parts s p (branch x y e f g) (w .term) h 3 branch-start refl); state = w .state; room = omega (arith, w .room) }
 
-        module _ {row₁ : List ℕ} {r : Gathered} (z : Done s h row₁ low n e xs l r) where
-          others-at : TermsAt s (r .next) 2 (f ∷ g ∷ [])
-          others-at = others s h 3 e (f ∷ g ∷ []) (at-parts s p (branch x y e f g) (w .term) h 3 branch-start refl) (r .next) (z .next)
+        module _ {row₁ : List ℕ} {m c : ℕ} (z : Done s h row₁ low n e xs l m c) where
+          others-at : TermsAt s m 2 (f ∷ g ∷ [])
+          others-at = others s h 3 e (f ∷ g ∷ []) (at-parts s p (branch x y e f g) (w .term) h 3 branch-start refl) m (z .ends)
 
-          pub branch-room : r .count + 4 ≤ low
+          pub branch-room : c + 4 ≤ low
           unfolding nodes
           branch-room = omega (arith, w .room, z .few, some-nodes f, some-nodes g)
 
           module _ {low₂ : ℕ} (d : low₂ ≡ low - 1) where
-            pub branch-left : {row₂ : List ℕ} → row₂ ≡ set row₁ (low - 1) (p + 1) → Task s (r .next) row₂ low₂ (r .count) f (x ∷ xs) (gather xs e l)
+            pub branch-left : {row₂ : List ℕ} → row₂ ≡ set row₁ (low - 1) (p + 1) → Task s m row₂ low₂ c f (x ∷ xs) (gather xs e l)
             unfolding nodes
             branch-left c =
                 record {
-                  term = first s (r .next) 2 f (g ∷ []) others-at;
+                  term = first s m 2 f (g ∷ []) others-at;
                   state = rw (d, c) (pushed (z .state) x (p + 1) branch-first (omega (arith, branch-room)));
                   room = omega (arith, w .room, z .few);
                 }
 
-            module _ {row₃ : List ℕ} {r′ : Gathered} (v : Done s (r .next) row₃ low₂ (r .count) f (x ∷ xs) (gather xs e l) r′) where
+            module _ {row₃ : List ℕ} {m′ c′ : ℕ} (v : Done s m row₃ low₂ c f (x ∷ xs) (gather xs e l) m′ c′) where
               pub branch-right : {row₄ : List ℕ} {low₄ : ℕ} → low₄ ≡ low - 1 → row₄ ≡ set row₃ (low - 1) q
-                  → Task s (r′ .next) row₄ low₄ (r′ .count) g (y ∷ xs) (gather (x ∷ xs) f (gather xs e l))
+                  → Task s m′ row₄ low₄ c′ g (y ∷ xs) (gather (x ∷ xs) f (gather xs e l))
               unfolding nodes
               branch-right d′ c =
                   record {
-                    term = first s (r′ .next) 1 g [] (others s (r .next) 2 f (g ∷ []) others-at (r′ .next) (v .next));
+                    term = first s m′ 1 g [] (others s m 2 f (g ∷ []) others-at m′ (v .ends));
                     state = rw (d′, c) (pushed (left-behind (v .state) low (omega (arith, branch-room))) y q branch-second (omega (arith, w .room, z .few, v .few, some-nodes g)));
                     room = omega (arith, w .room, z .few, v .few);
                   }
 
-              pub branch-done : {row₅ : List ℕ} {low₄ : ℕ} {r″ : Gathered} → low₄ ≡ low - 1
-                  → Done s (r′ .next) row₅ low₄ (r′ .count) g (y ∷ xs) (gather (x ∷ xs) f (gather xs e l)) r″ → Done s p row₅ low n (branch x y e f g) xs l r″
+              pub branch-done : {row₅ : List ℕ} {low₄ : ℕ} {m″ c″ : ℕ} → low₄ ≡ low - 1
+                  → Done s m′ row₅ low₄ c′ g (y ∷ xs) (gather (x ∷ xs) f (gather xs e l)) m″ c″ → Done s p row₅ low n (branch x y e f g) xs l m″ c″
               unfolding gather nodes
               branch-done d′ u =
                   record {
-                    next = omega (arith, u .next, v .next, z .next, branch-start, apart-size (branch x y e f g), row-three e f g);
+                    ends = omega (arith, u .ends, v .ends, z .ends, branch-start, apart-size (branch x y e f g), row-three e f g);
                     state = left-behind (u .state) low (omega (arith, branch-room));
                     few = omega (arith, u .few, v .few, z .few);
                   }

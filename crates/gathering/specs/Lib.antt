@@ -1,3 +1,2 @@
 pub mod Gather
-pub mod Cores
 pub mod Walk

@@ -8,7 +8,6 @@ use Rattle.rules.specs.Term.{Term, nodes, size}
 use Rattle.walk.specs.Place.{TermAt}
 use Rattle.name_row.specs.State.{State}
 use Rattle.gathering.specs.Gather.{gather}
-use Rattle.gathering.specs.declared.Gathered.{Gathered}
 
 -- the term t is to be walked, and there is room for what it may bring
 pub record Task (s : Bytes) (p : ℕ) (row : List ℕ) (low n : ℕ) (t : Term) (xs l : List Name) : Type 0 where
@@ -16,8 +15,8 @@ pub record Task (s : Bytes) (p : ℕ) (row : List ℕ) (low n : ℕ) (t : Term) 
   pub state : State s row low n xs l
   pub room : n + 2 * nodes t ≤ low
 
--- it is walked
-pub record Done (s : Bytes) (p : ℕ) (row : List ℕ) (low n : ℕ) (t : Term) (xs l : List Name) (r : Gathered) : Type 0 where
-  pub next : r .next ≡ p + size t
-  pub state : State s row low (r .count) xs (gather xs t l)
-  pub few : r .count ≤ n + nodes t
+-- it is walked, to the place next, and the row then holds count names
+pub record Done (s : Bytes) (p : ℕ) (row : List ℕ) (low n : ℕ) (t : Term) (xs l : List Name) (next count : ℕ) : Type 0 where
+  pub ends : next ≡ p + size t
+  pub state : State s row low count xs (gather xs t l)
+  pub few : count ≤ n + nodes t

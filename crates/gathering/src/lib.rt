@@ -1,79 +1,61 @@
 // One walk over a term that gathers its free names.
+ghost use mathlib.Core.Path.{_≡_};
 ghost use mathlib.Core.List.{List};
+ghost use Prim.Native.Nat.{_/_, _%_, _≤_};
 ghost use Rattle.rules.specs.Name.{Name};
 ghost use Rattle.rules.specs.Term.{Term};
 ghost use Rattle.gathering.specs.Walk.{Task, Done};
 use name_row::meet;
 use name_row::push;
-use ones::pass_ones;
 
-// Where a walk has come to, and how many names the row then holds.
-pub struct Gathered {
-    pub next: usize,
-    pub count: usize,
+// The place that a walk has come to, and how many names the row then holds: in one number, which comes back in a register.
+fn come_to(next: usize, count: usize) -> usize
+    requires { ⌜ (next ≤ 65536) × (count ≤ 1088) ⌝ }
+    ensures { λ r. ⌜ (r % 131072 ≡ next) × (r / 131072 ≡ count) ⌝ }
+{
+    count * 131072 + next
 }
 
 // Puts the free names of the term at `at` into the row, but for those of the binders passed, which stand from low on.
-// It calls itself on each part but the last, which takes the node's place.
-pub fn gather(s: &[u8], at: usize, row: &mut [u16], low: usize, n: usize) -> Gathered
-    requires { ⌜ ((t : Term) × (xs : List Name) × (l : List Name) × Task (now s) at (now row) low n t xs l) ⌝ }
-    ensures { λ r. ⌜ ((t : Term) → (xs : List Name) → (l : List Name) → Task (now (s .entry)) at (now (row .entry)) low n t xs l → Done (now (s .entry)) at (now (row .exit)) low n t xs l r) ⌝ }
+// It calls itself on each part. What it hands on are numbers and thin references, so that a call on the last part is a jump.
+pub fn gather(s: &&[u8], at: usize, row: &mut [u16; 1088], low: usize, n: usize) -> usize
+    requires { ⌜ ((t : Term) × (xs : List Name) × (l : List Name) × Task (now (now s)) at (now row) low n t xs l) ⌝ }
+    ensures { λ r. ⌜ ((t : Term) → (xs : List Name) → (l : List Name) → Task (now (now (s .entry))) at (now (row .entry)) low n t xs l → Done (now (now (s .entry))) at (now (row .exit)) low n t xs l (r % 131072) (r / 131072)) ⌝ }
 {
-    let mut i = at;
-    let mut b = low;
-    let mut k = n;
-    loop {
-        let first = i + 1;
-        match s[i] {
-            1 => {
-                let next = walk::after_names(s, first, 1);
-                let count = meet(s, first, row, b, k);
-                return Gathered { next, count };
-            }
-            2 | 10 => {
-                return Gathered {
-                    next: first,
-                    count: k,
-                };
-            }
-            7 | 8 | 11 | 12 | 13 | 14 | 15 => {
-                i = pass_ones(s, first);
-                continue;
-            }
-            3 | 6 | 16 => {
-                let a = gather(s, first, row, b, k);
-                i = a.next;
-                k = a.count;
-                continue;
-            }
-            5 => {
-                b = push(row, b, first);
-                i = walk::after_names(s, first, 1);
-                continue;
-            }
-            4 | 17 => {
-                let second = walk::after_names(s, first, 1);
-                let start = walk::after_names(s, second, 1);
-                let a = gather(s, start, row, b, k);
-                i = a.next;
-                k = a.count;
-                let c = push(row, b, first);
-                b = push(row, c, second);
-                continue;
-            }
-            _ => {
-                let second = walk::after_names(s, first, 1);
-                let start = walk::after_names(s, second, 1);
-                let a = gather(s, start, row, b, k);
-                let left = a.next;
-                let found = a.count;
-                let c = push(row, b, first);
-                let d = gather(s, left, row, c, found);
-                i = d.next;
-                k = d.count;
-                b = push(row, b, second);
-                continue;
-            }
+    let first = at + 1;
+    match s[at] {
+        1 => {
+            let next = walk::after_names(*s, first, 1);
+            let count = meet(*s, first, row, low, n);
+            come_to(next, count)
         }
+        2 | 10 => come_to(first, n),
+        3 | 6 | 16 => {
+            let a = gather(s, first, row, low, n);
+            gather(s, a % 131072, row, low, a / 131072)
+        }
+        5 => {
+            let start = walk::after_names(*s, first, 1);
+            let b = push(row, low, first);
+            gather(s, start, row, b, n)
+        }
+        4 | 17 => {
+            let second = walk::after_names(*s, first, 1);
+            let start = walk::after_names(*s, second, 1);
+            let a = gather(s, start, row, low, n);
+            let b = push(row, low, first);
+            let c = push(row, b, second);
+            gather(s, a % 131072, row, c, a / 131072)
+        }
+        9 => {
+            let second = walk::after_names(*s, first, 1);
+            let start = walk::after_names(*s, second, 1);
+            let a = gather(s, start, row, low, n);
+            let b = push(row, low, first);
+            let l = gather(s, a % 131072, row, b, a / 131072);
+            let c = push(row, low, second);
+            gather(s, l % 131072, row, c, l / 131072)
+        }
+        _ => gather(s, first, row, low, n),
     }
 }

@@ -1,5 +1,6 @@
 -- What the row holds at a time, and what meeting a name makes of it. Assumes nothing: these are definitions.
 use Prim.Native.Nat.{ℕ, _+_, _≤_, _<_}
+use mathlib.Core.Path.{_≡_}
 use mathlib.Core.Bool.{Bool, true, false}
 use mathlib.Core.Logic.{_⊎_}
 use mathlib.Core.List.{List}
@@ -17,7 +18,7 @@ pub record State (s : Bytes) (row : List ℕ) (low n : ℕ) (xs l : List Name) :
   pub found : Held s row n l
   pub ordered : Ordered l
   pub short : length s ≤ 65536
-  pub long : 1088 ≤ length row
+  pub long : length row ≡ 1088
 
 -- an entry g that is said to be in use is that of a name found or of a binder passed
 abbrev pub Live : ℕ → ℕ → ℕ → Bool → Type 0

@@ -24,7 +24,7 @@ module _ (s : Bytes) (i : ℕ) (short : length s ≤ i + 4096) where
     pub at-start : TermAt (take (length s - i) (drop i s)) 0 e
     at-start = record { rest = w .rest; bytes = left-is ∙ w .bytes }
 
-    pub left-short : {room : ℕ} → 4096 ≤ room → (length (take (length s - i) (drop i s)) ≤ 65536) × (length (take (length s - i) (drop i s)) ≤ room)
+    pub left-short : {room : ℕ} → 4096 ≤ room → (length (take (length s - i) (drop i s)) ≤ 4096) × (length (take (length s - i) (drop i s)) ≤ room)
     left-short h =
         let e : length (take (length s - i) (drop i s)) ≡ length s - i = ap (λ (z : Bytes). length z) left-is ∙ length-drop i s in
         (omega arith, omega arith)

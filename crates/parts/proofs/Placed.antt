@@ -15,8 +15,6 @@ use Rattle.spans.proofs.Rows.{term-part}
 use Rattle.putting.specs.Put.{Putting, Turns, Puts}
 use Rattle.putting.specs.declared.Put.{Put}
 use Rattle.putting.specs.declared.Put.the-variants.{Written}
-use Rattle.joint.specs.Joint.{Joint}
-use Rattle.at_once.specs.declared.Joined.{Joined}
 use Rattle.parts.specs.Contracts.{Contracts, told}
 use Rattle.parts.specs.Parts.{Kept, PartIs, Placing, Pairing}
 use Rattle.parts.specs.declared.Body.{Body}
@@ -103,36 +101,3 @@ module _ {s : Bytes} {at middle past : ℕ} {p q : Part} {n l whole : ℕ} {t : 
         → Puts (n - nodes e) (l - (b .end - at)) (some (subst x v e)) (subst (take (past - (middle + 1)) (drop (middle + 1) s)) w (subst x v e)) made made′ z → c ≡ told rule (b .end) z
         → Contracts s at whole l t rule (some (subst x v e)) (subst y w (subst x v e)) made′ c
     paired room d is = put-contracts (j .redex) ends (omega (arith, j .count)) (omega (arith, ends)) room (rw (j .y-is) at d) is
-
-  -- ---- both at once
-
-  pub joint-bounds : (at + 2 ≤ middle) × (middle + 1 ≤ past) × (past ≤ length s) × (at ≤ q .end) × (q .end ≤ length s) × (q .end - at ≤ l) × (q .end + size e ≤ length s) × (l ≤ 4096)
-  joint-bounds =
-      let m = j .names-in in
-      let r = j .redex in
-      let i = inside r in
-      (m .0, m .1, m .2, j .body-past, omega (arith, j .ends), omega (arith, j .ends, r .bytes-in), omega (arith, j .ends), r .short)
-
-  pub joint : Joint (take (length s - q .end) (drop (q .end) s)) (take (p .end - p .from) (drop (p .from) s)) (p .nodes)
-      (take (q .end - q .from) (drop (q .from) s)) (q .nodes) n (l - (q .end - at)) e v w
-  joint =
-      let r = j .redex in
-      let near : length s ≤ q .end + 4096 = omega (arith, r .behind, r .short, j .body-past) in
-      record {
-        body-at = at-start s (q .end) near (j .body-at);
-        near = let h : 4096 ≤ 4096 = omega arith in left-short s (q .end) near (j .body-at) h .1;
-        first = given (j .first);
-        second = given (j .second);
-        nodes-in = omega (arith, j .count);
-        bytes-in = omega (arith, j .ends, r .bytes-in, j .body-past);
-        few = omega (arith, j .count, j .nodes-in, r .nodes-in, r .few);
-        short = omega (arith, r .short);
-      }
-
-  pub joined : {rule : Rule} {made made′ : Bytes} {d : Joined} → 4096 ≤ length made
-      → (d .end ≡ size e) × Puts (n - nodes e) (l - (q .end - at) - size e) (some (subst (take (middle - (at + 2)) (drop (at + 2) s)) v e))
-      (subst (take (past - (middle + 1)) (drop (middle + 1) s)) w (subst (take (middle - (at + 2)) (drop (at + 2) s)) v e)) made made′ (Written (d .size) (d .nodes))
-      → Contracts s at whole l t rule (some (subst x v e)) (subst y w (subst x v e)) made′ (Made rule (d .size) (q .end + d .end) (d .nodes))
-  joined {d = d} room o =
-      put-contracts (j .redex) (ap (λ (k : ℕ). q .end + k) (o .0) ∙ j .ends) (omega (arith, j .count)) (omega (arith, j .ends, j .body-past)) room
-      (rw (j .x-is, j .y-is) at (o .1)) refl

@@ -11,7 +11,6 @@ ghost use Rattle.walk.specs.Place.{TermAt};
 ghost use Rattle.putting.specs.Put.{Room};
 ghost use Rattle.parts.specs.Contracts.{Contracts, told as toldOf};
 ghost use Rattle.parts.specs.Parts.{Kept, Placing, Pairing};
-use at_once::at_once;
 use places::first_places;
 use putting::Put;
 use putting::in_turn;
@@ -111,8 +110,9 @@ pub fn put_here(
     told(rule, end, put)
 }
 
-// The same as `both`, one value after the other by way of what is there halfway: for what may not be done at once.
-fn one_by_one(
+// The redex at `at` becomes the body, which stands behind b, with a for x, then b for y in all that results. The names stand at
+// [at + 2, middle) and [middle + 1, past).
+pub fn both(
     s: &[u8],
     at: usize,
     rule: Rule,
@@ -153,51 +153,4 @@ fn one_by_one(
         made,
     );
     told(rule, end, put)
-}
-
-// The redex at `at` becomes the body, which stands behind b, with a for x, then b for y in all that results. The names stand at
-// [at + 2, middle) and [middle + 1, past).
-pub fn both(
-    s: &[u8],
-    at: usize,
-    rule: Rule,
-    middle: usize,
-    past: usize,
-    a: Part,
-    b: Part,
-    nodes: usize,
-    length: usize,
-    made: &mut [u8],
-) -> Contracted
-    requires { ⌜ ((n : ℕ) × (t : Term) × (x : Name) × (y : Name) × (e : Term) × (v : Term) × (w : Term) × Pairing (now s) at middle past a b nodes length n t x y e v w) ⌝ }
-    requires { ⌜ Room (now made) ⌝ }
-    ensures { λ c. ⌜ ((n : ℕ) → (t : Term) → (x : Name) → (y : Name) → (e : Term) → (v : Term) → (w : Term) → Pairing (now (s .entry)) at middle past a b nodes length n t x y e v w → Contracts (now (s .entry)) at n length t rule (some (subst x v e)) (subst y w (subst x v e)) (now (made .exit)) c) ⌝ }
-{
-    let body = b.end;
-    let name = at + 2;
-    let other = middle + 1;
-    let first = a.from;
-    let first_end = a.end;
-    let second = b.from;
-    let joined = at_once(
-        &s[body..],
-        &s[name..middle],
-        &s[other..past],
-        &s[first..first_end],
-        a.nodes,
-        &s[second..body],
-        b.nodes,
-        nodes,
-        length - (body - at),
-        made,
-    );
-    if joined.size == 0 {
-        return one_by_one(s, at, rule, middle, past, a, b, nodes, length, made);
-    }
-    Contracted::Made {
-        rule,
-        size: joined.size,
-        end: body + joined.end,
-        nodes: joined.nodes,
-    }
 }

@@ -7,5 +7,4 @@ pub mod Shaped
 pub mod Binders
 pub mod Walking
 pub mod Turns
-pub mod Ranks
 pub mod Calls

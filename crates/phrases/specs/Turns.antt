@@ -17,7 +17,7 @@ use Rattle.phrases.specs.Words.{signOf, onePart, betweenOf}
 use Rattle.phrases.specs.Shapes.{Bracketed}
 use Rattle.phrases.specs.Inverts.{shapeOf, a-var, a-two, an-abs, two-key, made-of, made-one, Rest, is-whole}
 use Rattle.phrases.specs.Shaped.{begun}
-use Rattle.phrases.specs.Walking.{At, On, here, brackets-room, ends, one-asked, one-turn, two-room, first-part, left-part, two-further, between-room, two-turn, last-task, last-long, last-done, first-asked, first-turn, abs-in, abs-room, abs-turn}
+use Rattle.phrases.specs.Walking.{At, On, here, brackets-room, ends, one-asked, one-turn, two-room, left-part, two-further, between-room, two-turn, last-task, last-long, last-done, abs-in, abs-room, abs-turn}
 
 module _ {s : List ℕ} {at : ℕ} {out₀ : List ℕ} {to : ℕ} {T : Term} {out : List ℕ} {i o c : ℕ} (n : On s at out₀ to T out i o c) where
   pub on-begun : i < length s
@@ -43,23 +43,6 @@ module _ {s : List ℕ} {at : ℕ} {out₀ : List ℕ} {to : ℕ} {T : Term} {ou
 
     pub open-room : o < length out
     open-room = let v = a-pair in two-room (v .0) (v .1) (v .2) (v .3) (v .4)
-
-    pub first-begun : i + 1 < length s
-    first-begun = let v = a-pair in begun (v .2) (first-part (v .0) (v .1) (v .2) (v .3) (v .4))
-
-    module _ (e : getD s (i + 1) 0 ≡ 1) where
-      named-pair : (k : Two) × Bracketed k × (x : Name) × (g : Term) × At s at out₀ to T out i o c (two k (var x) g)
-      named-pair =
-          let v = a-pair in
-          let u = made-of a-var (v .2) (first-part (v .0) (v .1) (v .2) (v .3) (v .4)) (ap (λ (k : ℕ). shapeOf k) e) in
-          (v .0, v .1, u .0, v .3, rw (u .1) at (v .4))
-
-      pub first-here : NameIn s (i + 2) × (o + getD s (i + 2) 0 + 26 ≤ length out)
-      first-here = let v = named-pair in first-asked (v .0) (v .1) (v .2) (v .3) (v .4)
-
-      pub first-next : {o₁ : List ℕ} {p q : ℕ} → Prints out o (say "(" ++ (nameAt s (i + 2) ++ betweenOf (getD s i 0))) o₁ p → q ≡ afterName s (i + 2)
-          → On s at out₀ to T o₁ q p (c + 1)
-      first-next b q = let v = named-pair in record { t = v .3; stands = first-turn (v .0) (v .1) (v .2) (v .3) (v .4) b q }
 
     module _ {o₁ : List ℕ} {p : ℕ} (b : Prints out o (40 ∷ []) o₁ p) where
       pub left-here : (t : Term) × TermTask s (i + 1) o₁ p t

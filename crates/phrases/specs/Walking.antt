@@ -1,7 +1,7 @@
--- The walk over a term: at each turn it stands at a part, and whatever prints that part and the brackets to come prints the whole.
+-- The walk over a term: it stands at a part, and whatever prints that part and the brackets to come prints the whole.
 -- Assumes nothing.
 use Prim.Native.Nat.{ℕ, suc, _+_, _<_, _≤_, _/_, _%_}
-use mathlib.Core.Path.{_≡_, refl, sym, ap, _∙_}
+use mathlib.Core.Path.{_≡_, sym, ap, _∙_}
 use mathlib.Core.List.{List, [], _∷_, _++_, append-assoc, append-nil}
 use native.Mathlib.Omega.{arith}
 use lib.ListN.{length, getD, length-append, length-replicate}
@@ -30,20 +30,12 @@ pub record On (s : List ℕ) (at : ℕ) (out₀ : List ℕ) (to : ℕ) (T : Term
   pub t : Term
   pub stands : At s at out₀ to T out i o c t
 
-pub record Going (s : List ℕ) (at : ℕ) (out₀ : List ℕ) (to : ℕ) (out : List ℕ) (i o c : ℕ) : Type 0 where
-  pub same : length out ≡ length out₀
-  pub past : at ≤ i
-  pub on : (T : Term) → TermTask s at out₀ to T → On s at out₀ to T out i o c
-
-pub begin : (s : List ℕ) (at : ℕ) (out : List ℕ) (to : ℕ) → Going s at out to out at to 0
-begin s at out to =
+-- at first it stands at T itself
+pub start : {s : List ℕ} {at : ℕ} {out : List ℕ} {to : ℕ} (T : Term) → TermTask s at out to T → On s at out to T out at to 0
+start T w =
     record {
-      same = refl;
-      past = omega arith;
-      on = λ T w. record {
-        t = T;
-        stands = record { legal = w .legal; task = told (sym (append-nil (text T))) (w .task); gives = λ d. told-done (append-nil (text T)) d };
-      };
+      t = T;
+      stands = record { legal = w .legal; task = told (sym (append-nil (text T))) (w .task); gives = λ d. told-done (append-nil (text T)) d };
     }
 
 module _ {s : List ℕ} {at : ℕ} {out₀ : List ℕ} {to : ℕ} {T : Term} {out : List ℕ} {i o c : ℕ} where
@@ -54,9 +46,6 @@ module _ {s : List ℕ} {at : ℕ} {out₀ : List ℕ} {to : ℕ} {T : Term} {ou
   module _ (n : On s at out₀ to T out i o c) where
     pub here : TermTask s i out o (n .t)
     here = at-task (n .stands)
-
-    pub few-brackets : c < 65536
-    few-brackets = omega (arith, n .stands .task .low, length-append (text (n .t)) (brackets c), length-replicate {A = ℕ} c 41)
 
     module _ {o₁ : List ℕ} {r : ℕ} (d : TermDone i out o (n .t) o₁ r) where
       last : Task s (r % 65536) o₁ (r / 65536) [] (brackets c)
@@ -165,50 +154,6 @@ module _ {s : List ℕ} {at : ℕ} {out₀ : List ℕ} {to : ℕ} {T : Term} {ou
     pub last-done : {o₁ : List ℕ} {r : ℕ} → Done (i + 1) out o (encodeName x) (x ++ brackets c) o₁ r → TermDone at out₀ to T o₁ r
     unfolding encode text
     last-done d = a .gives (pass-then (1 ∷ []) (encodeName x) d)
-
-  -- ---- a pair or an application whose first part is a variable
-  module _ (k : Two) (z : Bracketed k) (x : Name) (g : Term) (a : At s at out₀ to T out i o c (two k (var x) g)) where
-    abbrev name-opens : List ℕ
-    name-opens = say "(" ++ (x ++ betweenOf (twoTag k))
-
-    abbrev body : List ℕ
-    body = text g ++ brackets (c + 1)
-
-    name-spelt : text (two k (var x) g) ++ brackets c ≡ name-opens ++ body
-    unfolding text
-    name-spelt = two-spelt k z (var x) g a ∙ ap (λ (l : List ℕ). say "(" ++ l) (sym (append-assoc x (betweenOf (twoTag k)) body))
-
-    name-task : Task s (i + 2) out o (encodeName x ++ encode g) (name-opens ++ body)
-    unfolding encode
-    name-task = passed (twoTag k ∷ 1 ∷ []) (told name-spelt (a .task))
-
-    first-named : Named s (i + 2) x
-    first-named = named x (encode g) name-task
-
-    pub first-asked : NameIn s (i + 2) × (o + getD s (i + 2) 0 + 26 ≤ length out)
-    first-asked =
-        let m : length (brackets (c + 1)) ≡ c + 1 = length-replicate {A = ℕ} (c + 1) 41 in (
-          name-in first-named (name-long nameMost x (a .legal .0) .1),
-          omega (
-            arith,
-            first-named .long,
-            name-task .room,
-            length-append name-opens body,
-            length-append x (betweenOf (twoTag k)),
-            length-append (text g) (brackets (c + 1)),
-          ),
-        )
-
-    pub first-turn : {o₁ : List ℕ} {p q : ℕ} → Prints out o (say "(" ++ (nameAt s (i + 2) ++ betweenOf (getD s i 0))) o₁ p → q ≡ afterName s (i + 2)
-        → At s at out₀ to T o₁ q p (c + 1) g
-    unfolding encode
-    first-turn {o₁} {p} {q} b h =
-        let w : Prints out o name-opens o₁ p = rw (name-is first-named, ap (λ (n : ℕ). betweenOf n) (first-byte (a .task))) at b in
-        record {
-          legal = a .legal .1;
-          task = rw h (printed name-opens (after-one x (encode g) name-task) w);
-          gives = λ d. a .gives (told-done (sym name-spelt) (pass-then (twoTag k ∷ 1 ∷ []) (encodeName x ++ encode g) (one-then x (encode g) name-task (print-then w (rw h at d)))));
-        }
 
   -- ---- an abstraction
   module _ (x : Name) (f : Term) (a : At s at out₀ to T out i o c (abs x f)) where

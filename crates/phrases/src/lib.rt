@@ -13,7 +13,6 @@ ghost use Rattle.phrases.specs.Words.{wordOf, longOf, signOf, onePart, b
 use names::name;
 use names::named;
 use names::past;
-use words::byte;
 use words::chosen;
 use words::closes;
 use words::number;
@@ -184,16 +183,6 @@ pub fn right_name(s: &[u8], y: usize, out: &mut [u8], to: usize) -> usize
 {
     let a = word(out, to, b" | inr  ", 7);
     named(s, y, out, a, b" =>     ", 4)
-}
-
-// The bracket of a pair or an application, its first part where this is a variable, and what stands before the second.
-pub fn first_name(tag: u8, s: &[u8], x: usize, out: &mut [u8], to: usize) -> usize
-    requires { ⌜ NameIn (now s) x × (to + getD (now s) x 0 + 26 ≤ length (now out)) ⌝ }
-    ensures { λ r. ⌜ Prints (now (out .entry)) to (say "(" ‥ nameAt (now (s .entry)) x ‥ betweenOf tag) (now (out .exit)) r ⌝ }
-{
-    let a = byte(out, to, b'(');
-    let b = name(s, x, out, a);
-    between(tag, out, b)
 }
 
 // A name, and n closing brackets after it. The length is read before anything is written, and so once.

@@ -3,6 +3,3 @@ pub mod Writes
 pub mod Shapes
 mod Nodes
 pub mod Finds
-mod Passings
-mod Meets
-mod Sweeps

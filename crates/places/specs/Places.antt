@@ -1,12 +1,15 @@
 -- The places where a name is free in a term, and the two bytes in which each is kept. Assumes nothing: these are definitions.
-use Prim.Native.Nat.{ℕ, _+_, _/_}
+use Prim.Native.Nat.{ℕ, _+_, _-_, _/_, _≤_}
+use mathlib.Core.Path.{_≡_}
 use mathlib.Core.Bool.{_||_}
 use mathlib.Core.List.{List, [], _∷_}
 use Rattle.rules.specs.Basic.{Bytes, if_then_else_, _‥_, low-high}
 use Rattle.rules.specs.Name.{Name, same}
 use Rattle.rules.specs.Term.{Term, var, leaf, one, two, abs, both, branch, size}
 use Rattle.rules.specs.Step.{nameBytes}
+use lib.ListN.{length}
 use Rattle.walk.specs.Node.{hidden}
+use Rattle.walk.specs.Place.{TermAt}
 
 -- of a term that starts at `at`, from the left
 unfoldable pub places : Name → Term → (at : ℕ) → List ℕ
@@ -32,3 +35,10 @@ placesAll x m (t ∷ ts) at = (if hidden m then [] else places x t at) ‥ place
 abbrev pub kept : List ℕ → Bytes
 kept [] = []
 kept (p ∷ ps) = low-high p ‥ kept ps
+
+-- a term stands at `at`, and there is room for its places from `to` on
+pub record Finding (s : Bytes) (at : ℕ) (row : Bytes) (to : ℕ) : Type 0 where
+  pub some : (t : Term) × TermAt s at t
+  pub short : length s ≤ 4096
+  pub room : to + (length s - at) ≤ 4096
+  pub long : length row ≡ 4096

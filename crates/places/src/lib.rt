@@ -1,17 +1,14 @@
 // Where a name is free in a term: a walk that keeps the places, two bytes each.
 ghost use mathlib.Core.Path.{_≡_};
-ghost use mathlib.Core.List.{List};
-ghost use Prim.Native.Nat.{_+_, _-_, _≤_, _<_};
+ghost use mathlib.Core.List.{[]};
+ghost use Prim.Native.Nat.{_+_, _/_, _%_, _≤_, _<_};
 ghost use lib.ListN.{length};
-ghost use Rattle.rules.specs.Basic.{low-high};
+ghost use Rattle.rules.specs.Basic.{if_then_else_, low-high};
 ghost use Rattle.rules.specs.Term.{Term, encode, size};
 ghost use Rattle.runs.specs.Wrote.{Wrote};
-ghost use Rattle.walk.specs.Node.{encodeAll};
-ghost use Rattle.walk.specs.Place.{TermAt, TermsAt};
-ghost use Rattle.places.specs.Places.{places as placesOf, placesAll, kept};
-ghost use Rattle.places.specs.Passed.{Passed};
-
-pub mod passing;
+ghost use Rattle.walk.specs.Node.{hidden};
+ghost use Rattle.walk.specs.Place.{TermAt};
+ghost use Rattle.places.specs.Places.{places as placesOf, kept, Finding};
 
 // Keeps a place, low byte first.
 fn keep(places: &mut [u8], to: usize, place: usize) -> usize
@@ -24,133 +21,73 @@ fn keep(places: &mut [u8], to: usize, place: usize) -> usize
     to + 2
 }
 
-// The place after the terms, and after what was kept.
+// The place after a term, and after what was kept: in one number, which comes back in a register.
+fn come_to(next: usize, to: usize) -> usize
+    requires { ⌜ (next ≤ 4096) × (to ≤ 4096) ⌝ }
+    ensures { λ r. ⌜ (r % 65536 ≡ next) × (r / 65536 ≡ to) ⌝ }
+{
+    to * 65536 + next
+}
+
+// Keeps from `to` on where `name` is free in the term at `at`, unless the mask's lowest bit hides that. It calls itself on each part.
+// What it hands on are numbers and thin references, so that a call on the last part is a jump.
+fn find(s: &&[u8], at: usize, mask: usize, name: &&[u8], row: &mut [u8; 4096], to: usize) -> usize
+    requires { ⌜ Finding (now (now s)) at (now row) to ⌝ }
+    ensures { λ r. ⌜ ((t : Term) → TermAt (now (now (s .entry))) at t → (r % 65536 ≡ at + size t) × Wrote (now (row .entry)) to (kept (if hidden mask then [] else placesOf (now (now (name .entry))) t at)) (now (row .exit)) (r / 65536)) ⌝ }
+{
+    let hide = mask % 2;
+    if hide == 1 {
+        let past = walk::skip(*s, at, 1);
+        return come_to(past, to);
+    }
+    let node = walk::look(*s, at, *name);
+    let start = node.start;
+    if node.is {
+        let past = keep(row, to, at);
+        return come_to(start, past);
+    }
+    let parts = node.parts;
+    if parts == 0 {
+        return come_to(start, to);
+    }
+    let hides = node.hides;
+    if parts == 1 {
+        return find(s, start, hides, name, row, to);
+    }
+    let a = find(s, start, hides, name, row, to);
+    let others = hides / 2;
+    if parts == 2 {
+        return find(s, a % 65536, others, name, row, a / 65536);
+    }
+    let b = find(s, a % 65536, others, name, row, a / 65536);
+    find(s, b % 65536, others / 2, name, row, b / 65536)
+}
+
+// The place after the term, and after what was kept.
 pub struct Found {
     pub next: usize,
     pub to: usize,
 }
 
-// Keeps from `to` on where `name` is free in the n terms at `at`, but for those that the mask hides.
-// It calls itself on the parts of each term; the last term's call would be its last act, so its parts take the row's place instead.
-fn find(
-    s: &[u8],
-    at: usize,
-    n: usize,
-    mask: usize,
-    name: &[u8],
-    places: &mut [u8],
-    to: usize,
-) -> Found
-    requires { ⌜ ((ts : List Term) × TermsAt (now s) at n ts) ⌝ }
-    requires { ⌜ (length (now s) ≤ 65536) × (to + (length (now s) - at) ≤ length (now places)) ⌝ }
-    ensures { λ r. ⌜ ((ts : List Term) → TermsAt (now (s .entry)) at n ts → (r .next ≡ at + length (encodeAll ts)) × Wrote (now (places .entry)) to (kept (placesAll (now (name .entry)) mask ts at)) (now (places .exit)) (r .to)) ⌝ }
-{
-    let mut i = at;
-    let mut left = n;
-    let mut hide = mask;
-    let mut o = to;
-    while 0 < left {
-        let hidden = hide % 2;
-        left -= 1;
-        hide = hide / 2;
-        if hidden == 1 {
-            i = walk::skip(s, i, 1);
-            continue;
-        }
-        let node = walk::look(s, i, name);
-        if node.is {
-            o = keep(places, o, i);
-            i = node.start;
-            continue;
-        }
-        if node.parts == 0 {
-            i = node.start;
-            continue;
-        }
-        if left == 0 {
-            i = node.start;
-            left = node.parts;
-            hide = node.hides;
-            continue;
-        }
-        let f = find(s, node.start, node.parts, node.hides, name, places, o);
-        i = f.next;
-        o = f.to;
-    }
-    Found { next: i, to: o }
-}
-
-// What a node leaves to do: the place where the sweep goes on, how many terms there take the node's place, and the place after what was kept.
-struct Met {
-    next: usize,
-    parts: usize,
-    to: usize,
-}
-
-// Passes the node at `at`. The variable is kept, the parts of a binder of the name are walked by `find`, and those of another node are left.
-fn meet(s: &[u8], at: usize, name: &[u8], places: &mut [u8], to: usize) -> Met
-    requires { ⌜ ((t : Term) × TermAt (now s) at t) ⌝ }
-    requires { ⌜ (length (now s) ≤ 65536) × (to + (length (now s) - at) ≤ length (now places)) ⌝ }
-    ensures { λ r. ⌜ ((t : Term) → TermAt (now (s .entry)) at t → Passed (now (name .entry)) t at (now (places .entry)) to (r .next) (r .parts) (now (places .exit)) (r .to)) ⌝ }
-{
-    let node = walk::look(s, at, name);
-    let start = node.start;
-    if node.is {
-        let past = keep(places, to, at);
-        return Met {
-            next: start,
-            parts: 0,
-            to: past,
-        };
-    }
-    let parts = node.parts;
-    let hides = node.hides;
-    if hides == 0 {
-        return Met {
-            next: start,
-            parts,
-            to,
-        };
-    }
-    let found = find(s, start, parts, hides, name, places, to);
-    Met {
-        next: found.next,
-        parts: 0,
-        to: found.to,
-    }
-}
-
 // Keeps where `name` is free in the term at the start of s, and tells where that ends.
-// A node's parts follow it, so the nodes are passed as they stand until no term is left, most of them by the last bytes of their names.
 pub fn first_places(s: &[u8], name: &[u8], places: &mut [u8]) -> Found
     requires { ⌜ ((t : Term) × TermAt (now s) 0 t) ⌝ }
-    requires { ⌜ (length (now s) ≤ 65536) × (length (now s) ≤ length (now places)) ⌝ }
+    requires { ⌜ (length (now s) ≤ 4096) × (length (now s) ≤ length (now places)) ⌝ }
     ensures { λ r. ⌜ ((t : Term) → TermAt (now (s .entry)) 0 t → (r .next ≡ size t) × Wrote (now (places .entry)) 0 (kept (placesOf (now (name .entry)) t 0)) (now (places .exit)) (r .to)) ⌝ }
 {
-    let last = passing::ending(name);
-    let mut i = 0;
-    let mut left = 1;
-    let mut o = 0;
-    while 0 < left {
-        let start = passing::pass(s, i, last);
-        if start != 0 {
-            let tag = s[i] as usize;
-            left = left - 1 + walk::parts_of(tag);
-            i = start;
-            continue;
-        }
-        let met = meet(s, i, name, places, o);
-        left = left - 1 + met.parts;
-        i = met.next;
-        o = met.to;
+    let mut row = [0u8; 4096];
+    let found = find(&s, 0, 0, &name, &mut row, 0);
+    let to = runs::copy(&row, 0, found / 65536, places, 0);
+    Found {
+        next: found % 65536,
+        to,
     }
-    Found { next: i, to: o }
 }
 
 // Keeps where `name` is free in the term s, and returns how many bytes that took.
 pub fn free_places(s: &[u8], name: &[u8], places: &mut [u8]) -> usize
     requires { ⌜ ((t : Term) × (now s ≡ encode t)) ⌝ }
-    requires { ⌜ (length (now s) ≤ 65536) × (length (now s) ≤ length (now places)) ⌝ }
+    requires { ⌜ (length (now s) ≤ 4096) × (length (now s) ≤ length (now places)) ⌝ }
     ensures { λ r. ⌜ ((t : Term) → now (s .entry) ≡ encode t → Wrote (now (places .entry)) 0 (kept (placesOf (now (name .entry)) t 0)) (now (places .exit)) r) ⌝ }
 {
     let found = first_places(s, name, places);

@@ -8,7 +8,7 @@ ghost use Rattle.rules.specs.Reading.{readProof};
 ghost use Rattle.rules.specs.Calls.{checkProofCall};
 use letters::Form;
 use letters::classes::table_of;
-use premises::read_premises;
+use premises::read_rule;
 use rule_bytes::Most;
 use rule_bytes::Reading;
 use rule_bytes::at_end;
@@ -17,12 +17,10 @@ use rules::MOST_BYTES;
 use rules::MOST_FORMULA_NODES;
 use rules::MOST_RULES;
 use rules::Refusal;
-use rules_ahead::go_ahead;
 
 mod premises;
 
-// Whether s is a proof of at most so many bytes, rules and formula nodes; with its count of rules. What is good is gone over first; where
-// that is not all, what is left is read exactly.
+// Whether s is a proof of at most so many bytes, rules and formula nodes; with its count of rules.
 fn check_within(s: &[u8], bytes: usize, most: Most, input: u8) -> Answer
     requires { ⌜ (most .formulas ≤ 65536) × (most .rules ≤ 65536) ⌝ }
     ensures { λ r. ⌜ ((L : Limits) → L .bytes ≡ bytes → L .rules ≡ most .rules → L .formulas ≡ most .formulas →
@@ -36,11 +34,7 @@ fn check_within(s: &[u8], bytes: usize, most: Most, input: u8) -> Answer
         });
     }
     let t = table_of(Form::Formula);
-    let gone = go_ahead(s, &t, most);
-    if gone.owed == 0 {
-        return at_end(gone.reached, s.len(), input);
-    }
-    match read_premises(s, &t, most, gone.reached, gone.owed) {
+    match read_rule(s, &t, most, 0, 0, 0) {
         Reading::To(end) => at_end(end, s.len(), input),
         Reading::Fault { number, place } => Answer::Refused(Refusal {
             number,

@@ -7,13 +7,15 @@ ghost use Rattle.rules.specs.Reading.{many, proofAt};
 ghost use Rattle.letters.specs.Classes.{Classes};
 ghost use Rattle.rule_bytes.specs.Seen.{seen, found, reachedAt, within};
 use conclusion::read_conclusion;
+use good_rule::past_conclusion;
 use rule_bytes::Most;
 use rule_bytes::Reached;
 use rule_bytes::Reading;
 use rule_bytes::count::Conclusion;
 
-// A rule and all its premises, where so many rules and formula nodes were met before it: numbers, which need no room in memory.
-fn read_rule(
+// A rule and all its premises, where so many rules and formula nodes were met before it: numbers, which need no room in memory. What stands
+// before the premises is passed by few tests where it is good, and else read by those who know what is wrong with it.
+pub fn read_rule(
     s: &[u8],
     t: &[u8; 256],
     most: Most,
@@ -23,8 +25,23 @@ fn read_rule(
 ) -> Reading
     requires { ⌜ Classes formulaLayout (now t) ⌝ }
     requires { ⌜ (most .formulas ≤ 65536) × (next ≤ length (now s)) ⌝ }
+    requires { ⌜ most .rules ≤ 65536 ⌝ }
     ensures { λ r. ⌜ ((depth : ℕ) → most .rules ≤ rules + depth → r ≡ seen (found (proofAt (within most) depth) (now (s .entry)) (reachedAt next rules formulas))) ⌝ }
 {
+    if next < s.len() {
+        if rules < most.rules {
+            let passed = past_conclusion(s, t, most, next, formulas);
+            let n = passed.premises;
+            if n <= 3 {
+                let reached = Reached {
+                    next: passed.next,
+                    rules: rules + 1,
+                    formulas: passed.formulas,
+                };
+                return read_premises(s, t, most, reached, n);
+            }
+        }
+    }
     let from = Reached {
         next,
         rules,
@@ -36,10 +53,11 @@ fn read_rule(
     }
 }
 
-// The premises of a rule, n of them; or any n rules in a row.
-pub fn read_premises(s: &[u8], t: &[u8; 256], most: Most, from: Reached, n: usize) -> Reading
+// The premises of a rule, n of them.
+fn read_premises(s: &[u8], t: &[u8; 256], most: Most, from: Reached, n: usize) -> Reading
     requires { ⌜ Classes formulaLayout (now t) ⌝ }
     requires { ⌜ (most .formulas ≤ 65536) × (from .next ≤ length (now s)) ⌝ }
+    requires { ⌜ most .rules ≤ 65536 ⌝ }
     ensures { λ r. ⌜ ((depth : ℕ) → most .rules ≤ from .rules + depth → r ≡ seen (found (many (proofAt (within most) depth) n) (now (s .entry)) from)) ⌝ }
 {
     let mut next = from.next;

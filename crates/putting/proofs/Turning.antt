@@ -131,7 +131,7 @@ module _ {body held : Bytes} {many gap : ℕ} {a : Bytes} {k : ℕ} {b : Bytes} 
         long : length (take (l - 0) half₁) ≡ size u
         long = ap (λ (z : Bytes). length z) bytes
 
-        pub half-term : {room : ℕ} → 4096 ≤ room → ((t : Term) × (take (l - 0) half₁ ≡ encode t)) × ((length (take (l - 0) half₁) ≤ 65536) × (length (take (l - 0) half₁) ≤ room))
+        pub half-term : {room : ℕ} → 4096 ≤ room → ((t : Term) × (take (l - 0) half₁ ≡ encode t)) × ((length (take (l - 0) half₁) ≤ 4096) × (length (take (l - 0) half₁) ≤ room))
         half-term g = ((u, bytes), (omega (arith, long, half .fit), omega (arith, long, half .fit)))
 
         module _ (y : Name) {places₀ places₁ : Bytes} {f : ℕ} (g : 4096 ≤ length places₀) (o : (t : Term) → take (l - 0) half₁ ≡ encode t → Wrote places₀ 0 (kept (places y t 0)) places₁ f) where

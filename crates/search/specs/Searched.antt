@@ -2,7 +2,7 @@
 use Prim.Native.Nat.{ℕ, _+_, _*_, _/_, _%_, _^_}
 use mathlib.Core.Bool.{Bool}
 use mathlib.Core.Option.{Option, none, some}
-use Rattle.rules.specs.Basic.{_==_}
+use Rattle.rules.specs.Basic.{_==_, if_then_else_}
 use Rattle.rules.specs.Term.{Term, size}
 use Rattle.walk.specs.Node.{packed}
 use Rattle.search.specs.Spot.{Spot, spot}
@@ -35,3 +35,7 @@ soughtAt at n (some q) = Redex (at + q .place)
 
 abbrev pub sought : (at : ℕ) → Term → Sought
 sought at t = soughtAt at (size t) (spot t)
+
+-- what a number tells: twice the place, and one more where a redex is there
+abbrev pub told : ℕ → Sought
+told r = if r % 2 == 1 then Redex (r / 2) else After (r / 2)

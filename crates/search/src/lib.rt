@@ -3,7 +3,9 @@ ghost use mathlib.Core.Path.{_≡_};
 ghost use Prim.Native.Nat.{_<_};
 ghost use Rattle.rules.specs.Term.{Term};
 ghost use Rattle.walk.specs.Place.{TermAt};
-ghost use Rattle.search.specs.Searched.{entersAfter, reduces as reducesOf, sought};
+ghost use lib.ListN.{length};
+ghost use Rattle.search.specs.declared.Sought.the-variants.{Redex, After};
+ghost use Rattle.search.specs.Searched.{entersAfter, reduces as reducesOf, sought, told};
 
 // The place of the redex; or, where there is none, the place after the term.
 pub enum Sought {
@@ -35,37 +37,62 @@ pub fn reduces(tag: usize, first: usize) -> bool
     (WANTS >> (tag * 3)) % 8 == (GIVES >> (first * 3)) % 8
 }
 
-// Searches the term at `at`. It calls itself on each part entered; the last of them takes the node's place.
+// What a search tells, in one number, which comes back in a register: twice the place, and one more where a redex is there.
+fn redex(place: usize) -> usize
+    requires { ⌜ place < 9223372036854775808 ⌝ }
+    ensures { λ r. ⌜ told r ≡ Redex place ⌝ }
+{
+    place * 2 + 1
+}
+
+fn after(next: usize) -> usize
+    requires { ⌜ next < 9223372036854775808 ⌝ }
+    ensures { λ r. ⌜ told r ≡ After next ⌝ }
+{
+    next * 2
+}
+
+// Searches the term at `at`, by a call of itself on each part entered. What it hands on are a thin reference and a number, so that a call
+// on the last part is a jump.
+fn seek(s: &&[u8], at: usize) -> usize
+    requires { ⌜ ((t : Term) × TermAt (now (now s)) at t) × (length (now (now s)) < 9223372036854775808) ⌝ }
+    ensures { λ r. ⌜ ((t : Term) → TermAt (now (now (s .entry))) at t → told r ≡ sought at t) ⌝ }
+{
+    let tag = s[at] as usize;
+    let parts = walk::parts_of(tag);
+    let names = walk::names_of(tag);
+    let start = walk::after_names(*s, at + 1, names);
+    let enters = enters_of(tag);
+    if enters == 0 {
+        return after(walk::skip(*s, start, parts));
+    }
+    let first = s[start] as usize;
+    if reduces(tag, first) {
+        return redex(at);
+    }
+    if parts == 1 {
+        return seek(s, start);
+    }
+    let r = seek(s, start);
+    if r % 2 == 1 {
+        return r;
+    }
+    let next = r / 2;
+    if enters == 1 {
+        return after(walk::skip(*s, next, parts - 1));
+    }
+    seek(s, next)
+}
+
+// The first redex of the term at `at`.
 pub fn find(s: &[u8], at: usize) -> Sought
     requires { ⌜ ((t : Term) × TermAt (now s) at t) ⌝ }
     ensures { λ r. ⌜ ((t : Term) → TermAt (now (s .entry)) at t → r ≡ sought at t) ⌝ }
 {
-    let mut i = at;
-    loop {
-        let tag = s[i] as usize;
-        let parts = walk::parts_of(tag);
-        let start = walk::after_names(s, i + 1, walk::names_of(tag));
-        let enters = enters_of(tag);
-        if enters == 0 {
-            return Sought::After(walk::skip(s, start, parts));
-        }
-        if reduces(tag, s[start] as usize) {
-            return Sought::Redex(i);
-        }
-        if parts == 1 {
-            i = start;
-            continue;
-        }
-        match find(s, start) {
-            Sought::Redex(place) => {
-                return Sought::Redex(place);
-            }
-            Sought::After(next) => {
-                if enters == 1 {
-                    return Sought::After(walk::skip(s, next, parts - 1));
-                }
-                i = next;
-            }
-        }
+    let r = seek(&s, at);
+    let place = r / 2;
+    if r % 2 == 1 {
+        return Sought::Redex(place);
     }
+    Sought::After(place)
 }

@@ -10,7 +10,6 @@ use phrases::case_end;
 use phrases::case_word;
 use phrases::copy_word;
 use phrases::discard_words;
-use phrases::first_name;
 use phrases::in_word;
 use phrases::last_name;
 use phrases::leaf;
@@ -20,8 +19,7 @@ use phrases::one_part;
 use phrases::past_names;
 use phrases::right_name;
 use phrases::sign;
-use turns::second_part;
-use turns::with_own;
+use walk::skip;
 use words::byte;
 use words::closed;
 
@@ -30,8 +28,9 @@ fn discard(s: &[u8], at: usize, out: &mut [u8], to: usize) -> usize
     requires { ⌜ ((a : Term) × (b : Term) × TermTask (now s) at (now out) to (twoOf discardOf a b)) ⌝ }
     ensures { λ r. ⌜ ((a : Term) → (b : Term) → TermTask (now (s .entry)) at (now (out .entry)) to (twoOf discardOf a b) → TermDone at (now (out .entry)) to (twoOf discardOf a b) (now (out .exit)) r) ⌝ }
 {
+    let x = at + 1;
     let a = discard_words(out, to);
-    part(&*s, second_part(s, at), out, a)
+    walk(&*s, skip(s, x, 1), out, a)
 }
 
 fn let_pair(s: &[u8], at: usize, out: &mut [u8], to: usize) -> usize
@@ -40,9 +39,9 @@ fn let_pair(s: &[u8], at: usize, out: &mut [u8], to: usize) -> usize
 {
     let x = at + 1;
     let a = let_names(s, x, out, to);
-    let e = part(&*s, past_names(s, x), out, a);
+    let e = walk(&*s, past_names(s, x), out, a);
     let b = in_word(out, e / 65536);
-    part(&*s, e % 65536, out, b)
+    walk(&*s, e % 65536, out, b)
 }
 
 fn copy(s: &[u8], at: usize, out: &mut [u8], to: usize) -> usize
@@ -51,9 +50,9 @@ fn copy(s: &[u8], at: usize, out: &mut [u8], to: usize) -> usize
 {
     let x = at + 1;
     let a = copy_word(out, to);
-    let e = part(&*s, past_names(s, x), out, a);
+    let e = walk(&*s, past_names(s, x), out, a);
     let b = as_names(s, x, out, e / 65536);
-    part(&*s, e % 65536, out, b)
+    walk(&*s, e % 65536, out, b)
 }
 
 fn case(s: &[u8], at: usize, out: &mut [u8], to: usize) -> usize
@@ -63,15 +62,15 @@ fn case(s: &[u8], at: usize, out: &mut [u8], to: usize) -> usize
     let x = at + 1;
     let y = past(s, x);
     let a = case_word(out, to);
-    let e = part(&*s, past_names(s, x), out, a);
+    let e = walk(&*s, past_names(s, x), out, a);
     let b = left_name(s, x, out, e / 65536);
-    let l = part(&*s, e % 65536, out, b);
+    let l = walk(&*s, e % 65536, out, b);
     let c = right_name(s, y, out, l / 65536);
-    let r = part(&*s, l % 65536, out, c);
+    let r = walk(&*s, l % 65536, out, c);
     case_end(out, r)
 }
 
-// A leaf, let, copy, case or discard: what neither `walk` nor `part` goes on with.
+// A leaf, let, copy, case or discard.
 fn whole(s: &[u8], at: usize, out: &mut [u8], to: usize) -> usize
     requires { ⌜ ((t : Term) × Whole t × TermTask (now s) at (now out) to t) ⌝ }
     ensures { λ r. ⌜ ((t : Term) → Whole t → TermTask (now (s .entry)) at (now (out .entry)) to t → TermDone at (now (out .entry)) to t (now (out .exit)) r) ⌝ }
@@ -85,73 +84,33 @@ fn whole(s: &[u8], at: usize, out: &mut [u8], to: usize) -> usize
     }
 }
 
-// A part of any shape: it goes on with the part of an abstraction or of a node of one part, and leaves variables, pairs and applications to `walk`,
-// which so has few places to keep over a call.
-fn part(s: &[u8], at: usize, out: &mut [u8], to: usize) -> usize
-    requires { ⌜ ((t : Term) × TermTask (now s) at (now out) to t) ⌝ }
-    ensures { λ r. ⌜ ((t : Term) → TermTask (now (s .entry)) at (now (out .entry)) to t → TermDone at (now (out .entry)) to t (now (out .exit)) r) ⌝ }
-{
-    let mut i = at;
-    let mut o = to;
-    loop {
-        let tag = s[i];
-        let x = i + 1;
-        match tag {
-            1 | 3 | 6 => return walk(&*s, i, out, o),
-            5 => {
-                i = past(s, x);
-                o = bound_name(s, x, out, o);
-                continue;
-            }
-            _ => {
-                if one_part(tag) == 1 {
-                    o = sign(tag, out, o);
-                    i = x;
-                    continue;
-                }
-                return whole(&*s, i, out, o);
-            }
-        }
-    }
-}
-
-// Goes on with the last part of a pair, an application or an abstraction in its own loop, and keeps count of the brackets to come. A first part is
-// mostly a variable, and needs no call.
+// A term of any shape: a call on each of its parts.
 pub fn walk(s: &[u8], at: usize, out: &mut [u8], to: usize) -> usize
     requires { ⌜ ((t : Term) × TermTask (now s) at (now out) to t) ⌝ }
     ensures { λ r. ⌜ ((t : Term) → TermTask (now (s .entry)) at (now (out .entry)) to t → TermDone at (now (out .entry)) to t (now (out .exit)) r) ⌝ }
 {
-    let mut i = at;
-    let mut o = to;
-    let mut brackets = 0;
-    loop {
-        let tag = s[i];
-        let x = i + 1;
-        match tag {
-            1 => return last_name(s, x, out, o, brackets),
-            3 | 6 => {
-                brackets = with_own(brackets);
-                if s[x] == 1 {
-                    let y = i + 2;
-                    i = past(s, y);
-                    o = first_name(tag, s, y, out, o);
-                    continue;
-                }
-                o = byte(out, o, b'(');
-                let l = walk(&*s, x, out, o);
-                o = between(tag, out, l / 65536);
-                i = l % 65536;
-                continue;
+    let tag = s[at];
+    let x = at + 1;
+    match tag {
+        1 => last_name(s, x, out, to, 0),
+        3 | 6 => {
+            let a = byte(out, to, b'(');
+            let l = walk(&*s, x, out, a);
+            let b = between(tag, out, l / 65536);
+            let r = walk(&*s, l % 65536, out, b);
+            closed(out, r, 1)
+        }
+        5 => {
+            let e = past(s, x);
+            let o = bound_name(s, x, out, to);
+            walk(&*s, e, out, o)
+        }
+        _ => {
+            if one_part(tag) == 1 {
+                let o = sign(tag, out, to);
+                return walk(&*s, x, out, o);
             }
-            5 => {
-                i = past(s, x);
-                o = bound_name(s, x, out, o);
-                continue;
-            }
-            _ => {
-                let r = part(&*s, i, out, o);
-                return closed(out, r, brackets);
-            }
+            whole(&*s, at, out, to)
         }
     }
 }

@@ -1,20 +1,17 @@
 -- `formula_text::pretty` meets its contract: the reader's answer says what the formula is, and the walk from its start prints it. Assumes nothing.
-use mathlib.Core.Path.{refl, sym, ap, _∙_}
+use mathlib.Core.Path.{sym, ap, _∙_}
 use native.Mathlib.Omega.{arith}
 use denote.Ref.{now}
-use Rattle.rules.specs.Formula.{Formula}
-use Rattle.rules.specs.Refusal.{Outcome}
 use Rattle.rules.specs.declared.Answer.the-variants.{Good}
-use Rattle.words.specs.Ends.{whole-long, whole-room, whole}
-use Rattle.formula_walk.specs.Task.{textOf}
+use Rattle.words.specs.Ends.{from-start, whole-long, whole-room, whole}
 use Rattle.formula_text.proofs.Whole.{short, not-read, was-read, read}
-use Rattle.formula_walk.specs.Read.{few}
+use Rattle.formula_walk.specs.Read.{few, size, task}
 use borrow.Author.Needs.{needs}
 use Rattle.formula_text.proofs.pretty.Statement.{statement}
 use Rattle.formula_text.proofs.pretty.Tie as tie
 
 returns : tie.Need-returns
-returns c = let a = c .before .before .before .args in short (now (a .formula)) (now (a .out)) (c .if1 .taken)
+returns c = short (now (c .before .before .before .args .formula)) (now (c .before .before .before .args .out)) (c .if1 .taken)
 
 check-formula-requires : tie.Need-check-formula-requires
 check-formula-requires c κs = search needs
@@ -24,20 +21,19 @@ enum-told c = search needs
 
 walk-requires : tie.Need-walk-requires
 walk-requires c κs =
-    let s = now (c .before .before .before .before .before .before .before .before .args .formula) in
-    let o = now (c .before .before .before .before .before .before .before .before .args .out) in
-    let h = c .before .before .before .before .before .if1 .left in
-    let f = read s o h (sym (c .before .before .before .before .check-formula .ensures) ∙ c .before .before .enum-told .given .1) in
-    ((f .value, f .is), (h, refl))
+    let s = now (c .before .before .before .before .before .before .before .args .formula) in
+    let o = now (c .before .before .before .before .before .before .before .args .out) in
+    let h = c .before .before .before .before .if1 .left in
+    let f = read s o h (sym (c .before .before .before .check-formula .ensures) ∙ c .before .enum-told .given .1) in
+    (f .value, task s o h (f .value) (f .is))
 
 clear-requires : tie.Need-clear-requires
 clear-requires c κs =
-    let s = now (c .before .before .before .before .before .before .before .before .before .before .before .before .args .formula) in
-    let o = now (c .before .before .before .before .before .before .before .before .before .before .before .before .args .out) in
-    let h = c .before .before .before .before .before .before .before .before .before .if1 .left in
-    let f = read s o h (sym (c .before .before .before .before .before .before .before .before .check-formula .ensures) ∙ c .before .before .before .before .before .before .enum-told .given .1) in
-    let d = rw (ap (λ (y : Outcome Formula). textOf y) (f .is)) at (c .before .before .before .walk .ensures) in
-    whole-room d (omega (arith, few s o h (f .value) (f .is)))
+    let s = now (c .before .before .before .before .before .before .before .before .before .before .before .args .formula) in
+    let o = now (c .before .before .before .before .before .before .before .before .before .before .before .args .out) in
+    let h = c .before .before .before .before .before .before .before .before .if1 .left in
+    let f = read s o h (sym (c .before .before .before .before .before .before .before .check-formula .ensures) ∙ c .before .before .before .before .before .enum-told .given .1) in
+    whole-room (from-start (c .before .before .before .walk .ensures (f .value) (task s o h (f .value) (f .is))) (size s o h (f .value) (f .is))) (omega (arith, few s o h (f .value) (f .is)))
 
 enum-known-r : tie.Need-enum-known-r
 enum-known-r c = search needs
@@ -47,11 +43,11 @@ same-length c = search needs
 
 returns-2 : tie.Need-returns-2
 returns-2 c =
-    let s = now (c .before .before .before .before .before .before .before .before .before .before .before .before .before .before .before .args .formula) in
-    let o = now (c .before .before .before .before .before .before .before .before .before .before .before .before .before .before .before .args .out) in
-    let h = c .before .before .before .before .before .before .before .before .before .before .before .before .if1 .left in
-    let f = read s o h (sym (c .before .before .before .before .before .before .before .before .before .before .before .check-formula .ensures) ∙ c .before .before .before .before .before .before .before .before .before .enum-told .given .1) in
-    let d = rw (ap (λ (y : Outcome Formula). textOf y) (f .is)) at (c .before .before .before .before .before .before .walk .ensures) in
+    let s = now (c .before .before .before .before .before .before .before .before .before .before .before .before .before .before .args .formula) in
+    let o = now (c .before .before .before .before .before .before .before .before .before .before .before .before .before .before .args .out) in
+    let h = c .before .before .before .before .before .before .before .before .before .before .before .if1 .left in
+    let f = read s o h (sym (c .before .before .before .before .before .before .before .before .before .before .check-formula .ensures) ∙ c .before .before .before .before .before .before .before .before .enum-told .given .1) in
+    let d = from-start (c .before .before .before .before .before .before .walk .ensures (f .value) (task s o h (f .value) (f .is))) (size s o h (f .value) (f .is)) in
     let g = was-read s o h (f .value) (f .is) in
     (ap Good (whole-long d) ∙ g .0, whole d (omega (arith, few s o h (f .value) (f .is))) (c .before .before .clear .ensures) ∙ g .1)
 

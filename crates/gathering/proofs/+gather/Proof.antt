@@ -1,197 +1,172 @@
--- The proof of the walk {gather}: whatever is gathered from where it stands, the whole gathers. Assumes nothing.
-use Rattle.gathering.proofs.Gathers.{Going, begin, one-here, branch-here, inside, var-named, var-some, var-ends, leaf-ends, one-some, one-further, one-turn, two-some, two-further, two-turn, abs-fits, abs-named, abs-further, abs-turn, both-named, both-named-2, both-ahead, both-some, both-further, both-fits, both-fits-2, both-turn, branch-named, branch-named-2, branch-ahead, branch-some, branch-between, branch-fits, branch-some-2, branch-further, branch-fits-2, branch-turn}
+-- The walk `gather` meets its contract: a node is walked when its parts are. Assumes nothing.
 use Prim.Native.Nat.{_-_}
-use mathlib.Core.Path.{_∙_}
-use mathlib.Core.Logic.{⊎-elim, inl, inr}
 use native.Mathlib.Omega.{arith}
 use lib.ListN.{length}
+use Rattle.gathering.proofs.Gathers.{inside, small, var-named, var-some, var-fits, var-ends, leaf-fits, leaf-ends, one-part, one-ends, two-first, two-second, two-ends, abs-named, abs-fits, abs-body, abs-ends, both-named, both-named-2, both-part, both-fits, both-fits-2, both-last, both-ends, branch-named, branch-named-2, branch-part, branch-fits, branch-second-part, branch-fits-2, branch-last, branch-ends}
 use Prim.Native.Nat.{ℕ, _<_}
 use borrow.Fn.Kinds.{In}
 use borrow.Fn.PlainCycle.{Measures, is, falls, and}
 use Rattle.gathering.proofs.gather.Reads as gather
 use Rattle.gathering.proofs.gather.Kinds as gather-kinds
 use Rattle.gathering.proofs.+gather.Lts-gather as gather-lts
+use Rattle.gathering.proofs.come_to.Reads as come-to-reads
 use Rattle.name_row.proofs.meet.Reads as meet-reads
-use Rattle.ones.proofs.pass_ones.Reads as pass-ones-reads
 use Rattle.name_row.proofs.push.Reads as push-reads
 use Rattle.walk.proofs.after_names.Reads as after-names-reads
 use Rattle.gathering.proofs.+gather.{statement}
 use Rattle.gathering.proofs.+gather.Tie.{close}
 
-abbrev μ-gather : Measures 2 gather-kinds.ps ℕ
-μ-gather κs a = length (a .0 .now) - a .1 .0
+abbrev μ-gather : Measures 3 gather-kinds.ps ℕ
+μ-gather κs a = length (a .0 .now .now) - a .1 .0
 
-abbrev gather-at : ℕ → In 2 gather-kinds.ps
-gather-at t = and 2 gather-kinds.ps (is 2 gather-kinds.ps μ-gather t) gather.Pre
+abbrev gather-at : ℕ → In 3 gather-kinds.ps
+gather-at t = and 3 gather-kinds.ps (is 3 gather-kinds.ps μ-gather t) gather.Pre
 
-abbrev gather-below : ℕ → In 2 gather-kinds.ps
-gather-below t = and 2 gather-kinds.ps (falls 2 gather-kinds.ps _<_ μ-gather t) gather.Pre
-
-abbrev gather-Inv-loop : gather-lts.InvT-loop
-gather-Inv-loop s at row₀ low n i₀ b₀ k₀ row i b k = Going s at row₀ low n row i b k
-
-abbrev gather-μ-loop : gather-lts.MeasureT-loop
-gather-μ-loop s at row₀ low n i₀ b₀ k₀ row i b k = length s - i
+abbrev gather-below : ℕ → In 3 gather-kinds.ps
+gather-below t = and 3 gather-kinds.ps (falls 3 gather-kinds.ps _<_ μ-gather t) gather.Pre
 
 abbrev gather-claims : ℕ → gather-lts.Claims
-gather-claims t = (after-names-reads.Asked, after-names-reads.Learnt, meet-reads.Asked, meet-reads.Learnt, gather-below t, gather.Post, push-reads.Asked, push-reads.Learnt, pass-ones-reads.Asked, pass-ones-reads.Learnt)
+gather-claims t = (after-names-reads.Asked, after-names-reads.Learnt, meet-reads.Asked, meet-reads.Learnt, come-to-reads.Asked, come-to-reads.Learnt, gather-below t, gather.Post, push-reads.Asked, push-reads.Learnt)
 
-gather-loop-holds : (t : ℕ) → gather-lts.Need-loop-holds (gather-claims t) (gather-at t) gather.Post gather-Inv-loop gather-μ-loop
-gather-loop-holds t c = begin _ _ _ _ _ (c .before .before .pre .1)
+gather-add-first : (t : ℕ) → gather-lts.Need-add-first (gather-claims t) (gather-at t) gather.Post
+gather-add-first t c = let g = c .pre .1 in omega (arith, inside g, small g)
 
-gather-add-first : (t : ℕ) → gather-lts.Need-add-first (gather-claims t) (gather-at t) gather.Post gather-Inv-loop gather-μ-loop
-gather-add-first t c = omega (arith, inside (c .loop .inv))
+gather-index-1-match : (t : ℕ) → gather-lts.Need-index-1-match (gather-claims t) (gather-at t) gather.Post
+gather-index-1-match t c = inside (c .pre .1)
 
-gather-shared-slice-read-match : (t : ℕ) → gather-lts.Need-shared-slice-read-match (gather-claims t) (gather-at t) gather.Post gather-Inv-loop gather-μ-loop
-gather-shared-slice-read-match t c = inside (c .before .loop .inv)
+gather-after-names-requires : (t : ℕ) → gather-lts.Need-after-names-requires (gather-claims t) (gather-at t) gather.Post
+gather-after-names-requires t c κs = var-named (c .before .before .before .pre .1) (c .before .match .keys1)
 
-gather-after-names-requires : (t : ℕ) → gather-lts.Need-after-names-requires (gather-claims t) (gather-at t) gather.Post gather-Inv-loop gather-μ-loop
-gather-after-names-requires t c κs = var-named (c .before .before .loop .inv) (c .match .keys1)
+gather-meet-requires : (t : ℕ) → gather-lts.Need-meet-requires (gather-claims t) (gather-at t) gather.Post
+gather-meet-requires t c κs = var-some (c .before .before .before .before .before .before .pre .1) (c .before .before .before .before .match .keys1)
 
-gather-meet-requires : (t : ℕ) → gather-lts.Need-meet-requires (gather-claims t) (gather-at t) gather.Post gather-Inv-loop gather-μ-loop
-gather-meet-requires t c κs = var-some (c .before .before .before .before .loop .inv) (c .before .before .match .keys1)
+gather-come-to-requires : (t : ℕ) → gather-lts.Need-come-to-requires (gather-claims t) (gather-at t) gather.Post
+gather-come-to-requires t c κs = var-fits (c .before .before .before .before .before .before .before .pre .1) (c .before .before .before .before .before .match .keys1) _ (c .before .before .before .after-names .ensures) _ _ (c .meet .ensures)
 
-gather-same-length : (t : ℕ) → gather-lts.Need-same-length (gather-claims t) (gather-at t) gather.Post gather-Inv-loop gather-μ-loop
-gather-same-length t c = c .before .before .meet .kept .1 .1 .0 ∙ c .before .before .before .before .before .before .before .loop .inv .same
+gather-come-to-requires-2 : (t : ℕ) → gather-lts.Need-come-to-requires-2 (gather-claims t) (gather-at t) gather.Post
+gather-come-to-requires-2 t c κs = leaf-fits (c .before .before .pre .1)
 
-gather-returns : (t : ℕ) → gather-lts.Need-returns (gather-claims t) (gather-at t) gather.Post gather-Inv-loop gather-μ-loop
-gather-returns t c = var-ends (c .before .before .before .before .before .before .before .loop .inv) (c .before .before .before .before .before .match .keys1) _ (c .before .before .before .before .after-names .ensures) _ _ (c .before .before .meet .ensures)
+gather-gather-requires : (t : ℕ) → gather-lts.Need-gather-requires (gather-claims t) (gather-at t) gather.Post
+gather-gather-requires t c κs = let o = two-first (c .before .before .before .pre .1) (c .before .match .keys3) in (omega (arith, c .before .before .before .pre .0, inside (c .before .before .before .pre .1), o .0), o .1)
 
-gather-same-length-2 : (t : ℕ) → gather-lts.Need-same-length-2 (gather-claims t) (gather-at t) gather.Post gather-Inv-loop gather-μ-loop
-gather-same-length-2 t c = c .before .before .loop .inv .same
+gather-gather-requires-2 : (t : ℕ) → gather-lts.Need-gather-requires-2 (gather-claims t) (gather-at t) gather.Post
+gather-gather-requires-2 t c κs = let o = two-second (c .before .before .before .before .before .pre .1) (c .before .before .before .match .keys3) (c .before .gather .ensures) in (omega (arith, c .before .before .before .before .before .pre .0, inside (c .before .before .before .before .before .pre .1), o .0), o .1)
 
-gather-returns-2 : (t : ℕ) → gather-lts.Need-returns-2 (gather-claims t) (gather-at t) gather.Post gather-Inv-loop gather-μ-loop
-gather-returns-2 t c = leaf-ends (c .before .before .loop .inv) (c .match .keys2)
+gather-after-names-requires-2 : (t : ℕ) → gather-lts.Need-after-names-requires-2 (gather-claims t) (gather-at t) gather.Post
+gather-after-names-requires-2 t c κs = abs-named (c .before .before .before .pre .1) (c .before .match .keys4)
 
-gather-gather-requires : (t : ℕ) → gather-lts.Need-gather-requires (gather-claims t) (gather-at t) gather.Post gather-Inv-loop gather-μ-loop
-gather-gather-requires t c κs = (omega (arith, c .before .before .before .before .before .before .pre .0, c .before .before .before .loop .inv .past, inside (c .before .before .before .loop .inv)), two-some (c .before .before .before .loop .inv) (c .before .match .keys3))
+gather-push-requires : (t : ℕ) → gather-lts.Need-push-requires (gather-claims t) (gather-at t) gather.Post
+gather-push-requires t c κs = abs-fits (c .before .before .before .before .before .pre .1) (c .before .before .before .match .keys4)
 
-gather-loop-less : (t : ℕ) → gather-lts.Need-loop-less (gather-claims t) (gather-at t) gather.Post gather-Inv-loop gather-μ-loop
-gather-loop-less t c = omega (arith, inside (c .before .before .before .before .before .before .loop .inv), two-further (c .before .before .before .before .before .before .loop .inv) (c .before .before .before .before .match .keys3) (c .before .before .gather .ensures) (c .before .before .gather .kept .1 .1 .0))
+gather-gather-requires-3 : (t : ℕ) → gather-lts.Need-gather-requires-3 (gather-claims t) (gather-at t) gather.Post
+gather-gather-requires-3 t c κs = let o = abs-body (c .before .before .before .before .before .before .before .pre .1) (c .before .before .before .before .before .match .keys4) _ (c .before .before .before .after-names2 .ensures) (c .before .push .ensures .0) (c .before .push .ensures .1) in (omega (arith, c .before .before .before .before .before .before .before .pre .0, inside (c .before .before .before .before .before .before .before .pre .1), o .0), o .1)
 
-gather-loop-again : (t : ℕ) → gather-lts.Need-loop-again (gather-claims t) (gather-at t) gather.Post gather-Inv-loop gather-μ-loop
-gather-loop-again t c = two-turn (c .before .before .before .before .before .before .loop .inv) (c .before .before .before .before .match .keys3) (c .before .before .gather .ensures) (c .before .before .gather .kept .1 .1 .0)
+gather-after-names-requires-3 : (t : ℕ) → gather-lts.Need-after-names-requires-3 (gather-claims t) (gather-at t) gather.Post
+gather-after-names-requires-3 t c κs = both-named (c .before .before .before .pre .1) (c .before .match .keys5)
 
-gather-push-requires : (t : ℕ) → gather-lts.Need-push-requires (gather-claims t) (gather-at t) gather.Post gather-Inv-loop gather-μ-loop
-gather-push-requires t c κs = abs-fits (c .before .before .before .loop .inv) (c .before .match .keys4)
+gather-after-names-requires-4 : (t : ℕ) → gather-lts.Need-after-names-requires-4 (gather-claims t) (gather-at t) gather.Post
+gather-after-names-requires-4 t c κs = both-named-2 (c .before .before .before .before .before .pre .1) (c .before .before .before .match .keys5) _ (c .before .after-names3 .ensures)
 
-gather-after-names-requires-2 : (t : ℕ) → gather-lts.Need-after-names-requires-2 (gather-claims t) (gather-at t) gather.Post gather-Inv-loop gather-μ-loop
-gather-after-names-requires-2 t c κs = abs-named (c .before .before .before .before .before .before .loop .inv) (c .before .before .before .before .match .keys4)
+gather-gather-requires-4 : (t : ℕ) → gather-lts.Need-gather-requires-4 (gather-claims t) (gather-at t) gather.Post
+gather-gather-requires-4 t c κs = let o = both-part (c .before .before .before .before .before .before .before .pre .1) (c .before .before .before .before .before .match .keys5) _ (c .before .before .before .after-names3 .ensures) _ (c .before .after-names4 .ensures) in (omega (arith, c .before .before .before .before .before .before .before .pre .0, inside (c .before .before .before .before .before .before .before .pre .1), o .0), o .1)
 
-gather-loop-less-2 : (t : ℕ) → gather-lts.Need-loop-less-2 (gather-claims t) (gather-at t) gather.Post gather-Inv-loop gather-μ-loop
-gather-loop-less-2 t c = omega (arith, inside (c .before .before .before .before .before .before .before .loop .inv), abs-further (c .before .before .before .before .before .before .before .loop .inv) (c .before .before .before .before .before .match .keys4) _ (c .after-names2 .ensures))
+gather-push-requires-2 : (t : ℕ) → gather-lts.Need-push-requires-2 (gather-claims t) (gather-at t) gather.Post
+gather-push-requires-2 t c κs = both-fits (c .before .before .before .before .before .before .before .before .before .pre .1) (c .before .before .before .before .before .before .before .match .keys5) _ (c .before .before .before .before .before .after-names3 .ensures) _ (c .before .before .before .after-names4 .ensures) (c .before .gather4 .ensures)
 
-gather-loop-again-2 : (t : ℕ) → gather-lts.Need-loop-again-2 (gather-claims t) (gather-at t) gather.Post gather-Inv-loop gather-μ-loop
-gather-loop-again-2 t c = abs-turn (c .before .before .before .before .before .before .before .loop .inv) (c .before .before .before .before .before .match .keys4) _ (c .after-names2 .ensures) (c .before .before .before .push .ensures .0) (c .before .before .before .push .ensures .1)
+gather-push-requires-3 : (t : ℕ) → gather-lts.Need-push-requires-3 (gather-claims t) (gather-at t) gather.Post
+gather-push-requires-3 t c κs = both-fits-2 (c .before .before .before .before .before .before .before .before .before .before .before .pre .1) (c .before .before .before .before .before .before .before .before .before .match .keys5) _ (c .before .before .before .before .before .before .before .after-names3 .ensures) _ (c .before .before .before .before .before .after-names4 .ensures) (c .before .before .before .gather4 .ensures) (c .before .push2 .ensures .0) (c .before .push2 .ensures .1)
 
-gather-after-names-requires-3 : (t : ℕ) → gather-lts.Need-after-names-requires-3 (gather-claims t) (gather-at t) gather.Post gather-Inv-loop gather-μ-loop
-gather-after-names-requires-3 t c κs = both-named (c .before .before .loop .inv) (c .match .keys5)
+gather-gather-requires-5 : (t : ℕ) → gather-lts.Need-gather-requires-5 (gather-claims t) (gather-at t) gather.Post
+gather-gather-requires-5 t c κs =
+    let o = both-last (c .before .before .before .before .before .before .before .before .before .before .before .before .before .pre .1) (c .before .before .before .before .before .before .before .before .before .before .before .match .keys5) _ (c .before .before .before .before .before .before .before .before .before .after-names3 .ensures) _ (c .before .before .before .before .before .before .before .after-names4 .ensures) (c .before .before .before .before .before .gather4 .ensures) (c .before .before .before .push2 .ensures .0) (c .before .before .before .push2 .ensures .1) (c .before .push3 .ensures .0) (c .before .push3 .ensures .1) in
+    (omega (arith, c .before .before .before .before .before .before .before .before .before .before .before .before .before .pre .0, inside (c .before .before .before .before .before .before .before .before .before .before .before .before .before .pre .1), o .0), o .1)
 
-gather-after-names-requires-4 : (t : ℕ) → gather-lts.Need-after-names-requires-4 (gather-claims t) (gather-at t) gather.Post gather-Inv-loop gather-μ-loop
-gather-after-names-requires-4 t c κs = both-named-2 (c .before .before .before .loop .inv) (c .before .match .keys5) _ (c .after-names3 .ensures)
+gather-after-names-requires-5 : (t : ℕ) → gather-lts.Need-after-names-requires-5 (gather-claims t) (gather-at t) gather.Post
+gather-after-names-requires-5 t c κs = branch-named (c .before .before .before .pre .1) (c .before .match .keys6)
 
-gather-gather-requires-2 : (t : ℕ) → gather-lts.Need-gather-requires-2 (gather-claims t) (gather-at t) gather.Post gather-Inv-loop gather-μ-loop
-gather-gather-requires-2 t c κs =
-    let g = c .before .before .before .before .before .loop .inv in
-    let e = c .before .before .before .match .keys5 in
-    (omega (arith, c .before .before .before .before .before .before .before .before .pre .0, g .past, inside g, both-ahead g e _ (c .before .before .after-names3 .ensures) _ (c .before .after-names4 .ensures)), both-some g e _ (c .before .before .after-names3 .ensures) _ (c .before .after-names4 .ensures))
+gather-after-names-requires-6 : (t : ℕ) → gather-lts.Need-after-names-requires-6 (gather-claims t) (gather-at t) gather.Post
+gather-after-names-requires-6 t c κs = branch-named-2 (c .before .before .before .before .before .pre .1) (c .before .before .before .match .keys6) _ (c .before .after-names5 .ensures)
 
-gather-push-requires-2 : (t : ℕ) → gather-lts.Need-push-requires-2 (gather-claims t) (gather-at t) gather.Post gather-Inv-loop gather-μ-loop
-gather-push-requires-2 t c κs = both-fits (c .before .before .before .before .before .before .before .before .before .loop .inv) (c .before .before .before .before .before .before .before .match .keys5) _ (c .before .before .before .before .before .before .after-names3 .ensures) _ (c .before .before .before .before .before .after-names4 .ensures) (c .before .before .before .gather2 .ensures) (c .before .before .before .gather2 .kept .1 .1 .0)
+gather-gather-requires-6 : (t : ℕ) → gather-lts.Need-gather-requires-6 (gather-claims t) (gather-at t) gather.Post
+gather-gather-requires-6 t c κs = let o = branch-part (c .before .before .before .before .before .before .before .pre .1) (c .before .before .before .before .before .match .keys6) _ (c .before .before .before .after-names5 .ensures) _ (c .before .after-names6 .ensures) in (omega (arith, c .before .before .before .before .before .before .before .pre .0, inside (c .before .before .before .before .before .before .before .pre .1), o .0), o .1)
 
-gather-push-requires-3 : (t : ℕ) → gather-lts.Need-push-requires-3 (gather-claims t) (gather-at t) gather.Post gather-Inv-loop gather-μ-loop
-gather-push-requires-3 t c κs = both-fits-2 (c .before .before .before .before .before .before .before .before .before .before .before .before .before .loop .inv) (c .before .before .before .before .before .before .before .before .before .before .before .match .keys5) _ (c .before .before .before .before .before .before .before .before .before .before .after-names3 .ensures) _ (c .before .before .before .before .before .before .before .before .before .after-names4 .ensures) (c .before .before .before .before .before .before .before .gather2 .ensures) (c .before .before .before .before .before .before .before .gather2 .kept .1 .1 .0) (c .before .before .before .push2 .ensures .0) (c .before .before .before .push2 .ensures .1)
+gather-push-requires-4 : (t : ℕ) → gather-lts.Need-push-requires-4 (gather-claims t) (gather-at t) gather.Post
+gather-push-requires-4 t c κs = branch-fits (c .before .before .before .before .before .before .before .before .before .pre .1) (c .before .before .before .before .before .before .before .match .keys6) _ (c .before .before .before .before .before .after-names5 .ensures) _ (c .before .before .before .after-names6 .ensures) (c .before .gather6 .ensures)
 
-gather-loop-less-3 : (t : ℕ) → gather-lts.Need-loop-less-3 (gather-claims t) (gather-at t) gather.Post gather-Inv-loop gather-μ-loop
-gather-loop-less-3 t c = omega (arith, inside (c .before .before .before .before .before .before .before .before .before .before .before .before .before .before .before .before .loop .inv), both-further (c .before .before .before .before .before .before .before .before .before .before .before .before .before .before .before .before .loop .inv) (c .before .before .before .before .before .before .before .before .before .before .before .before .before .before .match .keys5) _ (c .before .before .before .before .before .before .before .before .before .before .before .before .before .after-names3 .ensures) _ (c .before .before .before .before .before .before .before .before .before .before .before .before .after-names4 .ensures) (c .before .before .before .before .before .before .before .before .before .before .gather2 .ensures) (c .before .before .before .before .before .before .before .before .before .before .gather2 .kept .1 .1 .0))
+gather-gather-requires-7 : (t : ℕ) → gather-lts.Need-gather-requires-7 (gather-claims t) (gather-at t) gather.Post
+gather-gather-requires-7 t c κs =
+    let o = branch-second-part (c .before .before .before .before .before .before .before .before .before .before .before .pre .1) (c .before .before .before .before .before .before .before .before .before .match .keys6) _ (c .before .before .before .before .before .before .before .after-names5 .ensures) _ (c .before .before .before .before .before .after-names6 .ensures) (c .before .before .before .gather6 .ensures) (c .before .push4 .ensures .0) (c .before .push4 .ensures .1) in
+    (omega (arith, c .before .before .before .before .before .before .before .before .before .before .before .pre .0, inside (c .before .before .before .before .before .before .before .before .before .before .before .pre .1), o .0), o .1)
 
-gather-loop-again-3 : (t : ℕ) → gather-lts.Need-loop-again-3 (gather-claims t) (gather-at t) gather.Post gather-Inv-loop gather-μ-loop
-gather-loop-again-3 t c =
-    both-turn (c .before .before .before .before .before .before .before .before .before .before .before .before .before .before .before .before .loop .inv) (c .before .before .before .before .before .before .before .before .before .before .before .before .before .before .match .keys5) _ (c .before .before .before .before .before .before .before .before .before .before .before .before .before .after-names3 .ensures) _ (c .before .before .before .before .before .before .before .before .before .before .before .before .after-names4 .ensures) (c .before .before .before .before .before .before .before .before .before .before .gather2 .ensures) (c .before .before .before .before .before .before .before .before .before .before .gather2 .kept .1 .1 .0) (c .before .before .before .before .before .before .push2 .ensures .0) (c .before .before .before .before .before .before .push2 .ensures .1)
-    (c .before .before .push3 .ensures .0) (c .before .before .push3 .ensures .1)
+gather-push-requires-5 : (t : ℕ) → gather-lts.Need-push-requires-5 (gather-claims t) (gather-at t) gather.Post
+gather-push-requires-5 t c κs = branch-fits-2 (c .before .before .before .before .before .before .before .before .before .before .before .before .before .pre .1) (c .before .before .before .before .before .before .before .before .before .before .before .match .keys6) _ (c .before .before .before .before .before .before .before .before .before .after-names5 .ensures) _ (c .before .before .before .before .before .before .before .after-names6 .ensures) (c .before .before .before .before .before .gather6 .ensures) (c .before .before .before .push4 .ensures .0) (c .before .before .before .push4 .ensures .1) (c .before .gather7 .ensures)
 
-gather-pass-ones-requires : (t : ℕ) → gather-lts.Need-pass-ones-requires (gather-claims t) (gather-at t) gather.Post gather-Inv-loop gather-μ-loop
-gather-pass-ones-requires t c κs =
-    one-some (c .before .before .before .before .loop .inv) (one-here (c .before .before .match .rest) (⊎-elim (λ v. inl (v .taken)) (λ v. inr (v .1 .left, v .2 .taken)) (c .if2 .came)))
+gather-gather-requires-8 : (t : ℕ) → gather-lts.Need-gather-requires-8 (gather-claims t) (gather-at t) gather.Post
+gather-gather-requires-8 t c κs =
+    let o =
+    branch-last (c .before .before .before .before .before .before .before .before .before .before .before .before .before .before .before .pre .1) (c .before .before .before .before .before .before .before .before .before .before .before .before .before .match .keys6) _ (c .before .before .before .before .before .before .before .before .before .before .before .after-names5 .ensures) _ (c .before .before .before .before .before .before .before .before .before .after-names6 .ensures) (c .before .before .before .before .before .before .before .gather6 .ensures) (c .before .before .before .before .before .push4 .ensures .0) (c .before .before .before .before .before .push4 .ensures .1) (c .before .before .before .gather7 .ensures)
+    (c .before .push5 .ensures .0) (c .before .push5 .ensures .1)
+    in
+    (omega (arith, c .before .before .before .before .before .before .before .before .before .before .before .before .before .before .before .pre .0, inside (c .before .before .before .before .before .before .before .before .before .before .before .before .before .before .before .pre .1), o .0), o .1)
 
-gather-loop-less-4 : (t : ℕ) → gather-lts.Need-loop-less-4 (gather-claims t) (gather-at t) gather.Post gather-Inv-loop gather-μ-loop
-gather-loop-less-4 t c =
-    omega (arith, inside (c .before .before .before .before .before .loop .inv), one-further (c .before .before .before .before .before .loop .inv) (one-here (c .before .before .before .match .rest) (⊎-elim (λ v. inl (v .taken)) (λ v. inr (v .1 .left, v .2 .taken)) (c .before .if2 .came))) _ (c .pass-ones .ensures))
+gather-gather-requires-9 : (t : ℕ) → gather-lts.Need-gather-requires-9 (gather-claims t) (gather-at t) gather.Post
+gather-gather-requires-9 t c κs = let o = one-part (c .before .before .before .pre .1) (c .before .match .rest) in (omega (arith, c .before .before .before .pre .0, inside (c .before .before .before .pre .1), o .0), o .1)
 
-gather-loop-again-4 : (t : ℕ) → gather-lts.Need-loop-again-4 (gather-claims t) (gather-at t) gather.Post gather-Inv-loop gather-μ-loop
-gather-loop-again-4 t c =
-    one-turn (c .before .before .before .before .before .loop .inv) (one-here (c .before .before .before .match .rest) (⊎-elim (λ v. inl (v .taken)) (λ v. inr (v .1 .left, v .2 .taken)) (c .before .if2 .came))) _ (c .pass-ones .ensures)
+gather-returns : (t : ℕ) → gather-lts.Need-returns (gather-claims t) (gather-at t) gather.Post
+gather-returns t c = rw (c .come-to .ensures .0, c .come-to .ensures .1) (var-ends (c .before .before .before .before .before .before .before .before .pre .1) (c .before .before .before .before .before .before .match .keys1) _ (c .before .before .before .before .after-names .ensures) _ _ (c .before .meet .ensures))
 
-gather-after-names-requires-5 : (t : ℕ) → gather-lts.Need-after-names-requires-5 (gather-claims t) (gather-at t) gather.Post gather-Inv-loop gather-μ-loop
-gather-after-names-requires-5 t c κs = branch-named (c .before .before .before .loop .inv) (branch-here (c .before .match .rest) (⊎-elim (λ v. inl (v .taken)) (⊎-elim (λ v. inr (inl (v .1 .left, v .2 .taken))) (λ v. inr (inr (v .3 .left)))) (c .if1 .came)))
+gather-returns-2 : (t : ℕ) → gather-lts.Need-returns-2 (gather-claims t) (gather-at t) gather.Post
+gather-returns-2 t c = rw (c .come-to2 .ensures .0, c .come-to2 .ensures .1) (leaf-ends (c .before .before .before .pre .1) (c .before .match .keys2))
 
-gather-after-names-requires-6 : (t : ℕ) → gather-lts.Need-after-names-requires-6 (gather-claims t) (gather-at t) gather.Post gather-Inv-loop gather-μ-loop
-gather-after-names-requires-6 t c κs = branch-named-2 (c .before .before .before .before .loop .inv) (branch-here (c .before .before .match .rest) (⊎-elim (λ v. inl (v .taken)) (⊎-elim (λ v. inr (inl (v .1 .left, v .2 .taken))) (λ v. inr (inr (v .3 .left)))) (c .before .if1 .came))) _ (c .after-names5 .ensures)
+gather-returns-3 : (t : ℕ) → gather-lts.Need-returns-3 (gather-claims t) (gather-at t) gather.Post
+gather-returns-3 t c = two-ends (c .before .before .before .before .before .before .pre .1) (c .before .before .before .before .match .keys3) (c .before .before .gather .ensures) (c .gather2 .ensures)
 
-gather-gather-requires-3 : (t : ℕ) → gather-lts.Need-gather-requires-3 (gather-claims t) (gather-at t) gather.Post gather-Inv-loop gather-μ-loop
-gather-gather-requires-3 t c κs =
-    let g = c .before .before .before .before .before .before .loop .inv in
-    (omega (arith, c .before .before .before .before .before .before .before .before .before .pre .0, g .past, inside g, branch-ahead g (branch-here (c .before .before .before .before .match .rest) (⊎-elim (λ v. inl (v .taken)) (⊎-elim (λ v. inr (inl (v .1 .left, v .2 .taken))) (λ v. inr (inr (v .3 .left)))) (c .before .before .before .if1 .came))) _ (c .before .before .after-names5 .ensures) _ (c .before .after-names6 .ensures)), branch-some g (branch-here (c .before .before .before .before .match .rest) (⊎-elim (λ v. inl (v .taken)) (⊎-elim (λ v. inr (inl (v .1 .left, v .2 .taken))) (λ v. inr (inr (v .3 .left)))) (c .before .before .before .if1 .came))) _ (c .before .before .after-names5 .ensures) _ (c .before .after-names6 .ensures))
+gather-returns-4 : (t : ℕ) → gather-lts.Need-returns-4 (gather-claims t) (gather-at t) gather.Post
+gather-returns-4 t c = abs-ends (c .before .before .before .before .before .before .before .before .pre .1) (c .before .before .before .before .before .before .match .keys4) _ (c .before .before .before .before .after-names2 .ensures) (c .before .before .push .ensures .0) (c .before .before .push .ensures .1) (c .gather3 .ensures)
 
-gather-push-requires-4 : (t : ℕ) → gather-lts.Need-push-requires-4 (gather-claims t) (gather-at t) gather.Post gather-Inv-loop gather-μ-loop
-gather-push-requires-4 t c κs = branch-fits (c .before .before .before .before .before .before .before .before .before .before .loop .inv) (branch-here (c .before .before .before .before .before .before .before .before .match .rest) (⊎-elim (λ v. inl (v .taken)) (⊎-elim (λ v. inr (inl (v .1 .left, v .2 .taken))) (λ v. inr (inr (v .3 .left)))) (c .before .before .before .before .before .before .before .if1 .came))) _ (c .before .before .before .before .before .before .after-names5 .ensures) _ (c .before .before .before .before .before .after-names6 .ensures) (c .before .before .before .gather3 .ensures) (c .before .before .before .gather3 .kept .1 .1 .0)
+gather-returns-5 : (t : ℕ) → gather-lts.Need-returns-5 (gather-claims t) (gather-at t) gather.Post
+gather-returns-5 t c = both-ends (c .before .before .before .before .before .before .before .before .before .before .before .before .before .before .pre .1) (c .before .before .before .before .before .before .before .before .before .before .before .before .match .keys5) _ (c .before .before .before .before .before .before .before .before .before .before .after-names3 .ensures) _ (c .before .before .before .before .before .before .before .before .after-names4 .ensures) (c .before .before .before .before .before .before .gather4 .ensures) (c .before .before .before .before .push2 .ensures .0) (c .before .before .before .before .push2 .ensures .1) (c .before .before .push3 .ensures .0) (c .before .before .push3 .ensures .1) (c .gather5 .ensures)
 
-gather-gather-requires-4 : (t : ℕ) → gather-lts.Need-gather-requires-4 (gather-claims t) (gather-at t) gather.Post gather-Inv-loop gather-μ-loop
-gather-gather-requires-4 t c κs =
-    let g = c .before .before .before .before .before .before .before .before .before .before .before .before .before .before .loop .inv in (
-      omega (arith, c .before .before .before .before .before .before .before .before .before .before .before .before .before .before .before .before .before .pre .0, g .past, inside g, branch-between g (branch-here (c .before .before .before .before .before .before .before .before .before .before .before .before .match .rest) (⊎-elim (λ v. inl (v .taken)) (⊎-elim (λ v. inr (inl (v .1 .left, v .2 .taken))) (λ v. inr (inr (v .3 .left)))) (c .before .before .before .before .before .before .before .before .before .before .before .if1 .came))) _ (c .before .before .before .before .before .before .before .before .before .before .after-names5 .ensures) _ (c .before .before .before .before .before .before .before .before .before .after-names6 .ensures) (c .before .before .before .before .before .before .before .gather3 .ensures) (c .before .before .before .before .before .before .before .gather3 .kept .1 .1 .0)),
-      branch-some-2 g (branch-here (c .before .before .before .before .before .before .before .before .before .before .before .before .match .rest) (⊎-elim (λ v. inl (v .taken)) (⊎-elim (λ v. inr (inl (v .1 .left, v .2 .taken))) (λ v. inr (inr (v .3 .left)))) (c .before .before .before .before .before .before .before .before .before .before .before .if1 .came))) _ (c .before .before .before .before .before .before .before .before .before .before .after-names5 .ensures) _ (c .before .before .before .before .before .before .before .before .before .after-names6 .ensures) (c .before .before .before .before .before .before .before .gather3 .ensures) (c .before .before .before .before .before .before .before .gather3 .kept .1 .1 .0) (c .before .before .before .push4 .ensures .0) (c .before .before .before .push4 .ensures .1),
-    )
+gather-returns-6 : (t : ℕ) → gather-lts.Need-returns-6 (gather-claims t) (gather-at t) gather.Post
+gather-returns-6 t c =
+    branch-ends (c .before .before .before .before .before .before .before .before .before .before .before .before .before .before .before .before .pre .1) (c .before .before .before .before .before .before .before .before .before .before .before .before .before .before .match .keys6) _ (c .before .before .before .before .before .before .before .before .before .before .before .before .after-names5 .ensures) _ (c .before .before .before .before .before .before .before .before .before .before .after-names6 .ensures) (c .before .before .before .before .before .before .before .before .gather6 .ensures) (c .before .before .before .before .before .before .push4 .ensures .0) (c .before .before .before .before .before .before .push4 .ensures .1) (c .before .before .before .before .gather7 .ensures)
+    (c .before .before .push5 .ensures .0) (c .before .before .push5 .ensures .1) (c .gather8 .ensures)
 
-gather-push-requires-5 : (t : ℕ) → gather-lts.Need-push-requires-5 (gather-claims t) (gather-at t) gather.Post gather-Inv-loop gather-μ-loop
-gather-push-requires-5 t c κs =
-    branch-fits-2 (c .before .before .before .before .before .before .before .before .before .before .before .before .before .before .before .before .before .before .loop .inv) (branch-here (c .before .before .before .before .before .before .before .before .before .before .before .before .before .before .before .before .match .rest) (⊎-elim (λ v. inl (v .taken)) (⊎-elim (λ v. inr (inl (v .1 .left, v .2 .taken))) (λ v. inr (inr (v .3 .left)))) (c .before .before .before .before .before .before .before .before .before .before .before .before .before .before .before .if1 .came))) _ (c .before .before .before .before .before .before .before .before .before .before .before .before .before .before .after-names5 .ensures) _ (c .before .before .before .before .before .before .before .before .before .before .before .before .before .after-names6 .ensures) (c .before .before .before .before .before .before .before .before .before .before .before .gather3 .ensures) (c .before .before .before .before .before .before .before .before .before .before .before .gather3 .kept .1 .1 .0) (c .before .before .before .before .before .before .before .push4 .ensures .0) (c .before .before .before .before .before .before .before .push4 .ensures .1) (c .before .before .before .gather4 .ensures) (c .before .before .before .gather4 .kept .1 .1 .0)
-
-gather-loop-less-5 : (t : ℕ) → gather-lts.Need-loop-less-5 (gather-claims t) (gather-at t) gather.Post gather-Inv-loop gather-μ-loop
-gather-loop-less-5 t c =
-    omega (arith, inside (c .before .before .before .before .before .before .before .before .before .before .before .before .before .before .before .before .before .before .before .before .before .loop .inv), branch-further (c .before .before .before .before .before .before .before .before .before .before .before .before .before .before .before .before .before .before .before .before .before .loop .inv) (branch-here (c .before .before .before .before .before .before .before .before .before .before .before .before .before .before .before .before .before .before .before .match .rest) (⊎-elim (λ v. inl (v .taken)) (⊎-elim (λ v. inr (inl (v .1 .left, v .2 .taken))) (λ v. inr (inr (v .3 .left)))) (c .before .before .before .before .before .before .before .before .before .before .before .before .before .before .before .before .before .before .if1 .came))) _ (c .before .before .before .before .before .before .before .before .before .before .before .before .before .before .before .before .before .after-names5 .ensures) _ (c .before .before .before .before .before .before .before .before .before .before .before .before .before .before .before .before .after-names6 .ensures) (c .before .before .before .before .before .before .before .before .before .before .before .before .before .before .gather3 .ensures) (c .before .before .before .before .before .before .before .before .before .before .before .before .before .before .gather3 .kept .1 .1 .0) (c .before .before .before .before .before .before .before .before .before .before .push4 .ensures .0) (c .before .before .before .before .before .before .before .before .before .before .push4 .ensures .1) (c .before .before .before .before .before .before .gather4 .ensures) (c .before .before .before .before .before .before .gather4 .kept .1 .1 .0))
-
-gather-loop-again-5 : (t : ℕ) → gather-lts.Need-loop-again-5 (gather-claims t) (gather-at t) gather.Post gather-Inv-loop gather-μ-loop
-gather-loop-again-5 t c =
-    branch-turn (c .before .before .before .before .before .before .before .before .before .before .before .before .before .before .before .before .before .before .before .before .before .loop .inv) (branch-here (c .before .before .before .before .before .before .before .before .before .before .before .before .before .before .before .before .before .before .before .match .rest) (⊎-elim (λ v. inl (v .taken)) (⊎-elim (λ v. inr (inl (v .1 .left, v .2 .taken))) (λ v. inr (inr (v .3 .left)))) (c .before .before .before .before .before .before .before .before .before .before .before .before .before .before .before .before .before .before .if1 .came))) _ (c .before .before .before .before .before .before .before .before .before .before .before .before .before .before .before .before .before .after-names5 .ensures) _ (c .before .before .before .before .before .before .before .before .before .before .before .before .before .before .before .before .after-names6 .ensures) (c .before .before .before .before .before .before .before .before .before .before .before .before .before .before .gather3 .ensures) (c .before .before .before .before .before .before .before .before .before .before .before .before .before .before .gather3 .kept .1 .1 .0) (c .before .before .before .before .before .before .before .before .before .before .push4 .ensures .0) (c .before .before .before .before .before .before .before .before .before .before .push4 .ensures .1) (c .before .before .before .before .before .before .gather4 .ensures) (c .before .before .before .before .before .before .gather4 .kept .1 .1 .0)
-    (c .before .before .push5 .ensures .0) (c .before .before .push5 .ensures .1)
+gather-returns-7 : (t : ℕ) → gather-lts.Need-returns-7 (gather-claims t) (gather-at t) gather.Post
+gather-returns-7 t c = one-ends (c .before .before .before .before .pre .1) (c .before .before .match .rest) (c .gather9 .ensures)
 
 pub +gather-spec : {M : Type 1} → statement M
 +gather-spec = close μ-gather λ t. gather-lts.spec (gather-claims t) (gather-at t)
     gather.Post
-    gather-Inv-loop
-    gather-μ-loop
-    (gather-loop-holds t)
     (gather-add-first t)
-    (gather-shared-slice-read-match t)
+    (gather-index-1-match t)
     (gather-after-names-requires t)
     (gather-meet-requires t)
-    (gather-same-length t)
-    (gather-returns t)
-    (gather-same-length-2 t)
-    (gather-returns-2 t)
+    (gather-come-to-requires t)
+    (gather-come-to-requires-2 t)
     (gather-gather-requires t)
-    (gather-loop-less t)
-    (gather-loop-again t)
-    (gather-push-requires t)
+    (gather-gather-requires-2 t)
     (gather-after-names-requires-2 t)
-    (gather-loop-less-2 t)
-    (gather-loop-again-2 t)
+    (gather-push-requires t)
+    (gather-gather-requires-3 t)
     (gather-after-names-requires-3 t)
     (gather-after-names-requires-4 t)
-    (gather-gather-requires-2 t)
+    (gather-gather-requires-4 t)
     (gather-push-requires-2 t)
     (gather-push-requires-3 t)
-    (gather-loop-less-3 t)
-    (gather-loop-again-3 t)
-    (gather-pass-ones-requires t)
-    (gather-loop-less-4 t)
-    (gather-loop-again-4 t)
+    (gather-gather-requires-5 t)
     (gather-after-names-requires-5 t)
     (gather-after-names-requires-6 t)
-    (gather-gather-requires-3 t)
+    (gather-gather-requires-6 t)
     (gather-push-requires-4 t)
-    (gather-gather-requires-4 t)
+    (gather-gather-requires-7 t)
     (gather-push-requires-5 t)
-    (gather-loop-less-5 t)
-    (gather-loop-again-5 t)
+    (gather-gather-requires-8 t)
+    (gather-gather-requires-9 t)
+    (gather-returns t)
+    (gather-returns-2 t)
+    (gather-returns-3 t)
+    (gather-returns-4 t)
+    (gather-returns-5 t)
+    (gather-returns-6 t)
+    (gather-returns-7 t)

@@ -1,115 +1,107 @@
--- `parts::both` meets its contract: what was done at once is what the redex becomes; else it is done one by one. Assumes nothing.
+-- `parts::both` meets its contract: the body stands behind the two values, which go in one after the other. Assumes nothing.
 use native.Mathlib.Omega.{arith}
-use Rattle.parts.proofs.Placed.{part-in, joint-bounds, joint, joined}
+use Rattle.parts.proofs.Placed.{part-in, both-bounds, array-room, turning, paired}
 use borrow.Author.Needs.{needs}
 use Rattle.parts.proofs.both.Statement.{statement}
 use Rattle.parts.proofs.both.Tie as tie
 
+add-find-in : tie.Need-add-find-in
+add-find-in c = search needs
+
+slice-aggregate-find-in : tie.Need-slice-aggregate-find-in
+slice-aggregate-find-in c = search needs
+
+find-in-requires : tie.Need-find-in-requires
+find-in-requires c κs = search needs
+
 add-name : tie.Need-add-name
 add-name c = search needs
 
-add-other : tie.Need-add-other
-add-other c = search needs
+sub-in-turn : tie.Need-sub-in-turn
+sub-in-turn c = let j = c .before .before .before .before .before .pre .0 .7 in omega (arith, both-bounds j (c .before .find-in .ensures _ (j .body-at)))
 
-sub-at-once : tie.Need-sub-at-once
-sub-at-once c = omega (arith, joint-bounds (c .before .before .pre .0 .7))
+part-in-turn-start : tie.Need-part-in-turn-start
+part-in-turn-start c = let j = c .before .before .before .before .before .pre .0 .7 in omega (arith, both-bounds j (c .before .find-in .ensures _ (j .body-at)))
 
-part-at-once-start : tie.Need-part-at-once-start
-part-at-once-start c = omega (arith, joint-bounds (c .before .before .pre .0 .7))
+part-in-turn-end : tie.Need-part-in-turn-end
+part-in-turn-end c = let j = c .before .before .before .before .before .pre .0 .7 in omega (arith, both-bounds j (c .before .find-in .ensures _ (j .body-at)))
 
-part-at-once-end : tie.Need-part-at-once-end
-part-at-once-end c = search needs
+sub-in-turn-2 : tie.Need-sub-in-turn-2
+sub-in-turn-2 c = search needs
 
-sub-at-once-2 : tie.Need-sub-at-once-2
-sub-at-once-2 c = search needs
+part-in-turn-start-2 : tie.Need-part-in-turn-start-2
+part-in-turn-start-2 c = search needs
 
-part-at-once-start-2 : tie.Need-part-at-once-start-2
-part-at-once-start-2 c = search needs
+part-in-turn-end-2 : tie.Need-part-in-turn-end-2
+part-in-turn-end-2 c = omega (arith, part-in (c .before .before .before .before .before .before .pre .0 .7 .first))
 
-part-at-once-end-2 : tie.Need-part-at-once-end-2
-part-at-once-end-2 c = search needs
+sub-in-turn-3 : tie.Need-sub-in-turn-3
+sub-in-turn-3 c = search needs
 
-sub-at-once-3 : tie.Need-sub-at-once-3
-sub-at-once-3 c = search needs
+part-in-turn-start-3 : tie.Need-part-in-turn-start-3
+part-in-turn-start-3 c = search needs
 
-part-at-once-start-3 : tie.Need-part-at-once-start-3
-part-at-once-start-3 c = search needs
+part-in-turn-end-3 : tie.Need-part-in-turn-end-3
+part-in-turn-end-3 c = search needs
 
-part-at-once-end-3 : tie.Need-part-at-once-end-3
-part-at-once-end-3 c = search needs
+sub-in-turn-4 : tie.Need-sub-in-turn-4
+sub-in-turn-4 c = search needs
 
-sub-at-once-4 : tie.Need-sub-at-once-4
-sub-at-once-4 c = search needs
+part-in-turn-start-4 : tie.Need-part-in-turn-start-4
+part-in-turn-start-4 c = search needs
 
-part-at-once-start-4 : tie.Need-part-at-once-start-4
-part-at-once-start-4 c = search needs
+part-in-turn-end-4 : tie.Need-part-in-turn-end-4
+part-in-turn-end-4 c = omega (arith, part-in (c .before .before .before .before .before .before .before .before .pre .0 .7 .second))
 
-part-at-once-end-4 : tie.Need-part-at-once-end-4
-part-at-once-end-4 c = omega (arith, part-in (c .before .before .before .before .before .pre .0 .7 .first))
+sub-in-turn-5 : tie.Need-sub-in-turn-5
+sub-in-turn-5 c = let j = c .before .before .before .before .before .before .before .before .before .pre .0 .7 in omega (arith, both-bounds j (c .before .before .before .before .before .find-in .ensures _ (j .body-at)))
 
-sub-at-once-5 : tie.Need-sub-at-once-5
-sub-at-once-5 c = search needs
+sub-in-turn-6 : tie.Need-sub-in-turn-6
+sub-in-turn-6 c = let j = c .before .before .before .before .before .before .before .before .before .pre .0 .7 in omega (arith, both-bounds j (c .before .before .before .before .before .find-in .ensures _ (j .body-at)))
 
-part-at-once-start-5 : tie.Need-part-at-once-start-5
-part-at-once-start-5 c = search needs
+slice-aggregate-in-turn : tie.Need-slice-aggregate-in-turn
+slice-aggregate-in-turn c = search needs
 
-part-at-once-end-5 : tie.Need-part-at-once-end-5
-part-at-once-end-5 c = omega (arith, part-in (c .before .before .before .before .before .before .pre .0 .7 .second))
+slice-aggregate-in-turn-2 : tie.Need-slice-aggregate-in-turn-2
+slice-aggregate-in-turn-2 c = search needs
 
-sub-at-once-6 : tie.Need-sub-at-once-6
-sub-at-once-6 c = search needs
+in-turn-requires : tie.Need-in-turn-requires
+in-turn-requires c κs = let b = c .before .before .before .before .before .before .before .before .before .before .before .before .pre in let j = b .0 .7 in let k = c .before .before .before .before .before .before .before .before .find-in .ensures _ (j .body-at) in ((_, _, _, _, turning j k), (k .inside, omega (arith, c .before .before .before .before .before .before .before .before .find-in .kept .1 .1 .1 .1 .0, array-room), array-room, b .1))
 
-sub-at-once-7 : tie.Need-sub-at-once-7
-sub-at-once-7 c = search needs
-
-at-once-requires : tie.Need-at-once-requires
-at-once-requires c κs = ((_, _, _, joint (c .before .before .before .before .before .before .before .before .pre .0 .7)), c .before .before .before .before .before .before .before .before .pre .1)
-
-one-by-one-requires : tie.Need-one-by-one-requires
-one-by-one-requires c κs = search needs
+told-requires : tie.Need-told-requires
+told-requires c κs = search needs
 
 same-length : tie.Need-same-length
 same-length c = search needs
 
 returns : tie.Need-returns
-returns c = search needs
-
-add-t19 : tie.Need-add-t19
-add-t19 c = let j = c .before .before .before .before .before .before .before .before .before .before .before .before .before .before .pre .0 .7 in omega (arith, joint-bounds j, c .before .before .before .before .before .at-once .ensures (c .before .if1 .left) _ _ _ (joint j) .0)
-
-same-length-2 : tie.Need-same-length-2
-same-length-2 c = search needs
-
-returns-2 : tie.Need-returns-2
-returns-2 c = λ n t x y e v w j. joined j (c .before .before .before .before .before .before .before .before .before .before .before .before .before .before .pre .1) (c .before .before .before .before .before .at-once .ensures (c .before .if1 .left) _ _ _ (joint j))
+returns c = λ n t x y e v w j. let k = c .before .before .before .before .before .before .before .before .before .before .before .before .before .before .find-in .ensures _ (j .body-at) in paired j k (c .before .before .before .before .before .before .before .before .before .before .before .before .before .before .before .before .before .before .pre .1) (c .before .before .before .before .before .in-turn .ensures _ _ _ _ (turning j k)) (c .told .ensures)
 
 pub both-spec : {M : Type 1} → statement M
 both-spec =
     tie.close
     (tie.spec
+    add-find-in
+    slice-aggregate-find-in
+    find-in-requires
     add-name
-    add-other
-    sub-at-once
-    part-at-once-start
-    part-at-once-end
-    sub-at-once-2
-    part-at-once-start-2
-    part-at-once-end-2
-    sub-at-once-3
-    part-at-once-start-3
-    part-at-once-end-3
-    sub-at-once-4
-    part-at-once-start-4
-    part-at-once-end-4
-    sub-at-once-5
-    part-at-once-start-5
-    part-at-once-end-5
-    sub-at-once-6
-    sub-at-once-7
-    at-once-requires
-    one-by-one-requires
+    sub-in-turn
+    part-in-turn-start
+    part-in-turn-end
+    sub-in-turn-2
+    part-in-turn-start-2
+    part-in-turn-end-2
+    sub-in-turn-3
+    part-in-turn-start-3
+    part-in-turn-end-3
+    sub-in-turn-4
+    part-in-turn-start-4
+    part-in-turn-end-4
+    sub-in-turn-5
+    sub-in-turn-6
+    slice-aggregate-in-turn
+    slice-aggregate-in-turn-2
+    in-turn-requires
+    told-requires
     same-length
-    returns
-    add-t19
-    same-length-2
-    returns-2)
+    returns)

@@ -1,2 +1,0 @@
--- What two bytes that stand nowhere side by side leave out.
-mod Nowhere

@@ -1,2 +1,0 @@
--- What the sweep has done when no term is left.
-mod Finished

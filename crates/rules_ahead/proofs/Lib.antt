@@ -1,3 +1,0 @@
--- What the proof of the loop uses.
-mod Depth
-mod Onward
