@@ -79,11 +79,6 @@ module _ {s : rules.Stepped} {out out₁ : Bytes} {k : Taken} (d : Takes s out o
             clears = cleared-up;
           }
 
--- a term that is normal by itself: nothing was searched
-pub rests : {s : rules.Stepped} {out scratch scratch₁ : Bytes} → rules.isNormal s ≡ true → scratch₁ ≡ sets scratch 0 (replicate (length scratch - 0) 0) → Stepping s out scratch IsNormal out scratch₁
-rests {s = rules.normal} {out} {scratch} e q = record { says = refl; leaves = refl; clears = q ∙ zeros scratch (length scratch) refl }
-rests {s = rules.found r p h t} e q = absurd (let z : _≡_ {A = ℕ} 0 1 = cc in omega arith)
-
 -- ---- the call
 
 module _ (term out scratch : Bytes) where

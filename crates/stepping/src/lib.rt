@@ -12,6 +12,7 @@ ghost use Rattle.stepping.specs.Answers.{stepAnswered, normalAnswered, S
 use resting::Reading;
 use resting::none_left;
 use resting::read_resting;
+use rules::Answer;
 use rules::OUTPUT_ROOM;
 use rules::Refusal;
 use rules::Rule;
@@ -86,13 +87,9 @@ pub fn step(term: &[u8], out: &mut [u8], scratch: &mut [u8]) -> Stepped
     if scratch.len() < SCRATCH_ROOM {
         return refused(1);
     }
-    match read_resting(term, 1) {
-        Reading::Refused(r) => Stepped::Refused(r),
-        Reading::Unsure(nodes) => step_read(term, nodes, out, scratch),
-        Reading::Calm(_) => {
-            runs::clear(scratch, 0);
-            Stepped::Normal
-        }
+    match reader::term_input(term, 1) {
+        Answer::Refused(r) => Stepped::Refused(r),
+        Answer::Good(nodes) => step_read(term, nodes, out, scratch),
     }
 }
 

@@ -1,8 +1,7 @@
 -- `stepping::step` meets its contract, by its tests in the order of document 01. Assumes nothing.
-use mathlib.Core.Path.{sym, ap, _∙_}
+use mathlib.Core.Path.{sym, _∙_}
 use denote.Ref.{now}
-use Rattle.resting.specs.Readings.{answerOf}
-use Rattle.stepping.proofs.Calling.{rests, short-out, short-scratch, not-read, read, stepped}
+use Rattle.stepping.proofs.Calling.{short-out, short-scratch, not-read, read, stepped}
 use borrow.Author.Needs.{needs}
 use Rattle.stepping.proofs.step.Statement.{statement}
 use Rattle.stepping.proofs.step.Tie as tie
@@ -19,8 +18,8 @@ refused-requires-2 c κs = search needs
 returns-2 : tie.Need-returns-2
 returns-2 c = let a = c .before .before .before .before .before .before .args in short-scratch (now (a .term)) (now (a .out)) (now (a .scratch)) (c .before .before .if1 .left) _ (c .before .if2 .taken) (c .refused2 .ensures)
 
-read-resting-requires : tie.Need-read-resting-requires
-read-resting-requires c κs = search needs
+term-input-requires : tie.Need-term-input-requires
+term-input-requires c κs = search needs
 
 enum-known-r : tie.Need-enum-known-r
 enum-known-r c = search needs
@@ -29,16 +28,10 @@ enum-known-nodes : tie.Need-enum-known-nodes
 enum-known-nodes c = search needs
 
 step-read-requires : tie.Need-step-read-requires
-step-read-requires c κs = let a = c .before .before .before .before .before .before .before .before .before .before .before .args in (read (now (a .term)) (now (a .out)) (now (a .scratch)) (c .before .before .before .before .before .before .before .if1 .left) (c .before .before .before .before .before .before .if2 .left) _ (sym (c .before .before .before .before .before .read-resting .ensures .says) ∙ ap answerOf (c .before .before .before .nodes .given .1)), c .before .before .before .before .before .before .if2 .left)
-
-enum-told : tie.Need-enum-told
-enum-told c = search needs
-
-clear-requires : tie.Need-clear-requires
-clear-requires c κs = search needs
+step-read-requires c κs = let a = c .before .before .before .before .before .before .before .before .before .before .before .args in (read (now (a .term)) (now (a .out)) (now (a .scratch)) (c .before .before .before .before .before .before .before .if1 .left) (c .before .before .before .before .before .before .if2 .left) _ (sym (c .before .before .before .before .before .term-input .ensures) ∙ c .before .before .before .nodes .given .1), c .before .before .before .before .before .before .if2 .left)
 
 returns-3 : tie.Need-returns-3
-returns-3 c = let a = c .before .before .before .before .before .before .before .before .before .args in not-read (now (a .term)) (now (a .out)) (now (a .scratch)) (c .before .before .before .before .before .if1 .left) (c .before .before .before .before .if2 .left) _ (sym (c .before .before .before .read-resting .ensures .says) ∙ ap answerOf (c .before .r .given .1))
+returns-3 c = let a = c .before .before .before .before .before .before .before .before .before .args in not-read (now (a .term)) (now (a .out)) (now (a .scratch)) (c .before .before .before .before .before .if1 .left) (c .before .before .before .before .if2 .left) _ (sym (c .before .before .before .term-input .ensures) ∙ c .before .r .given .1)
 
 same-length : tie.Need-same-length
 same-length c = search needs
@@ -48,18 +41,9 @@ same-length-2 c = search needs
 
 returns-4 : tie.Need-returns-4
 returns-4 c = let a = c .before .before .before .before .before .before .before .before .before .before .before .before .before .before .before .before .args in
-    let e = sym (c .before .before .before .before .before .before .before .before .before .before .read-resting .ensures .says) ∙ ap answerOf (c .before .before .before .before .before .before .before .before .nodes .given .1) in
+    let e = sym (c .before .before .before .before .before .before .before .before .before .before .term-input .ensures) ∙ c .before .before .before .before .before .before .before .before .nodes .given .1 in
     let w = read (now (a .term)) (now (a .out)) (now (a .scratch)) (c .before .before .before .before .before .before .before .before .before .before .before .before .if1 .left) (c .before .before .before .before .before .before .before .before .before .before .before .if2 .left) _ e in
     stepped (now (a .term)) (now (a .out)) (now (a .scratch)) (c .before .before .before .before .before .before .before .before .before .before .before .before .if1 .left) (c .before .before .before .before .before .before .before .before .before .before .before .if2 .left) _ e _ _ _ (c .before .before .before .before .step-read .ensures (w .0) (w .1))
-
-same-length-3 : tie.Need-same-length-3
-same-length-3 c = search needs
-
-returns-5 : tie.Need-returns-5
-returns-5 c = let a = c .before .before .before .before .before .before .before .before .before .before .before .before .args in
-    let e = sym (c .before .before .before .before .before .before .read-resting .ensures .says) ∙ ap answerOf (c .before .before .before .before .enum-told .given .1) in
-    let w = read (now (a .term)) (now (a .out)) (now (a .scratch)) (c .before .before .before .before .before .before .before .before .if1 .left) (c .before .before .before .before .before .before .before .if2 .left) _ e in
-    stepped (now (a .term)) (now (a .out)) (now (a .scratch)) (c .before .before .before .before .before .before .before .before .if1 .left) (c .before .before .before .before .before .before .before .if2 .left) _ e _ _ _ (rests (c .before .before .before .before .before .before .read-resting .ensures .calm _ (c .before .before .before .before .enum-told .given .1) (w .0) (w .1 .whole)) (c .before .before .clear .ensures))
 
 pub step-spec : {M : Type 1} → statement M
 step-spec =
@@ -69,15 +53,11 @@ step-spec =
     returns
     refused-requires-2
     returns-2
-    read-resting-requires
+    term-input-requires
     enum-known-r
     enum-known-nodes
     step-read-requires
-    enum-told
-    clear-requires
     returns-3
     same-length
     same-length-2
-    returns-4
-    same-length-3
-    returns-5)
+    returns-4)
