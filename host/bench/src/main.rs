@@ -7,6 +7,7 @@
 
 mod calls;
 mod families;
+mod floors;
 mod instructions;
 mod least;
 mod proofs;

@@ -1,5 +1,6 @@
 //! Medians of interleaved runs. Each round times both sides, and times are the thread's own, so that what else the machine does counts little.
 
+use crate::floors::{floor, Held};
 use crate::rows::Row;
 
 const ROUNDS: usize = 41;
@@ -9,28 +10,32 @@ const NANOS: f64 = 2e6;
 pub fn table(rows: Vec<Row>) {
     let wide = crate::widest(&rows);
     println!(
-        "{:<wide$} {:>6} {:>6}  {:<10} {:>12} {:>12} {:>9}  middle half",
-        "call", "nodes", "bytes", "beside", "its ns", "port ns", "ratio"
+        "{:<wide$} {:>6} {:>6}  {:<10} {:>12} {:>12} {:>9} {:>6}  middle half",
+        "call", "nodes", "bytes", "beside", "its ns", "port ns", "ratio", "floor"
     );
+    let mut held = Held::default();
     for row in rows {
         let head = format!("{:<wide$} {:>6}", row.name, row.nodes);
+        let least = floor(&row.name, row.nodes);
         let beside = row.beside;
         let sides = row.sides();
         let times = rounds(&sides.other, &sides.port, ROUNDS, NANOS);
         let each = |f: fn(&(f64, f64)) -> f64| times.iter().map(|pair| f(pair) / sides.inputs as f64).collect::<Vec<f64>>();
         let (mut others, mut ports) = (each(|(other, _)| *other), each(|(_, port)| *port));
         let mut ratios: Vec<f64> = times.iter().map(|(other, port)| other / port).collect();
+        let middle = quantile(&mut ratios, 2);
         println!(
-            "{head} {:>6}  {beside:<10} {:>12.0} {:>12.0} {:>9.2}  {:.2} to {:.2}",
+            "{head} {:>6}  {beside:<10} {:>12.0} {:>12.0} {middle:>9.2} {:>6}  {:.2} to {:.2}",
             sides.bytes / sides.inputs,
             quantile(&mut others, 2),
             quantile(&mut ports, 2),
-            quantile(&mut ratios, 2),
+            held.column(&head, least, middle),
             quantile(&mut ratios, 1),
             quantile(&mut ratios, 3),
         );
     }
     println!("ratio: how often the port does it while the other does it once");
+    held.print();
 }
 
 /// The medians of both sides over so many rounds, each side running so long in a round.
