@@ -16,9 +16,9 @@ use told_results::steps::tell_normal;
 use told_results::steps::tell_reduced;
 use told_results::steps::tell_step;
 
-mod files;
-mod proofs_to_terms;
-mod straight_terms;
+pub mod files;
+pub mod proofs_to_terms;
+pub mod straight_terms;
 
 #[no_mangle]
 pub extern "C" fn patch_check_formula(formula: &[u8], answer: &mut [u64; 16])

@@ -1,2 +1,6 @@
+pub mod One
+pub mod OneRow
 pub mod OneAnswer
 pub mod OneChild
+pub mod OneEntry
+pub mod OneExtractor

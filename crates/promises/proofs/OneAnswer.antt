@@ -1,145 +1,89 @@
 -- Each public call's contract leaves one answer: whatever two runs on the same arguments answer and leave in what they are lent, if each meets
--- the contract, they are the same. The contracts are equations (crates/rules/specs/Calls.antt on the right), so two that hold of one call agree.
--- `Learnt` is what the checker takes from a function's `ensures`. Assumes nothing.
-use mathlib.Core.Path.{_≡_, sym, _∙_}
-use contract.Lifetimes.{Lfts}
-use borrow.Fn.World.{ArgsD, ResD}
-use borrow.Fn.Kinds.{endedOf}
-use denote.Triple.Clauses.{AtExit}
+-- the contract, they are the same. A line for each call lists all that a run answers and leaves. Assumes nothing.
 use denote.Ref.{now}
-use Prim.Native.Nat.{_≤_}
-use mathlib.Core.List.{List}
-use native.Mathlib.Omega.{arith}
-use lib.ListN.{length, replicate, length-replicate}
-use Rattle.rules.specs.Limits.{limits, entryRoom}
-use Rattle.rules.specs.Calls.{Entry, noEntry}
-use Rattle.reader.proofs.check_formula as check-formula·fn
-use Rattle.reader.proofs.check_formula.Kinds as check-formula·kinds
-use Rattle.reader.proofs.check_formula.Reads as check-formula·contract
-use Rattle.reader.proofs.check_term as check-term·fn
-use Rattle.reader.proofs.check_term.Kinds as check-term·kinds
-use Rattle.reader.proofs.check_term.Reads as check-term·contract
-use Rattle.proof.proofs.check_proof as check-proof·fn
-use Rattle.proof.proofs.check_proof.Kinds as check-proof·kinds
-use Rattle.proof.proofs.check_proof.Reads as check-proof·contract
-use Rattle.formula_text.proofs.pretty as formula-text-pretty·fn
-use Rattle.formula_text.proofs.pretty.Kinds as formula-text-pretty·kinds
-use Rattle.formula_text.proofs.pretty.Reads as formula-text-pretty·contract
-use Rattle.term_text.proofs.pretty as term-text-pretty·fn
-use Rattle.term_text.proofs.pretty.Kinds as term-text-pretty·kinds
-use Rattle.term_text.proofs.pretty.Reads as term-text-pretty·contract
-use Rattle.child.proofs.child as child·fn
-use Rattle.child.proofs.child.Kinds as child·kinds
-use Rattle.child.proofs.child.Reads as child·contract
-use Rattle.child.proofs.child_fault as child-fault·fn
-use Rattle.child.proofs.child_fault.Kinds as child-fault·kinds
-use Rattle.child.proofs.child_fault.Reads as child-fault·contract
-use Rattle.free.proofs.free_vars as free-vars·fn
-use Rattle.free.proofs.free_vars.Kinds as free-vars·kinds
-use Rattle.free.proofs.free_vars.Reads as free-vars·contract
-use Rattle.substitution.proofs.substitute as substitute·fn
-use Rattle.substitution.proofs.substitute.Kinds as substitute·kinds
-use Rattle.substitution.proofs.substitute.Reads as substitute·contract
-use Rattle.stepping.proofs.step as step·fn
-use Rattle.stepping.proofs.step.Kinds as step·kinds
-use Rattle.stepping.proofs.step.Reads as step·contract
-use Rattle.stepping.proofs.is_normal as is-normal·fn
-use Rattle.stepping.proofs.is_normal.Kinds as is-normal·kinds
-use Rattle.stepping.proofs.is_normal.Reads as is-normal·contract
-use Rattle.reduction.proofs.normalize_bounded as normalize-bounded·fn
-use Rattle.reduction.proofs.normalize_bounded.Kinds as normalize-bounded·kinds
-use Rattle.reduction.proofs.normalize_bounded.Reads as normalize-bounded·contract
-use Rattle.straightness.proofs.is_straight as is-straight·fn
-use Rattle.straightness.proofs.is_straight.Kinds as is-straight·kinds
-use Rattle.straightness.proofs.is_straight.Reads as is-straight·contract
-use Rattle.extract.proofs.extract as extract·fn
-use Rattle.extract.proofs.extract.Kinds as extract·kinds
-use Rattle.extract.proofs.extract.Reads as extract·contract
-use Rattle.stored.proofs.store as store·fn
-use Rattle.stored.proofs.store.Kinds as store·kinds
-use Rattle.stored.proofs.store.Reads as store·contract
-use Rattle.stored.proofs.load as load·fn
-use Rattle.stored.proofs.load.Kinds as load·kinds
-use Rattle.stored.proofs.load.Reads as load·contract
-use Rattle.printed.proofs.printed as printed·fn
-use Rattle.printed.proofs.printed.Kinds as printed·kinds
-use Rattle.printed.proofs.printed.Reads as printed·contract
+use Rattle.promises.proofs.One.{One, _&_, agree, agree₂, agree₃, agree₄}
+use Rattle.promises.proofs.OneRow.{at-row}
+use Rattle.reader.proofs.check_formula.Reads as check-formula
+use Rattle.reader.proofs.check_term.Reads as check-term
+use Rattle.reader.proofs.formula_input.Reads as formula-input
+use Rattle.reader.proofs.term_input.Reads as term-input
+use Rattle.reader.proofs.name_input.Reads as name-input
+use Rattle.proof.proofs.check_proof.Reads as check-proof
+use Rattle.proof.proofs.proof_input.Reads as proof-input
+use Rattle.formula_text.proofs.pretty.Reads as formula-text-pretty
+use Rattle.term_text.proofs.pretty.Reads as term-text-pretty
+use Rattle.child.proofs.child.Reads as child
+use Rattle.child.proofs.child_fault.Reads as child-fault
+use Rattle.free.proofs.free_vars.Reads as free-vars
+use Rattle.substitution.proofs.substitute.Reads as substitute
+use Rattle.stepping.proofs.step.Reads as step
+use Rattle.stepping.proofs.is_normal.Reads as is-normal
+use Rattle.reduction.proofs.normalize_bounded.Reads as normalize-bounded
+use Rattle.straightness.proofs.is_straight.Reads as is-straight
+use Rattle.extract.proofs.extract.Reads as extract
+use Rattle.stored.proofs.store.Reads as store
+use Rattle.stored.proofs.load.Reads as load
+use Rattle.printed.proofs.printed.Reads as printed
 
--- the generic law: what is the same as one thing is the same
-agree : {A : Type 0} {x y z : A} → x ≡ z → y ≡ z → x ≡ y
-agree p q = p ∙ sym q
+pub check-formula-has-one : One check-formula.Learnt (λ κ r s. r)
+check-formula-has-one κ a r r′ s s′ = agree
 
--- extraction is the same whatever long enough row of cut entries it is asked with
-abbrev row : List Entry
-row = replicate 512 noEntry
+pub check-term-has-one : One check-term.Learnt (λ κ r s. r)
+check-term-has-one κ a r r′ s s′ = agree
 
-enough : entryRoom limits ≤ length row
-enough = omega (arith, length-replicate {A = Entry} 512 noEntry)
+pub formula-input-has-one : One formula-input.Learnt (λ κ r s. r)
+formula-input-has-one κ a r r′ s s′ = agree
 
-module _ (κs : Lfts 1) (a : ArgsD check-formula·fn.signature κs) (r r′ : ResD check-formula·fn.signature κs) (s s′ : AtExit (endedOf 1 check-formula·kinds.ps check-formula·kinds.r) κs) where
-  pub check-formula-has-one : check-formula·contract.Learnt κs a r s → check-formula·contract.Learnt κs a r′ s′ → r ≡ r′
-  check-formula-has-one p q = agree p q
+pub term-input-has-one : One term-input.Learnt (λ κ r s. r)
+term-input-has-one κ a r r′ s s′ = agree
 
-module _ (κs : Lfts 1) (a : ArgsD check-term·fn.signature κs) (r r′ : ResD check-term·fn.signature κs) (s s′ : AtExit (endedOf 1 check-term·kinds.ps check-term·kinds.r) κs) where
-  pub check-term-has-one : check-term·contract.Learnt κs a r s → check-term·contract.Learnt κs a r′ s′ → r ≡ r′
-  check-term-has-one p q = agree p q
+pub name-input-has-one : One name-input.Learnt (λ κ r s. r)
+name-input-has-one κ a r r′ s s′ = agree
 
-module _ (κs : Lfts 1) (a : ArgsD check-proof·fn.signature κs) (r r′ : ResD check-proof·fn.signature κs) (s s′ : AtExit (endedOf 1 check-proof·kinds.ps check-proof·kinds.r) κs) where
-  pub check-proof-has-one : check-proof·contract.Learnt κs a r s → check-proof·contract.Learnt κs a r′ s′ → r ≡ r′
-  check-proof-has-one p q = agree p q
+pub check-proof-has-one : One check-proof.Learnt (λ κ r s. r)
+check-proof-has-one κ a r r′ s s′ = agree
 
-module _ (κs : Lfts 2) (a : ArgsD formula-text-pretty·fn.signature κs) (r r′ : ResD formula-text-pretty·fn.signature κs) (s s′ : AtExit (endedOf 2 formula-text-pretty·kinds.ps formula-text-pretty·kinds.r) κs) where
-  pub formula-text-pretty-has-one : formula-text-pretty·contract.Learnt κs a r s → formula-text-pretty·contract.Learnt κs a r′ s′ → (r ≡ r′) × (now (s .1 .0) ≡ now (s′ .1 .0))
-  formula-text-pretty-has-one p q = (agree (p .0) (q .0), agree (p .1) (q .1))
+pub proof-input-has-one : One proof-input.Learnt (λ κ r s. r)
+proof-input-has-one κ a r r′ s s′ = agree
 
-module _ (κs : Lfts 2) (a : ArgsD term-text-pretty·fn.signature κs) (r r′ : ResD term-text-pretty·fn.signature κs) (s s′ : AtExit (endedOf 2 term-text-pretty·kinds.ps term-text-pretty·kinds.r) κs) where
-  pub term-text-pretty-has-one : term-text-pretty·contract.Learnt κs a r s → term-text-pretty·contract.Learnt κs a r′ s′ → (r ≡ r′) × (now (s .1 .0) ≡ now (s′ .1 .0))
-  term-text-pretty-has-one p q = (agree (p .0) (q .0), agree (p .1) (q .1))
+pub formula-text-pretty-has-one : One formula-text-pretty.Learnt (λ κ r s. r & now (s .1 .0))
+formula-text-pretty-has-one κ a r r′ s s′ = agree₂
 
-module _ (κs : Lfts 1) (a : ArgsD child·fn.signature κs) (r r′ : ResD child·fn.signature κs) (s s′ : AtExit (endedOf 1 child·kinds.ps child·kinds.r) κs) where
-  pub child-has-one : child·contract.Learnt κs a r s → child·contract.Learnt κs a r′ s′ → now r ≡ now r′
-  child-has-one p q = agree p q
+pub term-text-pretty-has-one : One term-text-pretty.Learnt (λ κ r s. r & now (s .1 .0))
+term-text-pretty-has-one κ a r r′ s s′ = agree₂
 
-module _ (κs : Lfts 1) (a : ArgsD child-fault·fn.signature κs) (r r′ : ResD child-fault·fn.signature κs) (s s′ : AtExit (endedOf 1 child-fault·kinds.ps child-fault·kinds.r) κs) where
-  pub child-fault-has-one : child-fault·contract.Learnt κs a r s → child-fault·contract.Learnt κs a r′ s′ → r ≡ r′
-  child-fault-has-one p q = agree p q
+pub child-has-one : One child.Learnt (λ κ r s. now r)
+child-has-one κ a r r′ s s′ = agree
 
-module _ (κs : Lfts 2) (a : ArgsD free-vars·fn.signature κs) (r r′ : ResD free-vars·fn.signature κs) (s s′ : AtExit (endedOf 2 free-vars·kinds.ps free-vars·kinds.r) κs) where
-  pub free-vars-has-one : free-vars·contract.Learnt κs a r s → free-vars·contract.Learnt κs a r′ s′ → (r ≡ r′) × (now (s .1 .0) ≡ now (s′ .1 .0))
-  free-vars-has-one p q = (agree (p .0) (q .0), agree (p .1) (q .1))
+pub child-fault-has-one : One child-fault.Learnt (λ κ r s. r)
+child-fault-has-one κ a r r′ s s′ = agree
 
-module _ (κs : Lfts 5) (a : ArgsD substitute·fn.signature κs) (r r′ : ResD substitute·fn.signature κs) (s s′ : AtExit (endedOf 5 substitute·kinds.ps substitute·kinds.r) κs) where
-  pub substitute-has-one : substitute·contract.Learnt κs a r s → substitute·contract.Learnt κs a r′ s′ → (r ≡ r′) × (now (s .1 .1 .1 .0) ≡ now (s′ .1 .1 .1 .0)) × (now (s .1 .1 .1 .1 .0) ≡ now (s′ .1 .1 .1 .1 .0))
-  substitute-has-one p q = (agree (p .0) (q .0), agree (p .1 .0) (q .1 .0), agree (p .1 .1) (q .1 .1))
+pub free-vars-has-one : One free-vars.Learnt (λ κ r s. r & now (s .1 .0))
+free-vars-has-one κ a r r′ s s′ = agree₂
 
-module _ (κs : Lfts 3) (a : ArgsD step·fn.signature κs) (r r′ : ResD step·fn.signature κs) (s s′ : AtExit (endedOf 3 step·kinds.ps step·kinds.r) κs) where
-  pub step-has-one : step·contract.Learnt κs a r s → step·contract.Learnt κs a r′ s′ → (r ≡ r′) × (now (s .1 .0) ≡ now (s′ .1 .0)) × (now (s .1 .1 .0) ≡ now (s′ .1 .1 .0))
-  step-has-one p q = (agree (p .0) (q .0), agree (p .1 .0) (q .1 .0), agree (p .1 .1) (q .1 .1))
+pub substitute-has-one : One substitute.Learnt (λ κ r s. r & now (s .1 .1 .1 .0) & now (s .1 .1 .1 .1 .0))
+substitute-has-one κ a r r′ s s′ = agree₃
 
-module _ (κs : Lfts 1) (a : ArgsD is-normal·fn.signature κs) (r r′ : ResD is-normal·fn.signature κs) (s s′ : AtExit (endedOf 1 is-normal·kinds.ps is-normal·kinds.r) κs) where
-  pub is-normal-has-one : is-normal·contract.Learnt κs a r s → is-normal·contract.Learnt κs a r′ s′ → r ≡ r′
-  is-normal-has-one p q = agree p q
+pub step-has-one : One step.Learnt (λ κ r s. r & now (s .1 .0) & now (s .1 .1 .0))
+step-has-one κ a r r′ s s′ = agree₃
 
-module _ (κs : Lfts 3) (a : ArgsD normalize-bounded·fn.signature κs) (r r′ : ResD normalize-bounded·fn.signature κs) (s s′ : AtExit (endedOf 3 normalize-bounded·kinds.ps normalize-bounded·kinds.r) κs) where
-  pub normalize-bounded-has-one : normalize-bounded·contract.Learnt κs a r s → normalize-bounded·contract.Learnt κs a r′ s′ → (r ≡ r′) × (now (s .1 .1 .0) ≡ now (s′ .1 .1 .0)) × (now (s .1 .1 .1 .0) ≡ now (s′ .1 .1 .1 .0))
-  normalize-bounded-has-one p q = (agree (p .0) (q .0), agree (p .1 .0) (q .1 .0), agree (p .1 .1) (q .1 .1))
+pub is-normal-has-one : One is-normal.Learnt (λ κ r s. r)
+is-normal-has-one κ a r r′ s s′ = agree
 
-module _ (κs : Lfts 1) (a : ArgsD is-straight·fn.signature κs) (r r′ : ResD is-straight·fn.signature κs) (s s′ : AtExit (endedOf 1 is-straight·kinds.ps is-straight·kinds.r) κs) where
-  pub is-straight-has-one : is-straight·contract.Learnt κs a r s → is-straight·contract.Learnt κs a r′ s′ → r ≡ r′
-  is-straight-has-one p q = agree p q
+pub normalize-bounded-has-one : One normalize-bounded.Learnt (λ κ r s. r & now (s .1 .1 .0) & now (s .1 .1 .1 .0))
+normalize-bounded-has-one κ a r r′ s s′ = agree₃
 
-module _ (κs : Lfts 3) (a : ArgsD extract·fn.signature κs) (r r′ : ResD extract·fn.signature κs) (s s′ : AtExit (endedOf 3 extract·kinds.ps extract·kinds.r) κs) where
-  pub extract-has-one : extract·contract.Learnt κs a r s → extract·contract.Learnt κs a r′ s′ → (r ≡ r′) × (now (s .1 .1 .0) ≡ now (s′ .1 .1 .0)) × (now (s .1 .1 .1 .0) ≡ now (s′ .1 .1 .1 .0))
-  extract-has-one p q = (agree (p .0 row enough) (q .0 row enough), agree (p .1 .0 row enough) (q .1 .0 row enough), agree (p .1 .1 row enough) (q .1 .1 row enough))
+pub is-straight-has-one : One is-straight.Learnt (λ κ r s. r)
+is-straight-has-one κ a r r′ s s′ = agree
 
-module _ (κs : Lfts 2) (a : ArgsD store·fn.signature κs) (r r′ : ResD store·fn.signature κs) (s s′ : AtExit (endedOf 2 store·kinds.ps store·kinds.r) κs) where
-  pub store-has-one : store·contract.Learnt κs a r s → store·contract.Learnt κs a r′ s′ → (r ≡ r′) × (now (s .1 .1 .0) ≡ now (s′ .1 .1 .0))
-  store-has-one p q = (agree (p .0) (q .0), agree (p .1) (q .1))
+pub extract-has-one : One extract.Learnt (λ κ r s. r & now (s .1 .1 .0) & now (s .1 .1 .1 .0))
+extract-has-one κ a r r′ s s′ p q = agree₃ (at-row p) (at-row q)
 
-module _ (κs : Lfts 2) (a : ArgsD load·fn.signature κs) (r r′ : ResD load·fn.signature κs) (s s′ : AtExit (endedOf 2 load·kinds.ps load·kinds.r) κs) where
-  pub load-has-one : load·contract.Learnt κs a r s → load·contract.Learnt κs a r′ s′ → (r ≡ r′) × (now (s .1 .1 .0) ≡ now (s′ .1 .1 .0))
-  load-has-one p q = (agree (p .0) (q .0), agree (p .1) (q .1))
+pub store-has-one : One store.Learnt (λ κ r s. r & now (s .1 .1 .0))
+store-has-one κ a r r′ s s′ = agree₂
 
-module _ (κs : Lfts 4) (a : ArgsD printed·fn.signature κs) (r r′ : ResD printed·fn.signature κs) (s s′ : AtExit (endedOf 4 printed·kinds.ps printed·kinds.r) κs) where
-  pub printed-has-one : printed·contract.Learnt κs a r s → printed·contract.Learnt κs a r′ s′ → (r ≡ r′) × (now (s .1 .1 .1 .0) ≡ now (s′ .1 .1 .1 .0)) × (now (s .1 .0) ≡ now (s′ .1 .0)) × (now (s .1 .1 .0) ≡ now (s′ .1 .1 .0))
-  printed-has-one p q = (agree (p .0) (q .0), agree (p .1 .0) (q .1 .0), agree (p .1 .1 .0) (q .1 .1 .0), agree (p .1 .1 .1) (q .1 .1 .1))
+pub load-has-one : One load.Learnt (λ κ r s. r & now (s .1 .1 .0))
+load-has-one κ a r r′ s s′ = agree₂
+
+pub printed-has-one : One printed.Learnt (λ κ r s. r & now (s .1 .1 .1 .0) & now (s .1 .0) & now (s .1 .1 .0))
+printed-has-one κ a r r′ s s′ = agree₄
