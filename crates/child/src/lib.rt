@@ -1,8 +1,8 @@
 // The children of a term, as parts of the caller's own bytes.
 ghost use mathlib.Core.Path.{_≡_};
 ghost use Rattle.rules.specs.Limits.{limits};
-ghost use Rattle.rules.specs.Calls.{childCall, childFaultCall};
-ghost use Rattle.child.specs.Child.{Located, told};
+ghost use Rattle.rules.specs.Calls.{locateCall, childCall, childStart, childFaultCall};
+ghost use Rattle.child.specs.Child.{pieceOf, told, StartsIn};
 use rules::Answer;
 use rules::Refusal;
 use walk::parts_at;
@@ -15,7 +15,7 @@ pub enum Piece {
 }
 
 pub fn locate(term: &[u8], k: usize) -> Piece
-    ensures { λ r. ⌜ Located (now (term .entry)) k r ⌝ }
+    ensures { λ r. ⌜ r ≡ pieceOf (locateCall limits (now (term .entry)) k) ⌝ }
 {
     match reader::check_term(term) {
         Answer::Refused(r) => Piece::Missing(r),
@@ -38,6 +38,7 @@ pub fn locate(term: &[u8], k: usize) -> Piece
 // The part of the term that is child k, counted from 0; refused, an empty part.
 pub fn child(term: &[u8], k: usize) -> &[u8]
     ensures { λ r. ⌜ now r ≡ childCall limits (now (term .entry)) k ⌝ }
+    ensures { λ r. ⌜ StartsIn (term .entry) (childStart limits (now (term .entry)) k) r ⌝ }
 {
     match locate(term, k) {
         Piece::Part { from, end } => &term[from..end],

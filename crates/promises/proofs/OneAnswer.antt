@@ -12,6 +12,7 @@ use Rattle.proof.proofs.check_proof.Reads as check-proof
 use Rattle.proof.proofs.proof_input.Reads as proof-input
 use Rattle.formula_text.proofs.pretty.Reads as formula-text-pretty
 use Rattle.term_text.proofs.pretty.Reads as term-text-pretty
+use Rattle.child.proofs.locate.Reads as locate
 use Rattle.child.proofs.child.Reads as child
 use Rattle.child.proofs.child_fault.Reads as child-fault
 use Rattle.free.proofs.free_vars.Reads as free-vars
@@ -52,8 +53,12 @@ formula-text-pretty-has-one κ a r r′ s s′ = agree₂
 pub term-text-pretty-has-one : One term-text-pretty.Learnt (λ κ r s. r & now (s .1 .0))
 term-text-pretty-has-one κ a r r′ s s′ = agree₂
 
-pub child-has-one : One child.Learnt (λ κ r s. now r)
-child-has-one κ a r r′ s s′ = agree
+pub locate-has-one : One locate.Learnt (λ κ r s. r)
+locate-has-one κ a r r′ s s′ = agree
+
+-- the bytes of the part, and where it stands
+pub child-has-one : One child.Learnt (λ κ r s. now r & r .ptr .0 & r .ptr .1)
+child-has-one κ a r r′ s s′ = agree₃
 
 pub child-fault-has-one : One child-fault.Learnt (λ κ r s. r)
 child-fault-has-one κ a r r′ s s′ = agree

@@ -1,10 +1,7 @@
 -- Each C entry point's contract leaves one answer: the 16 numbers that it tells, the output and the scratch. A line for each lists them. Assumes nothing.
-use mathlib.Core.Path.{sym, ap, _∙_}
 use denote.Ref.{now}
-use Rattle.told.specs.Child.{toldPiece}
 use Rattle.promises.proofs.One.{One, _&_, agree, agree₂, agree₃}
 use Rattle.promises.proofs.OneRow.{at-row}
-use Rattle.promises.proofs.OneChild.{located-has-one}
 use Rattle.entry.proofs.patch_check_formula.Reads as patch-check-formula
 use Rattle.entry.proofs.patch_check_term.Reads as patch-check-term
 use Rattle.entry.proofs.patch_check_proof.Reads as patch-check-proof
@@ -71,6 +68,5 @@ patch-load-term-has-one κ a r r′ s s′ = agree₂
 pub patch-load-proof-has-one : One patch-load-proof.Learnt (λ κ r s. now (s .1 .1 .0) & now (s .1 .0))
 patch-load-proof-has-one κ a r r′ s s′ = agree₂
 
--- where a child stands is told as a piece, and there is one
 pub patch-child-has-one : One patch-child.Learnt (λ κ r s. now (s .1 .1 .0))
-patch-child-has-one κ a r r′ s s′ p q = p .tells ∙ ap toldPiece (located-has-one (now (a .0)) (a .1 .0) (p .piece) (q .piece) (p .located) (q .located)) ∙ sym (q .tells)
+patch-child-has-one κ a r r′ s s′ = agree
