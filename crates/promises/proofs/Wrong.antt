@@ -8,13 +8,16 @@ use Rattle.rules.specs.Term.{Term, encode}
 use Rattle.rules.specs.Proof.{Proof, encodeProof, encodeRule, encodeFormulas}
 use Rattle.rules.proofs.Notation.{v, ƛ_⇒_, wrong}
 use Rattle.straight.specs.Straight.{Each}
-use Rattle.promises.specs.PublicCalls.{Call, Input, checkTerm, checkFormula, checkProof, isNormal, isStraight, child, childFault, termText, formulaText, freeNames, store, load, substitute, step, reduce, extract, extractor, patchrun}
+use Rattle.promises.specs.PublicCalls.{Call, Input, checkTerm, checkFormula, checkProof, isNormal, isStraight, child, childFault, termText, formulaText, freeNames, store, load, substitute, step, reduce, extract, extractor, printed}
 use Rattle.promises.specs.Wrong.{Wrong, refuses-with-1, refuses-with-3, answers-unit, answers-normal, says-yes, copies-input, repeats-first-step, counts-next-rule, counts-all-as-app, counts-one-more, puts-in-together, renames-on-capture, enters-branches, enters-abort, enters-copy-body, skips-half-way, leaves-output-on-8, seeks-newest, takes-names-early, raises-counter-on-refusal, leaves-scratch, leaves-entries, clears-scratch-on-refusal, clears-entries-on-refusal, leaves-byte-behind, writes-on-refusal}
 use Rattle.promises.proofs.Wrong.Refuting.{Row, _∶_on_, Refuted, differs, all-refuted}
-use Rattle.promises.proofs.Wrong.Inputs.{accepted, faulty, output, scratch, entries, caught, crossed, copiesCrossed, inAbort, inBody, inLeft, inRight, halfWay, copiesHalfWay, grows, twoEntries, plusOfNames}
+use Rattle.promises.proofs.Wrong.Inputs.{accepted, faulty, output, scratch, entries}
+use Rattle.promises.proofs.Wrong.Patches.{caught, crossed, copiesCrossed, inAbort, inBody, inLeft, inRight, halfWay, copiesHalfWay, grows, twoEntries, plusOfNames}
 pub mod Refuting
 pub mod Inputs
+pub mod Patches
 pub mod NothingWrong
+pub mod Meant
 
 infix 50 _for_on_
 abbrev pub writing : List Call
@@ -24,7 +27,7 @@ abbrev pub working : List Call
 working = substitute ∷ step ∷ reduce ∷ extract ∷ extractor ∷ []
 
 abbrev pub calls : List Call
-calls = checkTerm ∷ checkFormula ∷ checkProof ∷ isNormal ∷ isStraight ∷ child ∷ childFault ∷ patchrun ∷ writing
+calls = checkTerm ∷ checkFormula ∷ checkProof ∷ isNormal ∷ isStraight ∷ child ∷ childFault ∷ printed ∷ writing
 
 -- a wrong version of several calls, each on an input of its own
 abbrev pub _for_on_ : Wrong → List Call → ((c : Call) → Input c) → List Row
@@ -44,14 +47,14 @@ abbrev pub table : List Row
 table =
     (refuses-with-1 for calls on accepted)
     ‥ (refuses-with-3 for calls on accepted)
-    ‥ (answers-unit for working on accepted)
-    ‥ (answers-normal for isNormal ∷ step ∷ reduce ∷ [] on accepted)
-    ‥ (says-yes for isNormal ∷ isStraight ∷ [] on accepted)
-    ‥ (copies-input for child ∷ patchrun ∷ writing on accepted)
-    ‥ (repeats-first-step for reduce ∷ [] on accepted)
-    ‥ (counts-next-rule for reduce ∷ [] on accepted)
-    ‥ (counts-all-as-app for reduce ∷ [] on accepted)
-    ‥ (counts-one-more for reduce ∷ [] on accepted)
+    ‥ (answers-unit for printed ∷ working on accepted)
+    ‥ (answers-normal for isNormal ∷ step ∷ reduce ∷ printed ∷ [] on accepted)
+    ‥ (says-yes for isStraight ∷ [] on accepted)
+    ‥ (copies-input for child ∷ printed ∷ writing on accepted)
+    ‥ (repeats-first-step for reduce ∷ printed ∷ [] on accepted)
+    ‥ (counts-next-rule for reduce ∷ printed ∷ [] on accepted)
+    ‥ (counts-all-as-app for reduce ∷ printed ∷ [] on accepted)
+    ‥ (counts-one-more for reduce ∷ printed ∷ [] on accepted)
     ‥ stepping puts-in-together crossed
     ‥ stepping puts-in-together copiesCrossed
     ‥ (substitute ∶ renames-on-capture on (encode (ƛ "y" ⇒ v "x"), say "x", encode (v "y"), output, scratch)) ∷ stepping renames-on-capture caught
@@ -65,11 +68,11 @@ table =
     ∷ extracting seeks-newest twoEntries
     ‥ extracting takes-names-early plusOfNames
     ‥ (raises-counter-on-refusal for extractor ∷ [] on faulty)
-    ‥ (leaves-scratch for working on accepted)
+    ‥ (leaves-scratch for printed ∷ working on accepted)
     ‥ (leaves-entries for extractor ∷ [] on accepted)
     ‥ (clears-scratch-on-refusal for working on faulty)
     ‥ (clears-entries-on-refusal for extractor ∷ [] on faulty)
-    ‥ (leaves-byte-behind for writing on accepted)
+    ‥ (leaves-byte-behind for printed ∷ writing on accepted)
     ‥ (writes-on-refusal for writing on faulty)
 
 all-differ : wrong differs table ≡ []

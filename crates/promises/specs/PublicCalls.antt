@@ -4,17 +4,18 @@ use Prim.Native.Nat.{ℕ}
 use mathlib.Core.Path.{_≡_}
 use mathlib.Core.Bool.{Bool}
 use mathlib.Core.List.{List}
-use mathlib.Core.Option.{Option}
-use lib.ListN.{replicate}
+use mathlib.Core.Option.{Option, some}
+use lib.ListN.{length, replicate}
 use Rattle.rules.specs.Basic.{Bytes}
 use Rattle.rules.specs.Limits.{limits, entryRoom}
 use Rattle.rules.specs.Refusal.{Outcome, mapped}
 use Rattle.rules.specs.declared.Kind.{Kind}
-use Rattle.rules.specs.Buffers.{Wrote, Worked}
+use Rattle.rules.specs.Buffers.{Wrote, Worked, filled}
 use Rattle.rules.specs.Calls.{checkTermCall, checkFormulaCall, checkProofCall, isNormalCall, childCall, childFaultCall, textCall, formulaTextCall, freeVarsCall, storeCall, loadCall, substituteCall, StepAnswer, stepCall, ReduceCall, reduceCall, Entry, noEntry, Extracted, extractCall}
-use Rattle.rules.specs.Program as Program
+use Rattle.rules.specs.Program.{patchrun}
 use Rattle.rules.specs.declared.Refusal.{Refusal}
 use Rattle.straight.specs.Call.{isStraightCall}
+use Rattle.printed.specs.Printing.{termAfter, scratchAfter}
 
 pub data Call : Type 0 where
   checkTerm checkFormula checkProof : Call
@@ -25,7 +26,8 @@ pub data Call : Type 0 where
   substitute step reduce : Call
   -- extract has a row of cut entries of its own; the Extractor is lent one
   extract extractor : Call
-  patchrun : Call
+  -- what the program patchrun prints, and leaves in buffers of its own
+  printed : Call
 
 -- The arguments in the order in which the definition takes them: inputs first, then what is lent.
 abbrev pub Input : Call → Type 0
@@ -46,7 +48,13 @@ Input step = Bytes × Bytes × Bytes
 Input reduce = Bytes × ℕ × Bytes × Bytes
 Input extract = ℕ × Bytes × Bytes × Bytes
 Input extractor = ℕ × Bytes × Bytes × Bytes × List Entry
-Input patchrun = Bytes
+Input printed = Bytes × Bytes × Bytes × Bytes
+
+pub record Printed : Type 0 where
+  pub outputLength : ℕ
+  pub output : Bytes
+  pub term : Bytes
+  pub scratch : Bytes
 
 abbrev pub Answer : Call → Type 0
 Answer checkTerm = Outcome ℕ
@@ -66,7 +74,7 @@ Answer step = Worked StepAnswer
 Answer reduce = ReduceCall
 Answer extract = Worked (ℕ × ℕ)
 Answer extractor = Extracted
-Answer patchrun = Bytes
+Answer printed = Printed
 
 -- Any function of a call's type; the contract asks for the one that is its definition.
 abbrev pub Version : Call → Type 0
@@ -97,7 +105,8 @@ definition step = λ (t, o, s). stepCall limits t o s
 definition reduce = λ (t, n, o, s). reduceCall limits t n o s
 definition extract = λ (n, p, o, s). withoutRow (extractCall limits n p o s ownRow)
 definition extractor = λ (n, p, o, s, es). extractCall limits n p o s es
-definition patchrun = Program.patchrun limits
+definition printed = λ (f, t, s, o).
+    record { outputLength = length (patchrun limits f); output = filled o (some (patchrun limits f)); term = termAfter limits f t s; scratch = scratchAfter limits f t s }
 
 -- A version meets a call's contract if it is equal to the definition on all inputs.
 abbrev pub Meets : (c : Call) → Version c → Type 0

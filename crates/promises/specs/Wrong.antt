@@ -52,35 +52,36 @@ pub data Wrong : Type 0 where
   -- a refusal clears the output
   writes-on-refusal : Wrong
 
-abbrev pub number : Wrong → ℕ
-number nothing = 0
-number refuses-with-1 = 1
-number refuses-with-3 = 2
-number answers-unit = 3
-number answers-normal = 4
-number says-yes = 5
-number copies-input = 6
-number repeats-first-step = 7
-number counts-next-rule = 8
-number counts-all-as-app = 9
-number counts-one-more = 10
-number puts-in-together = 11
-number renames-on-capture = 12
-number enters-branches = 13
-number enters-abort = 14
-number enters-copy-body = 15
-number skips-half-way = 16
-number leaves-output-on-8 = 17
-number seeks-newest = 18
-number takes-names-early = 19
-number raises-counter-on-refusal = 20
-number leaves-scratch = 21
-number leaves-entries = 22
-number clears-scratch-on-refusal = 23
-number clears-entries-on-refusal = 24
-number leaves-byte-behind = 25
-number writes-on-refusal = 26
+abbrev pub ordinal : Wrong → ℕ
+ordinal nothing = 0
+ordinal refuses-with-1 = 1
+ordinal refuses-with-3 = 2
+ordinal answers-unit = 3
+ordinal answers-normal = 4
+ordinal says-yes = 5
+ordinal copies-input = 6
+ordinal repeats-first-step = 7
+ordinal counts-next-rule = 8
+ordinal counts-all-as-app = 9
+ordinal counts-one-more = 10
+ordinal puts-in-together = 11
+ordinal renames-on-capture = 12
+ordinal enters-branches = 13
+ordinal enters-abort = 14
+ordinal enters-copy-body = 15
+ordinal skips-half-way = 16
+ordinal leaves-output-on-8 = 17
+ordinal seeks-newest = 18
+ordinal takes-names-early = 19
+ordinal raises-counter-on-refusal = 20
+ordinal leaves-scratch = 21
+ordinal leaves-entries = 22
+ordinal clears-scratch-on-refusal = 23
+ordinal clears-entries-on-refusal = 24
+ordinal leaves-byte-behind = 25
+ordinal writes-on-refusal = 26
 
 infix 55 _is_
+-- asked of a version wherever one may go wrong
 abbrev pub _is_ : Wrong → Wrong → Bool
-w is v = number w == number v
+w is v = ordinal w == ordinal v

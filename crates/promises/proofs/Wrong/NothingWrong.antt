@@ -3,11 +3,12 @@
 use Prim.Native.Nat.{ℕ, zero, suc, _+_}
 use mathlib.Core.Path.{_≡_, refl, ap, _∙_}
 use mathlib.Core.Bool.{true, false, _&&_}
+use mathlib.Core.Option.{some}
 use lib.ListN.{length}
 use mathlib.Core.List.{List, [], _∷_}
 use Rattle.rules.specs.Basic.{Bytes, _<?_, _≤?_}
 use Rattle.rules.specs.Limits.{limits, mostCounter, entryRoom}
-use Rattle.rules.specs.Refusal.{Outcome, good, refuse, outgrows, counterOver, mapped, _>>=_}
+use Rattle.rules.specs.Refusal.{Outcome, good, refused, refuse, outgrows, counterOver, mapped, _>>=_}
 use Rattle.rules.specs.Formula.{Formula}
 use Rattle.rules.specs.Term.{Term, var, leaf, one, two, abs, both, branch, inl, inr, fst, snd, abort, promote, derelict, pair, app, discard, letPair, copy, size}
 use Rattle.rules.specs.Proof.{Proof, proof, Premises, done, _then_, Rule, plain, cut, focus}
@@ -18,17 +19,18 @@ use Rattle.rules.specs.Reduction.{Reduced, stopped, outgrew, plus, reduceFrom}
 use Rattle.rules.specs.Extraction.{Making, terms, sizes, sizeFits, Premise, byRule, extract as extractOf, extracts as extractsOf, extractFrom}
 use Rattle.rules.specs.Reading.{readTerm, readProof}
 use Rattle.rules.specs.Stored.{opened}
-use Rattle.rules.specs.Buffers.{lent, worked}
-use Rattle.rules.specs.Calls.{workRoom, stepEnding, readEnding, reduceEnding, reduceWith, extractWith, extractEnding, isNormalCall, textCall, formulaTextCall, freeVarsCall, storeCall, loadCall, childCall, childFaultCall, substituteCall, substituted, stepCall, reduceCall, Entry, extractCall}
+use Rattle.rules.specs.Buffers.{filled, lent, worked}
+use Rattle.rules.specs.Calls.{workRoom, stepEnding, readEnding, reduceEnding, reduceWith, extractWith, extractEnding, isNormalCall, textCall, formulaTextCall, freeVarsCall, storeCall, loadCall, substituteCall, substituted, stepCall, reduceCall, Entry, extractCall}
 use Rattle.rules.specs.Program as Program
 use Rattle.rules.specs.declared.Kind.the-variants.{Term as aTerm}
 use Rattle.rules.specs.declared.Counts.{Counts}
+use Rattle.printed.specs.Printing.{termAfter, scratchAfter}
 use Rattle.promises.specs.Wrong.{nothing}
 use Rattle.promises.specs.Wrong.Step.{contractBy, stepBy, insteadFound, stepped}
 use Rattle.promises.specs.Wrong.Reduction.{reduceFromBy, told, reduced, reduceEndingBy}
 use Rattle.promises.specs.Wrong.Extraction.{byRuleBy, extractBy, extractsBy, extracted}
-use Rattle.promises.specs.Wrong.Version.{version, extractCallBy, patchrunBy}
-use Rattle.promises.specs.PublicCalls.{Call, Meets, definition, ownRow, withoutRow, checkTerm, checkFormula, checkProof, isNormal, isStraight, child, childFault, termText, formulaText, freeNames, store, load, substitute, step, reduce, extract, extractor, patchrun}
+use Rattle.promises.specs.Wrong.Version.{version, reduceCallBy, extractCallBy, patchrunBy}
+use Rattle.promises.specs.PublicCalls.{Call, Meets, definition, ownRow, withoutRow, checkTerm, checkFormula, checkProof, isNormal, isStraight, child, childFault, termText, formulaText, freeNames, store, load, substitute, step, reduce, extract, extractor, printed}
 
 contracts : (t : Term) → contractBy nothing t ≡ contract t
 unfolding contractBy contract
@@ -146,8 +148,23 @@ patchrun-so f =
       t ← readTerm limits 1 s
       Program.reducedReport (reduced-so Program.programSteps t i))
 
+reduce-so : (t : Bytes) (n : ℕ) (o s : Bytes) → reduceCallBy nothing t n o s ≡ reduceCall limits t n o s
+unfolding reduceCall
+reduce-so t n o s = λ i. reduceWith o s (lent (workRoom limits o s) (readEnding (readTerm limits 1 t) (λ u. ending-so n u i)))
+
+printed-so : (f t s o : Bytes) → version nothing printed (f, t, s, o) ≡ definition printed (f, t, s, o)
+unfolding version definition termAfter scratchAfter
+printed-so f t s o =
+    λ i.
+    record {
+      outputLength = length (patchrun-so f i);
+      output = filled o (some (patchrun-so f i));
+      term = elim (opened limits aTerm f) [ good c ↦ reduce-so c Program.programSteps t s i .output | refused r ↦ t ];
+      scratch = elim (opened limits aTerm f) [ good c ↦ reduce-so c Program.programSteps t s i .scratch | refused r ↦ s ];
+    }
+
 pub nothing-wrong : (c : Call) → Meets c (version nothing c)
-unfolding version definition isNormalCall textCall formulaTextCall freeVarsCall storeCall loadCall childCall childFaultCall substituteCall substituted stepCall reduceCall
+unfolding version definition isNormalCall textCall formulaTextCall freeVarsCall storeCall loadCall substituteCall substituted stepCall
 nothing-wrong checkTerm = λ t. refl
 nothing-wrong checkFormula = λ f. refl
 nothing-wrong checkProof = λ p. refl
@@ -162,7 +179,7 @@ nothing-wrong store = λ x. refl
 nothing-wrong load = λ x. refl
 nothing-wrong substitute = λ x. refl
 nothing-wrong step = λ (t, o, s) i. worked o s (lent (workRoom limits o s) (readEnding (readTerm limits 1 t) (λ u. stepEnding limits (stepped-so u i))))
-nothing-wrong reduce = λ (t, n, o, s) i. reduceWith o s (lent (workRoom limits o s) (readEnding (readTerm limits 1 t) (λ u. ending-so n u i)))
+nothing-wrong reduce = λ (t, n, o, s). reduce-so t n o s
 nothing-wrong extract = λ (n, p, o, s) i. withoutRow (extract-so n p o s ownRow i)
 nothing-wrong extractor = λ (n, p, o, s, es). extract-so n p o s es
-nothing-wrong patchrun = patchrun-so
+nothing-wrong printed = λ (f, t, s, o). printed-so f t s o

@@ -3,9 +3,10 @@ use Prim.Native.Nat.{ℕ, suc}
 use mathlib.Core.Path.{_≡_, refl, sym, ap, _∙_}
 use mathlib.Core.Bool.{Bool, true, false, not, false≢true}
 use mathlib.Core.List.{List, [], _∷_}
+use lib.Dec.{eqb}
 use borrow.Author.Tests.{eq-eqb}
 use native.Mathlib.Omega.{arith}
-use Rattle.rules.specs.Basic.{Bytes, digits}
+use Rattle.rules.specs.Basic.{Bytes, digits, _‥_}
 use Rattle.rules.specs.Name.{leads, follows, before}
 use Rattle.rules.specs.Formula.{formulaNodes}
 use Rattle.rules.specs.Term.{nodes, encode, fits}
@@ -22,9 +23,10 @@ use Rattle.rules.specs.Calls.{checkTermCall, checkFormulaCall, checkProofCall, 
 use Rattle.rules.specs.Program as Program
 use Rattle.straight.specs.Straight.{binders, variables, count, plain, once, straight, Each}
 use Rattle.straight.specs.Call.{isStraightCall}
-use Rattle.rules.proofs.Notation.{equal, wrongFrom, wrong}
+use Rattle.printed.specs.Printing.{termAfter, scratchAfter}
+use Rattle.rules.proofs.Notation.{wrongFrom, wrong}
 use Rattle.rules.proofs.Called.{numbers, single, boolNumber, faultNumbers, stepNumbers, wroteNumbers, workedNumbers, reduceCallNumbers, extractedNumbers}
-use Rattle.promises.specs.PublicCalls.{Call, Input, Answer, Meets, definition, checkTerm, checkFormula, checkProof, isNormal, isStraight, child, childFault, termText, formulaText, freeNames, store, load, substitute, step, reduce, extract, extractor, patchrun}
+use Rattle.promises.specs.PublicCalls.{Call, Input, Answer, Meets, definition, checkTerm, checkFormula, checkProof, isNormal, isStraight, child, childFault, termText, formulaText, freeNames, store, load, substitute, step, reduce, extract, extractor, printed}
 use Rattle.promises.specs.Wrong.{Wrong}
 use Rattle.promises.specs.Wrong.Put.{firstFree, putIn}
 use Rattle.promises.specs.Wrong.Step.{contractBy, stepBy, stepped}
@@ -59,21 +61,28 @@ shown step = workedNumbers stepNumbers
 shown reduce = reduceCallNumbers
 shown extract = workedNumbers (λ r. r .0 ∷ r .1 ∷ [])
 shown extractor = extractedNumbers
-shown patchrun = λ s. s
+shown printed = λ p. p .outputLength ∷ (p .output ‥ p .term ‥ p .scratch)
+
+-- equal, looked at no further than the first difference
+abbrev pub alike : List ℕ → List ℕ → Bool
+alike [] [] = true
+alike [] (b ∷ y) = false
+alike (a ∷ x) [] = false
+alike (a ∷ x) (b ∷ y) = elim (eqb a b) [ true ↦ alike x y | false ↦ false ]
 
 unfoldable pub differs : Row → Bool
-unfolding definition version times many byte byteFor room letters name tag tooMany node proofAt whole readTerm readFormula readProof readName leads follows before insert union without free subst Step.step Step.contract text textOf nodes formulaNodes rules encode fits reduceFrom Extraction.extractFrom Extraction.extract Extraction.oldest Extraction.axiomName digits weighed blocks stored openBlock openBlocks opened checkTermCall checkFormulaCall checkProofCall freeVarsCall textCall formulaTextCall substituted substituteCall stepCall reduceCall isNormalCall childOf childCall childFaultCall storeCall loadCall extractCall isStraightCall straight once plain binders variables count Program.patchrun Program.countsLine Program.refusalLine firstFree putIn contractBy stepBy stepped reduceFromBy reduced extractBy extracted
-differs (c ∶ w on x) = not (equal (shown c (version w c x)) (shown c (definition c x)))
+unfolding definition version times many byte byteFor room letters name tag tooMany node proofAt whole readTerm readFormula readProof readName leads follows before insert union without free subst Step.step Step.contract text textOf nodes formulaNodes rules encode fits reduceFrom Extraction.extractFrom Extraction.extract Extraction.oldest Extraction.axiomName digits weighed blocks stored openBlock openBlocks opened checkTermCall checkFormulaCall checkProofCall freeVarsCall textCall formulaTextCall substituted substituteCall stepCall reduceCall isNormalCall childOf childCall childFaultCall storeCall loadCall extractCall isStraightCall straight once plain binders variables count Program.patchrun termAfter scratchAfter Program.countsLine Program.refusalLine firstFree putIn contractBy stepBy stepped reduceFromBy reduced extractBy extracted
+differs (c ∶ w on x) = not (alike (shown c (version w c x)) (shown c (definition c x)))
 
-equal-self : (s : Bytes) → equal s s ≡ true
-equal-self [] = refl
-equal-self (a ∷ s) = rw (eq-eqb a a refl) (equal-self s)
+alike-self : (s : List ℕ) → alike s s ≡ true
+alike-self [] = refl
+alike-self (a ∷ s) = rw (eq-eqb a a refl, alike) (alike-self s)
 
 -- A version that meets the contract would not differ.
 refutes : (r : Row) → differs r ≡ true → Refuted r
 unfolding differs
 refutes (c ∶ w on x) d =
-    λ m. false≢true (sym (ap not (equal-self (shown c (definition c x)))) ∙ sym (ap (λ (a : Answer c). not (equal (shown c a) (shown c (definition c x)))) (m x)) ∙ d)
+    λ m. false≢true (sym (ap not (alike-self (shown c (definition c x)))) ∙ sym (ap (λ (a : Answer c). not (alike (shown c a) (shown c (definition c x)))) (m x)) ∙ d)
 
 -- If every row of a table differs, every row is refuted.
 all-from : (n : ℕ) (rs : List Row) → wrongFrom differs n rs ≡ [] → Each Refuted rs

@@ -1,7 +1,7 @@
 -- Refusals and lent buffers, with something wrong or nothing.
 -- Assumes nothing: these are definitions.
 use Prim.Native.Nat.{ℕ, _-_, suc}
-use mathlib.Core.Bool.{Bool, true, false, not, _&&_}
+use mathlib.Core.Bool.{Bool, true, false, not, _&&_, _||_}
 use mathlib.Core.List.{List}
 use mathlib.Core.Option.{Option, none, some}
 use lib.ListN.{length, replicate, take, drop}
@@ -17,9 +17,7 @@ abbrev pub says : {A : Type 0} → Wrong → Outcome A → Outcome A
 says w o = if w is refuses-with-1 then refuse 1 0 0 else (if w is refuses-with-3 then refuse 3 0 1 else o)
 
 abbrev pub lentBy : {A : Type 0} → Wrong → Bool → Ending A → Ending A
-lentBy w b e =
-    if w is refuses-with-1 then writesNothing (refuse 1 0 0)
-    else (if w is refuses-with-3 then writesNothing (refuse 3 0 1) else lent b e)
+lentBy w b e = if w is refuses-with-1 || w is refuses-with-3 then writesNothing (says w (e .says)) else lent b e
 
 -- bytes that are made of an input, or that input
 abbrev pub copied : Wrong → (input : Bytes) → Outcome Bytes → Outcome Bytes
@@ -32,6 +30,7 @@ abbrev pub wasRefused : {A : Type 0} → Outcome A → Bool
 wasRefused (good a) = false
 wasRefused (refused r) = true
 
+-- the answer, the byte behind it as it was lent, then zeros
 abbrev pub filledBut : (buffer : Bytes) → Option Bytes → Bytes
 filledBut b none = b
 filledBut b (some s) = s ‥ take 1 (drop (length s) b) ‥ replicate (length b - suc (length s)) 0
@@ -41,6 +40,7 @@ filledBy w b e =
     if w is writes-on-refusal && wasRefused (e .says) then replicate (length b) 0
     else (if w is leaves-byte-behind then filledBut b (e .writes) else filled b (e .writes))
 
+-- no refusal 2 to 7
 abbrev pub wasRead : {A : Type 0} → Outcome A → Bool
 wasRead (good a) = true
 wasRead (refused r) = not (between 2 7 (r .number))

@@ -56,6 +56,7 @@ abbrev pub entersBody : Wrong → Both → Bool
 entersBody w letPair = true
 entersBody w copy = w is enters-copy-body
 
+-- a step in the one part, and in a later part, if that is entered
 abbrev pub entering : Bool → Stepped → Stepped
 entering b s = if b then s else normal
 
