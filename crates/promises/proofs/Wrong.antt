@@ -1,5 +1,4 @@
 -- No wrong version of a public call that document 01 names meets the call's contract: one table, each row computed at the document's own limits.
-use Prim.Native.Nat.{ℕ}
 use mathlib.Core.Path.{_≡_, refl}
 use mathlib.Core.List.{List, [], _∷_, map}
 use Rattle.rules.specs.Basic.{say, _‥_}

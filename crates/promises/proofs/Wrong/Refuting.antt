@@ -6,7 +6,7 @@ use mathlib.Core.List.{List, [], _∷_}
 use lib.Dec.{eqb}
 use borrow.Author.Tests.{eq-eqb}
 use native.Mathlib.Omega.{arith}
-use Rattle.rules.specs.Basic.{Bytes, digits, _‥_}
+use Rattle.rules.specs.Basic.{digits, _‥_}
 use Rattle.rules.specs.Name.{leads, follows, before}
 use Rattle.rules.specs.Formula.{formulaNodes}
 use Rattle.rules.specs.Term.{nodes, encode, fits}

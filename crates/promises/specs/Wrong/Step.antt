@@ -1,6 +1,6 @@
 -- One step, with something wrong or nothing: how values are put in, whether the half-way body is told, and which parts are entered.
 -- Assumes nothing: these are definitions.
-use Prim.Native.Nat.{ℕ, _+_}
+use Prim.Native.Nat.{_+_}
 use mathlib.Core.Bool.{Bool, true}
 use mathlib.Core.Option.{none, some}
 use Rattle.rules.specs.Basic.{if_then_else_}
