@@ -3,3 +3,4 @@ pub mod OneRow
 pub mod OneAnswer
 pub mod OneEntry
 pub mod OneExtractor
+pub mod Wrong

@@ -1,1 +1,2 @@
--- There are no definitions here.
+pub mod PublicCalls
+pub mod Wrong
