@@ -6,8 +6,8 @@ use Rattle.rules.specs.Formula.{encodeFormula}
 use Rattle.rules.specs.Term.{Term, encode}
 use Rattle.rules.specs.Proof.{Proof, encodeProof, encodeRule, encodeFormulas}
 use Rattle.rules.proofs.Notation.{v, ƛ_⇒_, wrong}
-use Rattle.straight.specs.Straight.{Each}
-use Rattle.promises.specs.PublicCalls.{Call, Input, checkTerm, checkFormula, checkProof, isNormal, isStraight, child, childFault, termText, formulaText, freeNames, store, load, substitute, step, reduce, extract, extractor, printed}
+use Rattle.rules.specs.Straight.{Each}
+use Rattle.promises.specs.PublicCalls.{Call, Input, checkTerm, checkFormula, checkProof, isNormal, isStraight, locate, child, childFault, termText, formulaText, freeNames, store, load, substitute, step, reduce, extract, extractor, printed}
 use Rattle.promises.specs.Wrong.{Wrong, refuses-with-1, refuses-with-3, answers-unit, answers-normal, says-yes, copies-input, repeats-first-step, counts-next-rule, counts-all-as-app, counts-one-more, puts-in-together, renames-on-capture, enters-branches, enters-abort, enters-copy-body, skips-half-way, leaves-output-on-8, seeks-newest, takes-names-early, raises-counter-on-refusal, leaves-scratch, leaves-entries, clears-scratch-on-refusal, clears-entries-on-refusal, leaves-byte-behind, writes-on-refusal}
 use Rattle.promises.proofs.Wrong.Refuting.{Row, _∶_on_, Refuted, differs, all-refuted}
 use Rattle.promises.proofs.Wrong.Inputs.{accepted, faulty, output, scratch, entries}
@@ -26,7 +26,7 @@ abbrev pub working : List Call
 working = substitute ∷ step ∷ reduce ∷ extract ∷ extractor ∷ []
 
 abbrev pub calls : List Call
-calls = checkTerm ∷ checkFormula ∷ checkProof ∷ isNormal ∷ isStraight ∷ child ∷ childFault ∷ printed ∷ writing
+calls = checkTerm ∷ checkFormula ∷ checkProof ∷ isNormal ∷ isStraight ∷ locate ∷ child ∷ childFault ∷ printed ∷ writing
 
 -- a wrong version of several calls, each on an input of its own
 abbrev pub _for_on_ : Wrong → List Call → ((c : Call) → Input c) → List Row

@@ -11,16 +11,15 @@ use Rattle.rules.specs.Limits.{limits, entryRoom}
 use Rattle.rules.specs.Refusal.{Outcome, mapped}
 use Rattle.rules.specs.declared.Kind.{Kind}
 use Rattle.rules.specs.Buffers.{Wrote, Worked, filled}
-use Rattle.rules.specs.Calls.{checkTermCall, checkFormulaCall, checkProofCall, isNormalCall, childCall, childFaultCall, textCall, formulaTextCall, freeVarsCall, storeCall, loadCall, substituteCall, StepAnswer, stepCall, ReduceCall, reduceCall, Entry, noEntry, Extracted, extractCall}
+use Rattle.rules.specs.Calls.{checkTermCall, checkFormulaCall, checkProofCall, isNormalCall, isStraightCall, Places, locateCall, childCall, childFaultCall, textCall, formulaTextCall, freeVarsCall, storeCall, loadCall, substituteCall, StepAnswer, stepCall, ReduceCall, reduceCall, Entry, noEntry, Extracted, extractCall}
 use Rattle.rules.specs.Program.{patchrun}
 use Rattle.rules.specs.declared.Refusal.{Refusal}
-use Rattle.straight.specs.Call.{isStraightCall}
 use Rattle.printed.specs.Printing.{termAfter, scratchAfter}
 
 pub data Call : Type 0 where
   checkTerm checkFormula checkProof : Call
   isNormal isStraight : Call
-  child childFault : Call
+  locate child childFault : Call
   termText formulaText freeNames : Call
   store load : Call
   substitute step reduce : Call
@@ -36,6 +35,7 @@ Input checkFormula = Bytes
 Input checkProof = Bytes
 Input isNormal = Bytes
 Input isStraight = Bytes
+Input locate = Bytes × ℕ
 Input child = Bytes × ℕ
 Input childFault = Bytes × ℕ
 Input termText = Bytes × Bytes
@@ -62,6 +62,7 @@ Answer checkFormula = Outcome ℕ
 Answer checkProof = Outcome ℕ
 Answer isNormal = Outcome Bool
 Answer isStraight = Outcome Bool
+Answer locate = Outcome Places
 Answer child = Bytes
 Answer childFault = Option Refusal
 Answer termText = Wrote ℕ
@@ -93,6 +94,7 @@ definition checkFormula = checkFormulaCall limits
 definition checkProof = checkProofCall limits
 definition isNormal = isNormalCall limits
 definition isStraight = isStraightCall limits
+definition locate = λ (t, k). locateCall limits t k
 definition child = λ (t, k). childCall limits t k
 definition childFault = λ (t, k). childFaultCall limits t k
 definition termText = λ (t, o). textCall limits t o

@@ -6,7 +6,7 @@ use Rattle.rules.specs.Basic.{Bytes, say, _‥_}
 use Rattle.rules.specs.Calls.{Entry}
 use Rattle.rules.specs.declared.Kind.the-variants.{Term as aTerm}
 use Rattle.rules.proofs.Notation.{hex, repeat}
-use Rattle.promises.specs.PublicCalls.{Call, Input, checkTerm, checkFormula, checkProof, isNormal, isStraight, child, childFault, termText, formulaText, freeNames, store, load, substitute, step, reduce, extract, extractor, printed}
+use Rattle.promises.specs.PublicCalls.{Call, Input, checkTerm, checkFormula, checkProof, isNormal, isStraight, locate, child, childFault, termText, formulaText, freeNames, store, load, substitute, step, reduce, extract, extractor, printed}
 
 -- lent buffers, each as long as is asked
 abbrev pub output : Bytes
@@ -48,6 +48,7 @@ accepted checkFormula = hex "05"
 accepted checkProof = identity
 accepted isNormal = twoStepsBytes
 accepted isStraight = twoStepsBytes
+accepted locate = (twoStepsBytes, 0)
 accepted child = (twoStepsBytes, 0)
 accepted childFault = (twoStepsBytes, 0)
 accepted termText = (twoStepsBytes, textOutput)
@@ -69,6 +70,7 @@ faulty checkFormula = hex "05 05"
 faulty checkProof = hex "03 00 00 00"
 faulty isNormal = hex "02 02"
 faulty isStraight = hex "02 02"
+faulty locate = (hex "02 02", 0)
 faulty child = (hex "02 02", 0)
 faulty childFault = (hex "02 02", 0)
 faulty termText = (hex "02 02", textOutput)

@@ -30,7 +30,7 @@ use Rattle.promises.specs.Wrong.Step.{contractBy, stepBy, insteadFound, 
 use Rattle.promises.specs.Wrong.Reduction.{reduceFromBy, told, reduced, reduceEndingBy}
 use Rattle.promises.specs.Wrong.Extraction.{byRuleBy, extractBy, extractsBy, extracted}
 use Rattle.promises.specs.Wrong.Version.{version, reduceCallBy, extractCallBy, patchrunBy}
-use Rattle.promises.specs.PublicCalls.{Call, Meets, definition, ownRow, withoutRow, checkTerm, checkFormula, checkProof, isNormal, isStraight, child, childFault, termText, formulaText, freeNames, store, load, substitute, step, reduce, extract, extractor, printed}
+use Rattle.promises.specs.PublicCalls.{Call, Meets, definition, ownRow, withoutRow, checkTerm, checkFormula, checkProof, isNormal, isStraight, locate, child, childFault, termText, formulaText, freeNames, store, load, substitute, step, reduce, extract, extractor, printed}
 
 contracts : (t : Term) → contractBy nothing t ≡ contract t
 unfolding contractBy contract
@@ -170,6 +170,7 @@ nothing-wrong checkFormula = λ f. refl
 nothing-wrong checkProof = λ p. refl
 nothing-wrong isNormal = λ t i. mapped (λ u. Step.isNormal (stepped-so u i)) (readTerm limits 1 t)
 nothing-wrong isStraight = λ t. refl
+nothing-wrong locate = λ x. refl
 nothing-wrong child = λ x. refl
 nothing-wrong childFault = λ x. refl
 nothing-wrong termText = λ x. refl

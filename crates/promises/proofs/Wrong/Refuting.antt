@@ -19,14 +19,13 @@ use Rattle.rules.specs.Step as Step
 use Rattle.rules.specs.Reduction.{reduceFrom}
 use Rattle.rules.specs.Extraction as Extraction
 use Rattle.rules.specs.Stored.{weighed, blocks, stored, openBlock, openBlocks, opened}
-use Rattle.rules.specs.Calls.{checkTermCall, checkFormulaCall, checkProofCall, freeVarsCall, textCall, formulaTextCall, substituted, substituteCall, stepCall, reduceCall, isNormalCall, childOf, childCall, childFaultCall, storeCall, loadCall, extractCall}
+use Rattle.rules.specs.Calls.{checkTermCall, checkFormulaCall, checkProofCall, freeVarsCall, textCall, formulaTextCall, substituted, substituteCall, stepCall, reduceCall, isNormalCall, isStraightCall, locateCall, childCall, childFaultCall, storeCall, loadCall, extractCall}
 use Rattle.rules.specs.Program as Program
-use Rattle.straight.specs.Straight.{binders, variables, count, plain, once, straight, Each}
-use Rattle.straight.specs.Call.{isStraightCall}
+use Rattle.rules.specs.Straight.{binders, variables, count, plain, once, straight, Each}
 use Rattle.printed.specs.Printing.{termAfter, scratchAfter}
 use Rattle.rules.proofs.Notation.{wrongFrom, wrong}
 use Rattle.rules.proofs.Called.{numbers, single, boolNumber, faultNumbers, stepNumbers, wroteNumbers, workedNumbers, reduceCallNumbers, extractedNumbers}
-use Rattle.promises.specs.PublicCalls.{Call, Input, Answer, Meets, definition, checkTerm, checkFormula, checkProof, isNormal, isStraight, child, childFault, termText, formulaText, freeNames, store, load, substitute, step, reduce, extract, extractor, printed}
+use Rattle.promises.specs.PublicCalls.{Call, Input, Answer, Meets, definition, checkTerm, checkFormula, checkProof, isNormal, isStraight, locate, child, childFault, termText, formulaText, freeNames, store, load, substitute, step, reduce, extract, extractor, printed}
 use Rattle.promises.specs.Wrong.{Wrong}
 use Rattle.promises.specs.Wrong.Put.{firstFree, putIn}
 use Rattle.promises.specs.Wrong.Step.{contractBy, stepBy, stepped}
@@ -49,6 +48,7 @@ shown checkFormula = numbers single
 shown checkProof = numbers single
 shown isNormal = numbers (λ b. single (boolNumber b))
 shown isStraight = numbers (λ b. single (boolNumber b))
+shown locate = numbers (λ p. p .from ∷ p .end ∷ [])
 shown child = λ s. s
 shown childFault = faultNumbers
 shown termText = wroteNumbers
@@ -71,7 +71,7 @@ alike (a ∷ x) [] = false
 alike (a ∷ x) (b ∷ y) = elim (eqb a b) [ true ↦ alike x y | false ↦ false ]
 
 unfoldable pub differs : Row → Bool
-unfolding definition version times many byte byteFor room letters name tag tooMany node proofAt whole readTerm readFormula readProof readName leads follows before insert union without free subst Step.step Step.contract text textOf nodes formulaNodes rules encode fits reduceFrom Extraction.extractFrom Extraction.extract Extraction.oldest Extraction.axiomName digits weighed blocks stored openBlock openBlocks opened checkTermCall checkFormulaCall checkProofCall freeVarsCall textCall formulaTextCall substituted substituteCall stepCall reduceCall isNormalCall childOf childCall childFaultCall storeCall loadCall extractCall isStraightCall straight once plain binders variables count Program.patchrun termAfter scratchAfter Program.countsLine Program.refusalLine firstFree putIn contractBy stepBy stepped reduceFromBy reduced extractBy extracted
+unfolding definition version times many byte byteFor room letters name tag tooMany node proofAt whole readTerm readFormula readProof readName leads follows before insert union without free subst Step.step Step.contract text textOf nodes formulaNodes rules encode fits reduceFrom Extraction.extractFrom Extraction.extract Extraction.oldest Extraction.axiomName digits weighed blocks stored openBlock openBlocks opened checkTermCall checkFormulaCall checkProofCall freeVarsCall textCall formulaTextCall substituted substituteCall stepCall reduceCall isNormalCall locateCall childCall childFaultCall storeCall loadCall extractCall isStraightCall straight once plain binders variables count Program.patchrun termAfter scratchAfter Program.countsLine Program.refusalLine firstFree putIn contractBy stepBy stepped reduceFromBy reduced extractBy extracted
 differs (c ∶ w on x) = not (alike (shown c (version w c x)) (shown c (definition c x)))
 
 alike-self : (s : List ℕ) → alike s s ≡ true

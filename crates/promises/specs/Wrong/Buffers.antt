@@ -67,7 +67,7 @@ abbrev pub workedBy : {A : Type 0} → Wrong → (output scratch : Bytes) → En
 workedBy w o s e = record { answer = e .says; output = filledBy w o e; scratch = scratchBy w s (e .says) }
 
 abbrev pub reducedBy : Wrong → (output scratch : Bytes) → Ending ReduceAnswer → ReduceCall
-reducedBy w o s e = record { answer = e .says; length = written (e .writes); output = filledBy w o e; scratch = scratchBy w s (e .says) }
+reducedBy w o s e = record { answer = e .says; outputLength = written (e .writes); output = filledBy w o e; scratch = scratchBy w s (e .says) }
 
 abbrev pub extractedBy : Wrong → (output scratch : Bytes) (entries : List Entry) (counter : ℕ) → Outcome (Term × ℕ) → Ending ℕ → Extracted
 extractedBy w o s es n x e =

@@ -16,12 +16,11 @@ use Rattle.rules.specs.Free.{free}
 use Rattle.rules.specs.Step as Step
 use Rattle.rules.specs.Stored.{stored, opened, readKind}
 use Rattle.rules.specs.Buffers.{answers, bytesOr}
-use Rattle.rules.specs.Calls.{roomFor, workRoom, checkTermCall, checkFormulaCall, checkProofCall, grown, stepEnding, readEnding, ReduceCall, childCall, childFaultCall, Entry, Extracted}
+use Rattle.rules.specs.Calls.{roomFor, workRoom, checkTermCall, checkFormulaCall, checkProofCall, grown, stepEnding, readEnding, ReduceCall, isStraightCall, locateCall, childCall, childFaultCall, Entry, Extracted}
 use Rattle.rules.specs.Program.{programSteps, report, reducedReport}
 use Rattle.rules.specs.declared.Refusal.{Refusal}
 use Rattle.rules.specs.declared.Kind.the-variants.{Term as aTerm}
-use Rattle.straight.specs.Call.{isStraightCall}
-use Rattle.promises.specs.PublicCalls.{Call, Version, checkTerm, checkFormula, checkProof, isNormal, isStraight, child, childFault, termText, formulaText, freeNames, store, load, substitute, step, reduce, extract, extractor, printed, Printed, ownRow, withoutRow}
+use Rattle.promises.specs.PublicCalls.{Call, Version, checkTerm, checkFormula, checkProof, isNormal, isStraight, locate, child, childFault, termText, formulaText, freeNames, store, load, substitute, step, reduce, extract, extractor, printed, Printed, ownRow, withoutRow}
 use Rattle.promises.specs.Wrong.{Wrong, _is_, copies-input}
 use Rattle.promises.specs.Wrong.Step.{put, instead, stepped}
 use Rattle.promises.specs.Wrong.Reduction.{reduced, reduceEndingBy}
@@ -76,6 +75,7 @@ version w checkFormula = λ f. says w (checkFormulaCall limits f)
 version w checkProof = λ p. says w (checkProofCall limits p)
 version w isNormal = λ t. says w (agreed w (mapped (λ u. Step.isNormal (stepped w u)) (readTerm limits 1 t)))
 version w isStraight = λ t. says w (agreed w (isStraightCall limits t))
+version w locate = λ (t, k). says w (locateCall limits t k)
 version w child = λ (t, k). partOr w (if w is copies-input then t else childCall limits t k)
 version w childFault = λ (t, k). faultOr w (childFaultCall limits t k)
 version w termText = λ (t, o). wroteBy w o (lentBy w (roomFor (textRoom limits) o) (bytesOr (copied w t (mapped Text.text (readTerm limits 1 t)))))
