@@ -1,6 +1,6 @@
 -- `entry::patch_child` meets its contract: what it tells is the piece that was located. Assumes nothing.
 use Prim.Native.Nat.{ℕ}
-use mathlib.Core.Path.{_≡_, refl}
+use mathlib.Core.Path.{_≡_, refl, ap, _∙_}
 use borrow.Author.Needs.{needs}
 use Rattle.rules.specs.Basic.{Bytes}
 use Rattle.rules.specs.Limits.{limits}
@@ -9,7 +9,7 @@ use Rattle.child.specs.Child.{pieceOf}
 use Rattle.child.specs.declared.Piece.{Piece}
 use Rattle.child.specs.declared.Piece.the-variants.{Part, Missing}
 use Rattle.child.proofs.Children.{part-ordered}
-use Rattle.told.specs.Child.{ordered}
+use Rattle.told.specs.Child.{ordered, toldPiece}
 use Rattle.entry.proofs.patch_child.Statement.{statement}
 use Rattle.entry.proofs.patch_child.Tie as tie
 
@@ -24,7 +24,7 @@ tell-piece-requires : tie.Need-tell-piece-requires
 tell-piece-requires c κs = in-order _ _ (c .before .locate .result) (c .before .locate .ensures)
 
 returns : tie.Need-returns
-returns c = search needs
+returns c = c .tell-piece .ensures ∙ ap toldPiece (c .before .before .locate .ensures)
 
 pub patch-child-spec : {M : Type 1} → statement M
 patch-child-spec = tie.close (tie.spec locate-requires tell-piece-requires returns)
