@@ -1,87 +1,40 @@
--- Child k of a term: the k parts before it are skipped, and the part that stands there is its bytes. Assumes nothing.
-use Prim.Native.Nat.{ℕ, zero, suc, _+_, _-_, _<_, _≤_}
-use mathlib.Core.Path.{_≡_, refl, sym, ap, _∙_}
-use mathlib.Core.List.{List, [], _∷_, _++_, append-assoc}
-use mathlib.Core.Option.{Option, none, some}
+-- What `locate` knows where it answers, by what the reader, `parts_at` and `skip` ensure; and what `child` and `child_fault` make of its answer.
+-- Assumes nothing.
+use Prim.Native.Nat.{ℕ, _+_, _-_, _<_, _≤_}
+use mathlib.Core.Path.{_≡_, sym, ap, _∙_}
+use mathlib.Core.List.{List, []}
+use mathlib.Core.Option.{Option}
 use native.Mathlib.Omega.{arith}
-use lib.ListN.{length, take, drop, getElem?, length-append}
-use lib.Seq.{take-at}
+use lib.ListN.{length, take, drop, getElem?}
 use Rattle.rules.specs.Basic.{Bytes}
 use Rattle.rules.specs.Limits.{limits}
 use Rattle.rules.specs.declared.Refusal.{Refusal}
-use Rattle.rules.specs.Refusal.{good, refused, answered}
+use Rattle.rules.specs.Refusal.{Outcome, good, refused, answered}
 use Rattle.rules.specs.declared.Answer.the-variants.{Good, Refused}
-use Rattle.rules.specs.Term.{Term, encode, nodes, size, parts}
+use Rattle.rules.specs.Name.{encodeNames}
+use Rattle.rules.specs.Term.{Term, nodes, names, parts}
 use Rattle.rules.specs.Reading.{readTerm}
-use Rattle.rules.specs.Calls.{checkTermCall, childOr, childOf, childCall, childFaultCall}
+use Rattle.rules.specs.Calls.{checkTermCall, Places, placesFrom, orNoChild, locateCall, childCall, childFaultCall}
 use Rattle.laws.specs.Decoding.{term-sound}
 use Rattle.reader.specs.Accepted.{accepts, refuses}
-use Rattle.walk.specs.Node.{head, encodeAll}
+use Rattle.walk.specs.Node.{head}
 use Rattle.walk.specs.Place.{TermAt, TermsAt}
-use Rattle.child.specs.Child.{Stands, Located, told}
 use Rattle.walk.specs.declared.Row.{Row}
+use Rattle.walk.proofs.Terms.{SkipIs, skip-one, some-alone, at-parts, whole}
+use Rattle.child.specs.Child.{pieceOf, told}
 use Rattle.child.specs.declared.Piece.{Piece}
 use Rattle.child.specs.declared.Piece.the-variants.{Part, Missing}
 use Rattle.child.specs.declared.Fault.the-variants.{Nothing, Refused as Wrong}
-use Rattle.walk.proofs.Names.{drop-app}
-use Rattle.walk.proofs.Terms.{SkipIs, skip-one, some-alone, first, others, at-end, at-parts, whole}
-
--- ---- the k-th of a row
-
--- k terms, and the next one after them
-pub record Picked (s : Bytes) (i k : ℕ) (ts : List Term) : Type 0 where
-  pub before : List Term
-  pub begins : before ≡ take k ts
-  pub here : TermsAt s i k before
-  pub term : Term
-  pub is : getElem? ts k ≡ some term
-  pub stands : (m : ℕ) → m ≡ i + length (encodeAll before) → TermAt s m term
-
-pub pick : (s : Bytes) (k i n : ℕ) (ts : List Term) → TermsAt s i n ts → k < n → Picked s i k ts
-pick s k i n [] w l = absurd (omega (arith, w .many))
-pick s zero i n (t ∷ ts) w l =
-    record {
-      before = [];
-      begins = refl;
-      here = record { many = refl; rest = drop i s; bytes = refl };
-      term = t;
-      is = refl;
-      stands = λ m e. let z : m ≡ i = omega (arith, e) in rw z (first s i n t ts w);
-    }
-pick s (suc k) i n (t ∷ ts) w l =
-    let o = others s i n t ts w (i + size t) refl in
-    let r = pick s k (i + size t) (n - 1) ts o (omega arith) in
-    let a = first s i n t ts w in
-    let e : drop (i + size t) s ≡ a .rest = drop-app (encode t) (a .rest) s i (i + size t) (a .bytes) refl in
-    record {
-      before = t ∷ r .before;
-      begins = ap (λ (z : List Term). t ∷ z) (r .begins);
-      here =
-          record {
-            many = ap suc (r .here .many);
-            rest = r .here .rest;
-            bytes = a .bytes ∙ ap (λ (z : Bytes). encode t ++ z) (sym e ∙ r .here .bytes) ∙ sym (append-assoc (encode t) (encodeAll (r .before)) (r .here .rest));
-          };
-      term = r .term;
-      is = r .is;
-      stands = λ m em. r .stands m (omega (arith, em, length-append (encode t) (encodeAll (r .before))));
-    }
-
-none-at : (ts : List Term) (k : ℕ) → length ts ≤ k → getElem? ts k ≡ none
-none-at [] k h = refl
-none-at (t ∷ ts) zero h = absurd (omega (arith, h))
-none-at (t ∷ ts) (suc k) h = none-at ts k (omega arith)
-
--- ---- the call
+use Rattle.child.proofs.Standing.{Picked, pick, none-at, in-order, within}
 
 module _ (s : Bytes) (k : ℕ) where
-  pub refused-term : (r : Refusal) → answered (checkTermCall limits s) ≡ Refused r → childOf limits s k ≡ refused r
-  unfolding checkTermCall childOf
+  pub refused-term : (r : Refusal) → answered (checkTermCall limits s) ≡ Refused r → Missing r ≡ pieceOf (locateCall limits s k)
+  unfolding checkTermCall locateCall
   refused-term r e = rw (refuses nodes (readTerm limits 1 s) e)
 
   module _ {n : ℕ} (e : answered (checkTermCall limits s) ≡ Good n) where
     -- what was read
-    pub read : (t : Term) × (readTerm limits 1 s ≡ good t) × TermAt s 0 t
+    read : (t : Term) × (readTerm limits 1 s ≡ good t) × TermAt s 0 t
     unfolding checkTermCall
     read =
         let a = accepts nodes (readTerm limits 1 s) e in
@@ -90,16 +43,17 @@ module _ (s : Bytes) (k : ℕ) where
     pub some-read : (t : Term) × TermAt s 0 t
     some-read = let a = read in (a .0, a .2)
 
-    child-is : (t : Term) → readTerm limits 1 s ≡ good t → childOf limits s k ≡ childOr (getElem? (parts t) k)
-    unfolding childOf
-    child-is t p = rw p
-
     -- what `parts_at` ensures
     module _ (row : Row) (f : (t : Term) → TermAt s 0 t → (row .start ≡ 0 + length (head t)) × (row .parts ≡ length (parts t))) where
-      pub no-child : row .parts ≤ k → childOf limits s k ≡ refused (record { number = 14; place = 0; input = 0 })
-      no-child h =
+      placed-as : (o : Option Places) → getElem? (placesFrom (row .start) (parts (read .0))) k ≡ o → pieceOf (orNoChild o) ≡ pieceOf (locateCall limits s k)
+      unfolding locateCall
+      placed-as o h =
           let a = read in
-          child-is (a .0) (a .1) ∙ ap (λ (o : Option Term). childOr o) (none-at (parts (a .0)) k (omega (arith, f (a .0) (a .2) .1)))
+          let z : row .start ≡ 1 + length (encodeNames (names (a .0))) = omega (arith, f (a .0) (a .2) .0) in
+          rw (a .1, ← z, h)
+
+      pub no-child : row .parts ≤ k → Missing (record { number = 14; place = 0; input = 0 }) ≡ pieceOf (locateCall limits s k)
+      no-child h = let a = read in placed-as _ (none-at (row .start) k (parts (a .0)) (omega (arith, f (a .0) (a .2) .1)))
 
       module _ (h : k < row .parts) where
         row-here : TermsAt s (row .start) (row .parts) (parts (read .0))
@@ -118,46 +72,43 @@ module _ (s : Bytes) (k : ℕ) where
           pub some-child : (ts : List Term) × TermsAt s a 1 ts
           some-child = some-alone s a (picked .term, stands-there)
 
-          starts-there : a ≡ length (head (read .0)) + length (encodeAll (take k (parts (read .0))))
-          starts-there =
-              let p = picked in
-              let t = read in
-              omega (arith, g (p .before) (p .here), f (t .0) (t .2) .0, ap (λ (z : List Term). length (encodeAll z)) (p .begins))
-
-          pub child-part : (b : ℕ) → SkipIs s a 1 b → Stands s k a b
+          pub child-part : (b : ℕ) → SkipIs s a 1 b → Part a b ≡ pieceOf (locateCall limits s k)
           child-part b q =
               let p = picked in
-              let w = stands-there in
-              let z : b ≡ a + size (p .term) = skip-one s a b q (p .term) w in
-              record {
-                ordered = omega arith;
-                within = omega (arith, at-end s a (p .term) w);
-                bytes =
-                    child-is (read .0) (read .1) ∙ ap (λ (o : Option Term). childOr o) (p .is)
-                    ∙ ap good (sym (ap (λ (l : Bytes). take (b - a) l) (w .bytes) ∙ take-at (encode (p .term)) (w .rest) (b - a) (omega arith)));
-                term = read .0;
-                read = read .1;
-                starts = starts-there;
-              }
+              ap (λ (z : ℕ). Part a z) (skip-one s a b q (p .term) stands-there) ∙ placed-as _ (p .placed a (g (p .before) (p .here)))
 
 -- ---- what was located
 
-module _ (s : Bytes) (k : ℕ) (p : Piece) (w : Located s k p) where
-  module _ (a b : ℕ) (e : p ≡ Part a b) where
-    pub part : Stands s k a b
-    part = rw e at w
+module _ (s : Bytes) (k : ℕ) (piece : Piece) (w : piece ≡ pieceOf (locateCall limits s k)) where
+  module _ (a b : ℕ) (e : piece ≡ Part a b) where
+    part-at : locateCall limits s k ≡ good (record { from = a; end = b })
+    part-at = go (locateCall limits s k) (sym w ∙ e)
+      where
+        go : (o : Outcome Places) → pieceOf o ≡ Part a b → o ≡ good (record { from = a; end = b })
+        go (good p) h = let i : p .from ≡ a = cc in let j : p .end ≡ b = cc in rw (i, j)
+        go (refused r) h = absurd (let z : _≡_ {A = ℕ} 0 1 = cc in omega arith)
+
+    pub part-ordered : a ≤ b
+    part-ordered = in-order limits s k _ part-at
+
+    pub part-within : b ≤ length s
+    part-within = within limits s k _ part-at
 
     pub part-is : take (b - a) (drop a s) ≡ childCall limits s k
     unfolding childCall
-    part-is = rw (part .bytes)
+    part-is = rw part-at
 
     pub part-well : Nothing ≡ told (childFaultCall limits s k)
     unfolding childFaultCall
-    part-well = rw (part .bytes)
+    part-well = rw part-at
 
-  module _ (r : Refusal) (e : p ≡ Missing r) where
-    missing : childOf limits s k ≡ refused r
-    missing = rw e at w
+  module _ (r : Refusal) (e : piece ≡ Missing r) where
+    missing : locateCall limits s k ≡ refused r
+    missing = go (locateCall limits s k) (sym w ∙ e)
+      where
+        go : (o : Outcome Places) → pieceOf o ≡ Missing r → o ≡ refused r
+        go (good p) h = absurd (let z : _≡_ {A = ℕ} 0 1 = cc in omega arith)
+        go (refused q) h = cc
 
     pub missing-is : [] ≡ childCall limits s k
     unfolding childCall

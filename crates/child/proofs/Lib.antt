@@ -1,1 +1,2 @@
-mod Children
+pub mod Standing
+pub mod Children

@@ -1,8 +1,8 @@
 // The children of a term, as parts of the caller's own bytes.
 ghost use mathlib.Core.Path.{_≡_};
 ghost use Rattle.rules.specs.Limits.{limits};
-ghost use Rattle.rules.specs.Calls.{childCall, childFaultCall};
-ghost use Rattle.child.specs.Child.{Located, told};
+ghost use Rattle.rules.specs.Calls.{locateCall, childCall, childFaultCall};
+ghost use Rattle.child.specs.Child.{pieceOf, told};
 use rules::Answer;
 use rules::Refusal;
 use walk::parts_at;
@@ -15,7 +15,7 @@ pub enum Piece {
 }
 
 pub fn locate(term: &[u8], k: usize) -> Piece
-    ensures { λ r. ⌜ Located (now (term .entry)) k r ⌝ }
+    ensures { λ r. ⌜ r ≡ pieceOf (locateCall limits (now (term .entry)) k) ⌝ }
 {
     match reader::check_term(term) {
         Answer::Refused(r) => Piece::Missing(r),

@@ -6,9 +6,10 @@ ghost use Rattle.rules.specs.Limits.{limits};
 ghost use Rattle.rules.specs.Refusal.{answered};
 ghost use Rattle.stepping.specs.Answers.{stepAnswered, normalAnswered};
 ghost use Rattle.reduction.specs.Answers.{reducedBy};
-ghost use Rattle.rules.specs.Calls.{checkTermCall, checkFormulaCall, checkProofCall, formulaTextCall, textCall, freeVarsCall, substituteCall, stepCall, reduceCall, isNormalCall};
+ghost use Rattle.rules.specs.Calls.{checkTermCall, checkFormulaCall, checkProofCall, formulaTextCall, textCall, locateCall, freeVarsCall, substituteCall, stepCall, reduceCall, isNormalCall};
+ghost use Rattle.child.specs.Child.{pieceOf};
 ghost use Rattle.told.specs.Told.{toldAnswer};
-ghost use Rattle.told.specs.Child.{ToldChild};
+ghost use Rattle.told.specs.Child.{toldPiece};
 ghost use Rattle.told_results.specs.Steps.{toldStep, toldNormal, toldReduced};
 use told::tell;
 use told::tell_piece;
@@ -60,7 +61,7 @@ pub extern "C" fn patch_term_text(term: &[u8], out: &mut [u8], answer: &mut [u64
 // An exported function cannot hand back a part of the caller's bytes, so it tells where the part stands.
 #[no_mangle]
 pub extern "C" fn patch_child(term: &[u8], k: usize, answer: &mut [u64; 16])
-    ensures { λ _. ⌜ ToldChild (now (term .entry)) k (now (answer .exit)) ⌝ }
+    ensures { λ _. ⌜ now (answer .exit) ≡ toldPiece (pieceOf (locateCall limits (now (term .entry)) k)) ⌝ }
 {
     tell_piece(child::locate(term, k), answer);
 }
@@ -114,7 +115,7 @@ pub extern "C" fn patch_normalize_bounded(
     scratch: &mut [u8],
     answer: &mut [u64; 16],
 )
-    ensures { λ _. ⌜ now (answer .exit) ≡ toldReduced (reducedBy (reduceCall limits (now (term .entry)) limit (now (out .entry)) (now (scratch .entry)) .answer) (reduceCall limits (now (term .entry)) limit (now (out .entry)) (now (scratch .entry)) .length)) ⌝ }
+    ensures { λ _. ⌜ now (answer .exit) ≡ toldReduced (reducedBy (reduceCall limits (now (term .entry)) limit (now (out .entry)) (now (scratch .entry)) .answer) (reduceCall limits (now (term .entry)) limit (now (out .entry)) (now (scratch .entry)) .outputLength)) ⌝ }
     ensures { λ _. ⌜ now (out .exit) ≡ reduceCall limits (now (term .entry)) limit (now (out .entry)) (now (scratch .entry)) .output ⌝ }
     ensures { λ _. ⌜ now (scratch .exit) ≡ reduceCall limits (now (term .entry)) limit (now (out .entry)) (now (scratch .entry)) .scratch ⌝ }
 {

@@ -1,7 +1,7 @@
 // Whether a term is straight.
 ghost use mathlib.Core.Path.{_≡_};
 ghost use Rattle.rules.specs.Limits.{limits};
-ghost use Rattle.straight.specs.Call.{isStraightCall};
+ghost use Rattle.rules.specs.Calls.{isStraightCall};
 ghost use Rattle.straightness.specs.Verdict.{verdict};
 ghost use Rattle.told_results.specs.Straight.{toldVerdict};
 use told_results::tell_verdict;

@@ -8,9 +8,9 @@ use borrow.Author.Tests.{eq-eqb, ne-eqb}
 use Rattle.rules.specs.Basic.{_==_}
 use Rattle.rules.specs.Name.{Name}
 use Rattle.rules.specs.Term.{Term}
+use Rattle.rules.specs.Straight.{_over_, stands, uses, once}
 use Rattle.walk.specs.Place.{TermAt}
 use Rattle.walk.proofs.Names.{name-room, name-part}
-use Rattle.straight.specs.Straight.{_over_, stands, uses, once}
 use Rattle.uses.specs.declared.Found.{Found}
 use Rattle.one_binder.specs.Place.{Binds}
 use Rattle.uses.specs.Counts.{InTerm}

@@ -2,7 +2,7 @@
 ghost use mathlib.Core.Path.{_≡_};
 ghost use Rattle.rules.specs.Name.{Name};
 ghost use Rattle.rules.specs.Term.{Term};
-ghost use Rattle.straight.specs.Straight.{_over_, once as onceIn};
+ghost use Rattle.rules.specs.Straight.{_over_, once as onceIn};
 ghost use Rattle.uses.specs.Node.{plainTag};
 ghost use Rattle.one_binder.specs.Place.{Binds};
 use uses::seek;

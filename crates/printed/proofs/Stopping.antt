@@ -53,7 +53,7 @@ module _ (s out scratch : Bytes) (room : 4096 ≤ length out) (scratch-room : 81
   unfolding reduceCall
   calls = rw (le-leb 4096 (length out) room, le-leb 8192 (length scratch) scratch-room)
 
-  told-from : (o : Outcome Term) → readTerm limits 1 s ≡ o → (a : Reduction) → reducedBy (ends o .answer) (ends o .length) ≡ Stopped a → (out₁ : Bytes) → out₁ ≡ ends o .output
+  told-from : (o : Outcome Term) → readTerm limits 1 s ≡ o → (a : Reduction) → reducedBy (ends o .answer) (ends o .outputLength) ≡ Stopped a → (out₁ : Bytes) → out₁ ≡ ends o .output
       → (t : Term) × Told s out₁ a t
   unfolding printedFor
   told-from (refused q) e a q′ out₁ l = absurd (let z : _≡_ {A = ℕ} 0 1 = cc in omega arith)
@@ -71,7 +71,7 @@ module _ (s out scratch : Bytes) (room : 4096 ≤ length out) (scratch-room : 81
         },
       )
 
-  refused-from : (o : Outcome Term) → readTerm limits 1 s ≡ o → (q : Refusal) (l : ℕ) → reducedBy (ends o .answer) (ends o .length) ≡ Refused q l → printedFor limits s ≡ refusalLine q
+  refused-from : (o : Outcome Term) → readTerm limits 1 s ≡ o → (q : Refusal) (l : ℕ) → reducedBy (ends o .answer) (ends o .outputLength) ≡ Refused q l → printedFor limits s ≡ refusalLine q
   unfolding printedFor
   refused-from (refused q′) e q l h = rw e (ap refusalLine (cc))
   refused-from (good u) e q l h = rw e (refuses (rules.reduce limits 1000 u) q l h)
@@ -80,7 +80,7 @@ module _ (s out scratch : Bytes) (room : 4096 ≤ length out) (scratch-room : 81
   abbrev call : ReduceCall
   call = reduceCall limits s 1000 out scratch
 
-  module _ {r : Reduced} (says : r ≡ reducedBy (call .answer) (call .length)) where
+  module _ {r : Reduced} (says : r ≡ reducedBy (call .answer) (call .outputLength)) where
     pub told : (a : Reduction) → r ≡ Stopped a → (out₁ : Bytes) → out₁ ≡ call .output → (t : Term) × Told s out₁ a t
     told a h out₁ l = told-from (readTerm limits 1 s) refl a (rw calls at (sym says ∙ h)) out₁ (rw calls at l)
 

@@ -28,6 +28,9 @@ use Rattle.formula_text.proofs.pretty.Reads as formula-text-pretty·contract
 use Rattle.term_text.proofs.pretty as term-text-pretty·fn
 use Rattle.term_text.proofs.pretty.Kinds as term-text-pretty·kinds
 use Rattle.term_text.proofs.pretty.Reads as term-text-pretty·contract
+use Rattle.child.proofs.locate as locate·fn
+use Rattle.child.proofs.locate.Kinds as locate·kinds
+use Rattle.child.proofs.locate.Reads as locate·contract
 use Rattle.child.proofs.child as child·fn
 use Rattle.child.proofs.child.Kinds as child·kinds
 use Rattle.child.proofs.child.Reads as child·contract
@@ -95,6 +98,10 @@ module _ (κs : Lfts 2) (a : ArgsD formula-text-pretty·fn.signature κs) (r r�
 module _ (κs : Lfts 2) (a : ArgsD term-text-pretty·fn.signature κs) (r r′ : ResD term-text-pretty·fn.signature κs) (s s′ : AtExit (endedOf 2 term-text-pretty·kinds.ps term-text-pretty·kinds.r) κs) where
   pub term-text-pretty-has-one : term-text-pretty·contract.Learnt κs a r s → term-text-pretty·contract.Learnt κs a r′ s′ → (r ≡ r′) × (now (s .1 .0) ≡ now (s′ .1 .0))
   term-text-pretty-has-one p q = (agree (p .0) (q .0), agree (p .1) (q .1))
+
+module _ (κs : Lfts 1) (a : ArgsD locate·fn.signature κs) (r r′ : ResD locate·fn.signature κs) (s s′ : AtExit (endedOf 1 locate·kinds.ps locate·kinds.r) κs) where
+  pub locate-has-one : locate·contract.Learnt κs a r s → locate·contract.Learnt κs a r′ s′ → r ≡ r′
+  locate-has-one p q = agree p q
 
 module _ (κs : Lfts 1) (a : ArgsD child·fn.signature κs) (r r′ : ResD child·fn.signature κs) (s s′ : AtExit (endedOf 1 child·kinds.ps child·kinds.r) κs) where
   pub child-has-one : child·contract.Learnt κs a r s → child·contract.Learnt κs a r′ s′ → now r ≡ now r′

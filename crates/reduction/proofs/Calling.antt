@@ -27,7 +27,7 @@ module _ (term : Bytes) (limit : ℕ) (out scratch : Bytes) where
   -- what the call ensures of its answer, its output and its scratch
   abbrev pub Is : Reduced → Bytes → Bytes → Type 0
   Is a out′ scratch′ =
-      (a ≡ reducedBy (reduceCall limits term limit out scratch .answer) (reduceCall limits term limit out scratch .length))
+      (a ≡ reducedBy (reduceCall limits term limit out scratch .answer) (reduceCall limits term limit out scratch .outputLength))
       × ((out′ ≡ reduceCall limits term limit out scratch .output)
       × (scratch′ ≡ reduceCall limits term limit out scratch .scratch))
 

@@ -85,7 +85,7 @@ fn reduce_read(term: &[u8], nodes: usize, limit: u32, out: &mut [u8], scratch: &
 
 // Steps up to the limit. A step past the limit is not tried; 8 gives the steps done, and leaves the last term that fitted.
 pub fn normalize_bounded(term: &[u8], limit: u32, out: &mut [u8], scratch: &mut [u8]) -> Reduced
-    ensures { λ r. ⌜ r ≡ reducedBy (reduceCall limits (now (term .entry)) limit (now (out .entry)) (now (scratch .entry)) .answer) (reduceCall limits (now (term .entry)) limit (now (out .entry)) (now (scratch .entry)) .length) ⌝ }
+    ensures { λ r. ⌜ r ≡ reducedBy (reduceCall limits (now (term .entry)) limit (now (out .entry)) (now (scratch .entry)) .answer) (reduceCall limits (now (term .entry)) limit (now (out .entry)) (now (scratch .entry)) .outputLength) ⌝ }
     ensures { λ _. ⌜ now (out .exit) ≡ reduceCall limits (now (term .entry)) limit (now (out .entry)) (now (scratch .entry)) .output ⌝ }
     ensures { λ _. ⌜ now (scratch .exit) ≡ reduceCall limits (now (term .entry)) limit (now (out .entry)) (now (scratch .entry)) .scratch ⌝ }
 {

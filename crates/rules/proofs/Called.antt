@@ -18,10 +18,11 @@ use Rattle.rules.specs.Free.{insert, union, without, free}
 use Rattle.rules.specs.Substitution.{subst}
 use Rattle.rules.specs.Step.{step, contract}
 use Rattle.rules.specs.Reduction.{Counts, reduceFrom}
+use Rattle.rules.specs.Straight.{binders, variables, count, plain, once, straight}
 use Rattle.rules.specs.Extraction.{extractFrom, extract, oldest, axiomName}
 use Rattle.rules.specs.Stored.{Kind, weighed, blocks, stored, openBlock, openBlocks, opened}
 use Rattle.rules.specs.Buffers.{Wrote, Worked}
-use Rattle.rules.specs.Calls.{checkTermCall, checkFormulaCall, checkProofCall, freeVarsCall, textCall, formulaTextCall, substituted, substituteCall, StepAnswer, Normal, Found, stepCall, ReduceAnswer, ReduceCall, reduceCall, isNormalCall, childOf, childCall, childFaultCall, storeCall, loadCall, startCall, Entry, Extracted, extractCall}
+use Rattle.rules.specs.Calls.{checkTermCall, checkFormulaCall, checkProofCall, freeVarsCall, textCall, formulaTextCall, substituted, substituteCall, StepAnswer, Normal, Found, stepCall, ReduceAnswer, ReduceCall, reduceCall, isNormalCall, isStraightCall, locateCall, childCall, childFaultCall, storeCall, loadCall, startCall, Entry, Extracted, extractCall}
 use Rattle.rules.proofs.Notation.{equal, ruleNumber}
 
 -- asked: output 90, text 450, formula text 110, stored 512, scratch 180, 6 entries
@@ -35,8 +36,8 @@ pub data Call : Type 0 where
   substitutes : (output scratch : ℕ) (term name value : Bytes) → Call
   steps : (output scratch : ℕ) (term : Bytes) → Call
   reduces : (output scratch : ℕ) (limit : ℕ) (term : Bytes) → Call
-  isNormal : Bytes → Call
-  child : (term : Bytes) (k : ℕ) → Call
+  isNormal isStraight : Bytes → Call
+  locates child : (term : Bytes) (k : ℕ) → Call
   extracts : (output scratch entries : ℕ) (counter : ℕ) (proof : Bytes) → Call
   stores loads : (output : ℕ) → Kind → Bytes → Call
 
@@ -72,6 +73,8 @@ lentTo (substitutes o s t x u) = o ∷ s ∷ []
 lentTo (steps o s t) = o ∷ s ∷ []
 lentTo (reduces o s n t) = o ∷ s ∷ []
 lentTo (isNormal t) = []
+lentTo (isStraight t) = []
+lentTo (locates t k) = []
 lentTo (child t k) = []
 lentTo (extracts o s e n p) = o ∷ s ∷ (e + e) ∷ []
 lentTo (stores o k s) = o ∷ []
@@ -116,14 +119,14 @@ workedNumbers f w = numbers f (w .answer) ‥ w .output ‥ w .scratch
 
 -- after the answer the length of what stands in the output
 abbrev pub reduceCallNumbers : ReduceCall → List ℕ
-reduceCallNumbers w = numbers reduceNumbers (w .answer) ‥ w .length ∷ (w .output ‥ w .scratch)
+reduceCallNumbers w = numbers reduceNumbers (w .answer) ‥ w .outputLength ∷ (w .output ‥ w .scratch)
 
 -- after the answer the counter
 abbrev pub extractedNumbers : Extracted → List ℕ
 extractedNumbers w = numbers single (w .answer) ‥ w .counter ∷ (w .output ‥ w .scratch ‥ entryNumbers (w .entries))
 
 unfoldable pub after : Call → List ℕ
-unfolding times many byte byteFor room letters name tag tooMany node proofAt whole readTerm readFormula readProof readName leads follows before insert union without free subst step contract text formulaText nodes formulaNodes rules encode fits reduceFrom extractFrom extract oldest axiomName digits weighed blocks stored openBlock openBlocks opened checkTermCall checkFormulaCall checkProofCall freeVarsCall textCall formulaTextCall substituted substituteCall stepCall reduceCall isNormalCall childOf childCall childFaultCall storeCall loadCall extractCall
+unfolding times many byte byteFor room letters name tag tooMany node proofAt whole readTerm readFormula readProof readName leads follows before insert union without free subst step contract text formulaText nodes formulaNodes rules encode fits reduceFrom binders variables count plain once straight extractFrom extract oldest axiomName digits weighed blocks stored openBlock openBlocks opened checkTermCall checkFormulaCall checkProofCall freeVarsCall textCall formulaTextCall substituted substituteCall stepCall reduceCall isNormalCall isStraightCall locateCall childCall childFaultCall storeCall loadCall extractCall
 after (checkTerm t) = numbers single (checkTermCall tiny t)
 after (checkFormula f) = numbers single (checkFormulaCall tiny f)
 after (checkProof p) = numbers single (checkProofCall tiny p)
@@ -134,6 +137,8 @@ after (substitutes o s t x u) = workedNumbers single (substituteCall tiny t x u 
 after (steps o s t) = workedNumbers stepNumbers (stepCall tiny t (sevens o) (sevens s))
 after (reduces o s n t) = reduceCallNumbers (reduceCall tiny t n (sevens o) (sevens s))
 after (isNormal t) = numbers (λ b. single (boolNumber b)) (isNormalCall tiny t)
+after (isStraight t) = numbers (λ b. single (boolNumber b)) (isStraightCall tiny t)
+after (locates t k) = numbers (λ p. p .from ∷ p .end ∷ []) (locateCall tiny t k)
 after (child t k) = faultNumbers (childFaultCall tiny t k) ‥ childCall tiny t k
 after (extracts o s e n p) = extractedNumbers (extractCall tiny (startCall n) p (sevens o) (sevens s) (replicate e (7, 7)))
 after (stores o k s) = wroteNumbers (storeCall tiny k s (sevens o))

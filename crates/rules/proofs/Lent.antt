@@ -8,7 +8,7 @@ use Rattle.rules.specs.Term.{Term, one, fst, promote, encode}
 use Rattle.rules.specs.Proof.{Proof, OneIntro, Axiom, encodeProof, encodeRule, encodeFormulas}
 use Rattle.rules.specs.declared.Kind.the-variants.{Term as aTerm, Proof as aProof}
 use Rattle.rules.proofs.Notation.{promotes, v, ⟨⟩, ⟨_﹐_⟩, _·_, ƛ_⇒_, lets_﹐_≔_⨟_, copies_⇉_﹐_⨟_, 𝟏, by_on_from_, cuts_from_, hex, repeat, wrong}
-use Rattle.rules.proofs.Called.{Row, right, _⟹_⟫_, freeVars, prints, printsFormula, substitutes, steps, reduces, isNormal, child, extracts, stores, loads, untouched, then-zeros, zeroed, answers, counts, refuses_at_of_}
+use Rattle.rules.proofs.Called.{Row, right, _⟹_⟫_, freeVars, prints, printsFormula, substitutes, steps, reduces, isNormal, isStraight, locates, child, extracts, stores, loads, untouched, then-zeros, zeroed, answers, counts, refuses_at_of_}
 
 -- a name of 24 bytes, and four of a variable
 abbrev pub long : String
@@ -96,10 +96,25 @@ table =
     ∷ (reduces 91 181 9 (encode ((ƛ "z" ⇒ v "z") · grows)) ⟹ refuses 8 at 1 of 0 ‥ 45 ∷ [] ⟫ then-zeros (encode grows) ∷ zeroed ∷ [])
     ∷ (reduces 91 181 1 (encode ((ƛ "z" ⇒ v "z") · grows)) ⟹ answers (1 ∷ 1 ∷ 0 ∷ 0 ∷ 0 ∷ 0 ∷ 0 ∷ 0 ∷ 0 ∷ 0 ∷ 45 ∷ []) ⟫ then-zeros (encode grows) ∷ zeroed ∷ [])
     ∷ (reduces 91 181 1 (encode grows-half-way) ⟹ refuses 8 at 0 of 0 ‥ 71 ∷ [] ⟫ then-zeros (encode grows-half-way) ∷ zeroed ∷ [])
-    -- is_normal and child have no buffers; 14 after 7
+    -- is_normal, is_straight, locate and child have no buffers; 14 after 7
     ∷ (isNormal (hex "02 02") ⟹ refuses 7 at 1 of 1 ⟫ [])
     ∷ (isNormal (hex "02") ⟹ counts 1 ⟫ [])
     ∷ (isNormal (encode grows) ⟹ counts 0 ⟫ [])
+    ∷ (isStraight (hex "02 02") ⟹ refuses 7 at 1 of 1 ⟫ [])
+    ∷ (isStraight (encode (ƛ "x" ⇒ v "x")) ⟹ counts 1 ⟫ [])
+    ∷ (isStraight (encode grows) ⟹ counts 0 ⟫ [])
+    -- a child stands behind the tag, the names and the parts before it
+    ∷ (locates (hex "03 02 02") 0 ⟹ answers (1 ∷ 2 ∷ []) ⟫ [])
+    ∷ (locates (hex "03 02 02") 1 ⟹ answers (2 ∷ 3 ∷ []) ⟫ [])
+    ∷ (locates (hex "03 02 02") 2 ⟹ refuses 14 at 0 of 0 ⟫ [])
+    ∷ (locates (hex "02 02") 2 ⟹ refuses 7 at 1 of 1 ⟫ [])
+    ∷ (locates (hex "05 027831 010161") 0 ⟹ answers (4 ∷ 7 ∷ []) ⟫ [])
+    ∷ (locates (hex "04 027831 0179 02 010161") 1 ⟹ answers (7 ∷ 10 ∷ []) ⟫ [])
+    ∷ (locates (hex "09 027831 0179 010161 02 0e02") 0 ⟹ answers (6 ∷ 9 ∷ []) ⟫ [])
+    ∷ (locates (hex "09 027831 0179 010161 02 0e02") 1 ⟹ answers (9 ∷ 10 ∷ []) ⟫ [])
+    ∷ (locates (hex "09 027831 0179 010161 02 0e02") 2 ⟹ answers (10 ∷ 12 ∷ []) ⟫ [])
+    ∷ (locates (hex "09 027831 0179 010161 02 0e02") 3 ⟹ refuses 14 at 0 of 0 ⟫ [])
+    ∷ (child (hex "09 027831 0179 010161 02 0e02") 2 ⟹ answers (hex "0e02") ⟫ [])
     ∷ (child (hex "03 010161 02") 0 ⟹ answers (hex "010161") ⟫ [])
     ∷ (child (hex "03 010161 02") 1 ⟹ answers (hex "02") ⟫ [])
     ∷ (child (hex "03 010161 02") 2 ⟹ refuses 14 at 0 of 0 ⟫ [])

@@ -3,6 +3,7 @@ pub mod Notation
 mod Patches
 mod Forms
 mod Steps
+mod Straights
 pub mod Called
 mod Faults
 mod Lent

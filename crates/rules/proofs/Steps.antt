@@ -88,6 +88,8 @@ table =
     -- the eight rules, each before any step in a part
     ∷ (ƛ "x" ⇒ v "x" · v "x") · R by App to R · R
     ∷ (lets "x" ﹐ "y" ≔ ⟨ v "y" ﹐ R ⟩ ⨟ v "x" · v "y") by Let to R · R
+    -- one name twice: the first value goes in everywhere
+    ∷ (lets "x" ﹐ "x" ≔ ⟨ a ﹐ v "b" ⟩ ⨟ v "x") by Let to a
     ∷ (cases one inl R of "x" ⇒ v "x" · v "y" or "y" ⇒ v "y" · v "x") by Case to R · v "y"
     ∷ (cases one inr R of "x" ⇒ v "x" · v "y" or "y" ⇒ v "y" · v "x") by Case to R · v "x"
     ∷ one fst ⟨ R ﹐ a ⟩ by Fst to R

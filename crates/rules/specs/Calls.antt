@@ -1,16 +1,16 @@
 -- Every public call: its answer, its output and its scratch, of all inputs and all lent buffers.
 -- Assumes nothing: these are definitions.
-use Prim.Native.Nat.{ℕ}
+use Prim.Native.Nat.{ℕ, _+_, _-_}
 use mathlib.Core.Bool.{Bool, _&&_}
-use mathlib.Core.List.{List, []}
+use mathlib.Core.List.{List, [], _∷_}
 use mathlib.Core.Option.{Option, none, some}
-use lib.ListN.{length, getElem?}
+use lib.ListN.{length, take, drop, getElem?}
 use Rattle.rules.specs.Basic.{Bytes, if_then_else_, _≤?_}
 use Rattle.rules.specs.Limits.{Limits, outputRoom, textRoom, formulaTextRoom, storedRoom, scratchRoom, entryRoom}
 use Rattle.rules.specs.Refusal.{Refusal, Outcome, good, refused, refuse, _>>=_, mapped, outgrows}
 use Rattle.rules.specs.Name.{encodeNames}
 use Rattle.rules.specs.Formula.{formulaNodes}
-use Rattle.rules.specs.Term.{Term, encode, nodes, parts, fits}
+use Rattle.rules.specs.Term.{Term, encode, nodes, size, names, parts, fits}
 use Rattle.rules.specs.Proof.{rules}
 use Rattle.rules.specs.Reading.{readTerm, readFormula, readProof, readName}
 use Rattle.rules.specs.Text.{text, formulaText}
@@ -18,6 +18,7 @@ use Rattle.rules.specs.Free.{free}
 use Rattle.rules.specs.Substitution.{subst}
 use Rattle.rules.specs.Step.{Rule, Stepped, normal, found, step, isNormal, stepFits}
 use Rattle.rules.specs.Reduction.{Counts, Reduced, stopped, outgrew, reduce}
+use Rattle.rules.specs.Straight.{straight}
 use Rattle.rules.specs.Extraction.{extractFrom}
 use Rattle.rules.specs.Stored.{Kind, stored, opened, readKind}
 use Rattle.rules.specs.Buffers.{Ending, answers, writesNothing, bytesOr, lent, filled, written, cleared, Wrote, wrote, Worked, worked}
@@ -68,7 +69,7 @@ substituteCall L t x v o s = worked o s (lent (workRoom L o s) (bytesOr (substit
 -- step: Normal, or Found with the rule and its place, and the new term's length.
 pub data StepAnswer : Type 0 where
   Normal : StepAnswer
-  Found : Rule → (place length : ℕ) → StepAnswer
+  Found : Rule → (place outputLength : ℕ) → StepAnswer
 
 abbrev pub stepEnding : Limits → Stepped → Ending StepAnswer
 stepEnding L normal = writesNothing (good Normal)
@@ -94,12 +95,12 @@ reduceEnding (outgrew n t) = record { says = refuse outgrows n 0; writes = some 
 -- 8 leaves the last term that fitted, so the length of what stands in the output is told beside the answer.
 pub record ReduceCall : Type 0 where
   pub answer : Outcome ReduceAnswer
-  pub length : ℕ
+  pub outputLength : ℕ
   pub output : Bytes
   pub scratch : Bytes
 
 abbrev pub reduceWith : (output scratch : Bytes) → Ending ReduceAnswer → ReduceCall
-reduceWith o s e = record { answer = e .says; length = written (e .writes); output = filled o (e .writes); scratch = cleared 0 s (e .says) }
+reduceWith o s e = record { answer = e .says; outputLength = written (e .writes); output = filled o (e .writes); scratch = cleared 0 s (e .says) }
 
 unfoldable pub reduceCall : Limits → (term : Bytes) → (limit : ℕ) → (output scratch : Bytes) → ReduceCall
 reduceCall L t n o s = reduceWith o s (lent (workRoom L o s) (readEnding (readTerm L 1 t) (λ u. reduceEnding (reduce L n u))))
@@ -108,31 +109,49 @@ reduceCall L t n o s = reduceWith o s (lent (workRoom L o s) (readEnding (readTe
 unfoldable pub isNormalCall : Limits → (term : Bytes) → Outcome Bool
 isNormalCall L t = mapped (λ u. isNormal (step u)) (readTerm L 1 t)
 
--- child: the part of the caller's bytes that is child k; 14 if the term has no such child.
-abbrev pub childOr : Option Term → Outcome Bytes
-childOr none = refuse 14 0 0
-childOr (some u) = good (encode u)
+-- is_straight (demand 3)
+unfoldable pub isStraightCall : Limits → (term : Bytes) → Outcome Bool
+isStraightCall L t = mapped straight (readTerm L 1 t)
 
-unfoldable pub childOf : Limits → (term : Bytes) → (k : ℕ) → Outcome Bytes
-childOf L t k = do
+-- Where a part stands in bytes: the place of its first byte, and the place after its last.
+pub record Places : Type 0 where
+  pub from : ℕ
+  pub end : ℕ
+
+-- The parts stand behind the tag and the names, one after the other.
+abbrev pub placesFrom : (place : ℕ) → List Term → List Places
+placesFrom i [] = []
+placesFrom i (t ∷ ts) = (record { from = i; end = i + size t }) ∷ placesFrom (i + size t) ts
+
+abbrev pub partPlaces : Term → List Places
+partPlaces t = placesFrom (1 + length (encodeNames (names t))) (parts t)
+
+-- 14: the term has no such child.
+abbrev pub orNoChild : Option Places → Outcome Places
+orNoChild none = refuse 14 0 0
+orNoChild (some p) = good p
+
+-- locate: where child k stands, counted from 0.
+unfoldable pub locateCall : Limits → (term : Bytes) → (k : ℕ) → Outcome Places
+locateCall L t k = do
   u ← readTerm L 1 t
-  childOr (getElem? (parts u) k)
+  orNoChild (getElem? (partPlaces u) k)
 
--- refused, an empty part
-abbrev pub orEmpty : Outcome Bytes → Bytes
-orEmpty (good s) = s
-orEmpty (refused r) = []
+-- child: the part of the caller's bytes that is child k; refused, an empty part.
+abbrev pub partOrEmpty : (bytes : Bytes) → Outcome Places → Bytes
+partOrEmpty s (good p) = take (p .end - p .from) (drop (p .from) s)
+partOrEmpty s (refused r) = []
 
+unfoldable pub childCall : Limits → (term : Bytes) → (k : ℕ) → Bytes
+childCall L t k = partOrEmpty t (locateCall L t k)
+
+-- a second call tells the number and place
 abbrev pub faultOf : {A : Type 0} → Outcome A → Option Refusal
 faultOf (good a) = none
 faultOf (refused r) = some r
 
-unfoldable pub childCall : Limits → (term : Bytes) → (k : ℕ) → Bytes
-childCall L t k = orEmpty (childOf L t k)
-
--- a second call tells the number and place
 unfoldable pub childFaultCall : Limits → (term : Bytes) → (k : ℕ) → Option Refusal
-childFaultCall L t k = faultOf (childOf L t k)
+childFaultCall L t k = faultOf (locateCall L t k)
 
 -- store: the content is a legal term or proof.
 unfoldable pub storeCall : Limits → Kind → (content output : Bytes) → Wrote ℕ

@@ -13,6 +13,7 @@ pub mod Free
 pub mod Substitution
 pub mod Step
 pub mod Reduction
+pub mod Straight
 pub mod Extraction
 pub mod Stored
 pub mod Buffers

@@ -29,7 +29,7 @@ abbrev pub padded : ℕ → Bytes → Bytes
 padded n s = take n s ‥ replicate (n - length s) 0
 
 -- kind, block number, content length L, 506 content bytes; then the check of these 510
-abbrev pub blockBody : Kind → (number length : ℕ) → (content : Bytes) → Bytes
+abbrev pub blockBody : Kind → (number contentLength : ℕ) → (content : Bytes) → Bytes
 blockBody k i n s = kindByte k ∷ i ∷ (low-high n ‥ padded blockContent (drop (blockContent * i) s))
 
 abbrev pub block : Kind → (number : ℕ) → (content : Bytes) → Bytes

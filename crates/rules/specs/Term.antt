@@ -120,7 +120,16 @@ nodes (branch x y e l r) = 1 + (nodes e + (nodes l + nodes r))
 abbrev pub size : Term → ℕ
 size t = length (encode t)
 
--- the parts of a node, counted from 0
+-- the names of a node; its parts, counted from 0
+abbrev pub names : Term → List Name
+names (var x) = x ∷ []
+names (leaf k) = []
+names (one k e) = []
+names (two k a b) = []
+names (abs x e) = x ∷ []
+names (both k x y e b) = x ∷ y ∷ []
+names (branch x y e l r) = x ∷ y ∷ []
+
 abbrev pub parts : Term → List Term
 parts (var x) = []
 parts (leaf k) = []

@@ -10,8 +10,8 @@ use Rattle.rules.specs.Basic.{_‥_}
 use Rattle.rules.specs.Name.{Name, same}
 use Rattle.rules.specs.Term.{Term, var, leaf, one, two, abs, both, branch}
 use Rattle.rules.specs.Free.{occurrences}
+use Rattle.rules.specs.Straight.{Binder, binders, count, stands, plain, Each, Once, Straight}
 use Rattle.laws.specs.Same.{same-equal, same-itself}
-use Rattle.straight.specs.Straight.{Binder, binders, count, stands, plain, Each, Once, Straight}
 use Rattle.straight.specs.Weights.{weigh, usesOf, standsOf, uses-weigh, stands-weigh}
 use Rattle.straight.specs.FreeAfter.{flag, shown, shown-most, free-most}
 use Rattle.straight.specs.Counted.{Bound, Counted, part-one, part-left, part-right, part-abs, part-first, part-second, just-self, own-abs, own-first, own-second}

@@ -13,11 +13,10 @@ use Rattle.rules.specs.Term.{Term, encode, fits}
 use Rattle.rules.specs.Legal.{Legal}
 use Rattle.rules.specs.Reading.{readTerm}
 use Rattle.rules.specs.Reduction.{Reduced, reduce}
-use Rattle.rules.specs.Calls.{workRoom, reduceEnding, reduceWith, reduceCall, ReduceCall}
+use Rattle.rules.specs.Straight.{Straight, straight}
+use Rattle.rules.specs.Calls.{workRoom, reduceEnding, reduceWith, reduceCall, ReduceCall, isStraightCall}
 use Rattle.laws.specs.Fits.{fits-accepted, accepted-fits}
 use Rattle.laws.specs.Decoding.{term-sound, term-complete}
-use Rattle.straight.specs.Straight.{Straight, straight}
-use Rattle.straight.specs.Call.{isStraightCall}
 use Rattle.straight.specs.Decides.{straight-decides}
 use Rattle.straight.specs.Promise.{StraightCall}
 use Rattle.straight.specs.Reducing.{straight-reduction}
@@ -37,7 +36,7 @@ module _ (L : Limits) (t : Term) (limit : ℕ) (i o s : Bytes) where
       record {
         reduction = r;
         answer = ap (λ (z : ReduceCall). z .answer) c;
-        length = ap (λ (z : ReduceCall). z .length) c;
+        outputLength = ap (λ (z : ReduceCall). z .outputLength) c;
         output = ap (λ (z : ReduceCall). z .output) c;
         reads = term-complete L 1 (encode (r .result)) (r .result) (fits-accepted L (r .result) (r .legal (a .legal)) (r .fits));
       }

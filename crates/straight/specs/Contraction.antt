@@ -15,8 +15,8 @@ use Rattle.rules.specs.Substitution.{subst}
 use Rattle.rules.specs.declared.Rule.{Rule}
 use Rattle.rules.specs.declared.Rule.the-variants.{App, Let, Case, Fst, Snd, Derelict, Copy, Discard}
 use Rattle.rules.specs.Step.{Contraction, no, by, contract}
+use Rattle.rules.specs.Straight.{plain}
 use Rattle.laws.specs.Same.{same-equal}
-use Rattle.straight.specs.Straight.{plain}
 use Rattle.straight.specs.Weights.{Weight, weigh, standsOf}
 use Rattle.straight.specs.FreeAfter.{shown, shown-all, free-all}
 use Rattle.straight.specs.Counted.{Counted, part-one, part-left, part-right, part-abs, part-first, part-second, just-self, own-abs, own-first, own-second}

@@ -8,8 +8,8 @@ use native.Mathlib.Omega.{arith}
 use Rattle.rules.specs.Name.{Name, same}
 use Rattle.rules.specs.Term.{Term, one, two, abs, both, One, Two, Both}
 use Rattle.rules.specs.Free.{occurrences}
+use Rattle.rules.specs.Straight.{plain, plainOne, plainTwo, plainBoth}
 use Rattle.laws.specs.Same.{both-true, same-itself}
-use Rattle.straight.specs.Straight.{plain, plainOne, plainTwo, plainBoth}
 use Rattle.straight.specs.Weights.{weigh, just, usesOf, standsOf}
 use Rattle.straight.specs.FreeAfter.{shown-all, flag-or, free-all}
 

@@ -7,8 +7,8 @@ use mathlib.Core.List.{List, [], _∷_}
 use borrow.Author.Tests.{eqb-true, eq-eqb}
 use Rattle.rules.specs.Basic.{_==_}
 use Rattle.rules.specs.Term.{Term}
+use Rattle.rules.specs.Straight.{Binder, binders, stands, uses, plain, Each, Once, Straight, every, once, straight}
 use Rattle.laws.specs.Same.{both-true}
-use Rattle.straight.specs.Straight.{Binder, binders, stands, uses, plain, Each, Once, Straight, every, once, straight}
 
 every-each : {A : Type 0} (P : A → Type 0) (p : A → Bool) (xs : List A) → ((x : A) → (p x ≡ true) ↔ P x) → (every p xs ≡ true) ↔ Each P xs
 every-each P p [] d = (λ h. tt, λ h. refl)

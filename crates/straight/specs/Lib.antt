@@ -1,5 +1,3 @@
-pub mod Straight
-pub mod Call
 pub mod Promise
 pub mod Weights
 pub mod FreeAfter

@@ -12,7 +12,7 @@ use Rattle.rules.specs.Free.{occurrences}
 use Rattle.rules.specs.Substitution.{subst}
 use Rattle.rules.specs.Step.{contract, step}
 use Rattle.rules.specs.Reduction.{Reduced, stopped, outgrew, reduceFrom, reduce}
-use Rattle.straight.specs.Straight.{binders, variables, count, stands, uses, plain, every, once, straight}
+use Rattle.rules.specs.Straight.{binders, variables, count, stands, uses, plain, every, once, straight}
 
 pub data Condition : Type 0 where
   no-case-fst-snd-discard-copy one-place used-once inside : Condition

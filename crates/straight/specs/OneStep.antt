@@ -11,8 +11,8 @@ use Rattle.rules.specs.Term.{Term, var, leaf, one, two, abs, both, branch, prom
 use Rattle.rules.specs.Free.{occurrences}
 use Rattle.rules.specs.declared.Rule.{Rule}
 use Rattle.rules.specs.Step.{Contraction, no, by, contract, Stepped, normal, found, here, orElse, inPart, nameBytes, step}
+use Rattle.rules.specs.Straight.{plain, plainOne, plainTwo, plainBoth}
 use Rattle.laws.specs.Same.{both-true}
-use Rattle.straight.specs.Straight.{plain, plainOne, plainTwo, plainBoth}
 use Rattle.straight.specs.Weights.{Weight, weigh}
 use Rattle.straight.specs.Counted.{Counted, part-one, part-left, part-right, part-abs, part-first, part-second}
 use Rattle.straight.specs.Contraction.{Taken, Made, made-let, made-derelict, made-two}

@@ -19,7 +19,7 @@ use Rattle.rules.specs.Step.{step, isNormal, stepFits}
 use Rattle.rules.specs.Reduction.{stopped, reduce}
 use Rattle.rules.specs.Buffers.{filled}
 use Rattle.rules.specs.Calls.{reduceCall}
-use Rattle.straight.specs.Straight.{stands, Straight}
+use Rattle.rules.specs.Straight.{stands, Straight}
 
 -- The nodes before and after a step: 3 fewer by an application, 4 by a pair, 2 by a derelict. The five other rules do not occur.
 abbrev pub Loses : Rule → (before after : ℕ) → Type 0
@@ -76,7 +76,7 @@ pub record StraightCall (L : Limits) (t : Term) (limit : ℕ) (i o s : Bytes) : 
         counts = only (reduction .app) (reduction .lets) (reduction .derelict);
         noneLeft = reduction .noneLeft;
       })
-  pub length : reduceCall L i limit o s .length ≡ size (reduction .result)
+  pub outputLength : reduceCall L i limit o s .outputLength ≡ size (reduction .result)
   pub output : reduceCall L i limit o s .output ≡ filled o (some (encode (reduction .result)))
   -- the result's bytes are read as the result again
   pub reads : readTerm L 1 (encode (reduction .result)) ≡ good (reduction .result)

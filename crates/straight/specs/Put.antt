@@ -9,8 +9,8 @@ use Rattle.rules.specs.Name.{Name, same}
 use Rattle.rules.specs.Term.{Term, var, leaf, one, two, abs, both, branch}
 use Rattle.rules.specs.Free.{occurrences}
 use Rattle.rules.specs.Substitution.{subst}
+use Rattle.rules.specs.Straight.{plain, plainOne, plainTwo, plainBoth}
 use Rattle.laws.specs.Same.{both-true, same-equal}
-use Rattle.straight.specs.Straight.{plain, plainOne, plainTwo, plainBoth}
 use Rattle.straight.specs.Weights.{Weight, weigh, weigh-subst}
 use Rattle.straight.specs.FreeAfter.{flag, shown, NoCatch, frees-subst}
 

@@ -15,9 +15,9 @@ use Rattle.rules.specs.declared.Rule.the-variants.{App, Let, Case, Fst, Snd, De
 use Rattle.rules.specs.declared.Counts.{Counts}
 use Rattle.rules.specs.Step.{Stepped, normal, found, step, isNormal, halfFits, stepFits}
 use Rattle.rules.specs.Reduction.{plus, stopped, reduceFrom}
+use Rattle.rules.specs.Straight.{stands, Straight}
 use Rattle.laws.specs.Same.{both-true}
 use Rattle.laws.specs.StepLegal.{step-legal}
-use Rattle.straight.specs.Straight.{stands, Straight}
 use Rattle.straight.specs.Promise.{Loses, StraightStep, only, StraightReduction}
 use Rattle.straight.specs.OneStep.{Meets}
 use Rattle.straight.specs.StepKept.{one-step}

@@ -15,8 +15,8 @@ use Rattle.rules.specs.Term.{Term, nodes, size, fits}
 use Rattle.rules.specs.declared.Rule.{Rule}
 use Rattle.rules.specs.declared.Rule.the-variants.{App, Let, Case, Fst, Snd, Derelict, Copy, Discard}
 use Rattle.rules.specs.Step.{Stepped, normal, found, step, halfFits, stepFits}
+use Rattle.rules.specs.Straight.{plain, Straight}
 use Rattle.laws.specs.Same.{both-true}
-use Rattle.straight.specs.Straight.{plain, Straight}
 use Rattle.straight.specs.Promise.{Loses, StraightStep}
 use Rattle.straight.specs.Weights.{Weight, weigh, standsOf, nodesOf, bytesOf, usesOf, nodes-weigh, bytes-weigh, stands-weigh}
 use Rattle.straight.specs.Counted.{Counted}

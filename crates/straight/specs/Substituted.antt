@@ -7,7 +7,7 @@ use Rattle.rules.specs.Name.{Name}
 use Rattle.rules.specs.Term.{Term}
 use Rattle.rules.specs.Free.{occurrences}
 use Rattle.rules.specs.Substitution.{subst}
-use Rattle.straight.specs.Straight.{stands, uses}
+use Rattle.rules.specs.Straight.{stands, uses}
 use Rattle.straight.specs.Weights.{just, usesOf, standsOf, uses-weigh, stands-weigh, weigh-subst}
 use Rattle.straight.specs.FreeAfter.{free-most, free-all, frees-subst}
 

@@ -13,8 +13,8 @@ use Rattle.rules.specs.Name.{Name, same}
 use Rattle.rules.specs.Term.{Term, var, leaf, one, two, abs, both, branch, encode, nodes, size}
 use Rattle.rules.specs.Free.{occurrences}
 use Rattle.rules.specs.Substitution.{subst}
+use Rattle.rules.specs.Straight.{Binder, binders, variables, count, stands, uses}
 use Rattle.laws.specs.Same.{same-equal}
-use Rattle.straight.specs.Straight.{Binder, binders, variables, count, stands, uses}
 
 pub record Weight : Type 0 where
   -- of a node that is no variable; of a variable; of a name at a binder

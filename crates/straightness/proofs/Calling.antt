@@ -9,13 +9,12 @@ use Rattle.rules.specs.declared.Answer.the-variants.{Good, Refused}
 use Rattle.rules.specs.Refusal.{answered}
 use Rattle.rules.specs.Term.{Term, nodes}
 use Rattle.rules.specs.Reading.{readTerm}
-use Rattle.rules.specs.Calls.{checkTermCall}
+use Rattle.rules.specs.Straight.{straight}
+use Rattle.rules.specs.Calls.{checkTermCall, isStraightCall}
 use Rattle.laws.specs.Decoding.{term-sound}
 use Rattle.reader.specs.Accepted.{Accepts, accepts, refuses}
 use Rattle.walk.specs.Place.{TermAt}
 use Rattle.walk.proofs.Terms.{whole}
-use Rattle.straight.specs.Straight.{straight}
-use Rattle.straight.specs.Call.{isStraightCall}
 use Rattle.straightness.specs.declared.Verdict.the-variants.{Good as Yes, Refused as Not}
 use Rattle.straightness.specs.Verdict.{verdict}
 

@@ -7,12 +7,12 @@ use native.Mathlib.Omega.{arith}
 use lib.ListN.{length, getD}
 use Rattle.rules.specs.Name.{Name}
 use Rattle.rules.specs.Term.{Term, var, leaf, one, two, abs, both, branch, unit, trivial, inl, inr, fst, snd, abort, promote, derelict, pair, app, discard, letPair, copy, parts}
+use Rattle.rules.specs.Straight.{_over_, once}
 use Rattle.walk.specs.Node.{tag, names, namesAfter, partsAfter}
 use Rattle.walk.specs.Place.{TermAt, TermsAt, NamesAt, NameAt}
 use Rattle.walk.specs.declared.Row.{Row}
 use Rattle.walk.proofs.Names.{AfterIs, first-name, other-names, name-end}
 use Rattle.walk.proofs.Terms.{Some, SkipIs, some-alone, skip-one, first, others, at-tag, at-names, at-parts, at-count-names, at-count-parts}
-use Rattle.straight.specs.Straight.{_over_, once}
 use Rattle.uses.specs.Node.{plainTag, passesIn}
 use Rattle.one_binder.specs.Place.{Within, Binds}
 use Rattle.straightness.proofs.StraightRows.{RowIs}

@@ -6,11 +6,11 @@ use mathlib.Core.List.{List, [], _∷_, _++_}
 use native.Mathlib.Omega.{arith}
 use lib.ListN.{length}
 use Rattle.rules.specs.Term.{Term, var, leaf, one, two, abs, both, branch, parts}
+use Rattle.rules.specs.Straight.{Binder, _over_, binders, plain, every, once, straight}
 use Rattle.walk.specs.Node.{head}
 use Rattle.walk.specs.Place.{TermAt, TermsAt}
 use Rattle.walk.specs.declared.Row.{Row}
 use Rattle.walk.proofs.Terms.{Some, some-first, some-fits, first, unrolled, alone, at-end, apart-size}
-use Rattle.straight.specs.Straight.{Binder, _over_, binders, plain, every, once, straight}
 use Rattle.uses.specs.Node.{ownPlain, ownBinders, passesIn}
 use Rattle.one_binder.specs.Place.{Within}
 

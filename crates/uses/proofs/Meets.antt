@@ -6,10 +6,10 @@ use native.Mathlib.Omega.{arith}
 use lib.ListN.{length, getD}
 use Rattle.rules.specs.Name.{Name}
 use Rattle.rules.specs.Term.{Term, var, leaf, one, two, abs, both, branch, parts}
+use Rattle.rules.specs.Straight.{count}
 use Rattle.walk.specs.Node.{names, namesAfter, partsAfter}
 use Rattle.walk.specs.Place.{TermAt}
 use Rattle.walk.proofs.Terms.{at-tag, at-names, at-count-names, at-count-parts}
-use Rattle.straight.specs.Straight.{count}
 use Rattle.uses.specs.Node.{ownVariables, ownBinders}
 use Rattle.uses.specs.Counts.{PastNames, AtNode}
 use Rattle.uses.proofs.NameRows.{PassIs}

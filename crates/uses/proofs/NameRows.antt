@@ -7,9 +7,9 @@ use native.Mathlib.Omega.{arith}
 use lib.ListN.{length-append}
 use Rattle.rules.specs.Basic.{if_then_else_}
 use Rattle.rules.specs.Name.{Name, same, encodeName, encodeNames}
+use Rattle.rules.specs.Straight.{count}
 use Rattle.walk.specs.Place.{NameAt, NamesAt}
 use Rattle.walk.proofs.Names.{AfterIs, first-name, other-names, some-name, name-end}
-use Rattle.straight.specs.Straight.{count}
 use Rattle.uses.specs.Counts.{PastNames}
 
 abbrev Some : List ℕ → ℕ → ℕ → Type 0

@@ -6,10 +6,10 @@ use native.Mathlib.Omega.{arith}
 use lib.ListN.{length, length-append}
 use Rattle.rules.specs.Name.{Name, same, encodeName, encodeNames}
 use Rattle.rules.specs.Term.{Term, var, leaf, one, two, abs, both, branch, parts}
+use Rattle.rules.specs.Straight.{count, uses, stands}
 use Rattle.walk.specs.Node.{names}
 use Rattle.walk.specs.Place.{TermAt, TermsAt}
 use Rattle.walk.proofs.Terms.{Some, some-first, some-fits, first, unrolled, alone, at-end, apart-size}
-use Rattle.straight.specs.Straight.{count, uses, stands}
 use Rattle.straight.specs.Weights.{weigh, usesOf, standsOf, uses-weigh, stands-weigh}
 use Rattle.uses.specs.declared.Met.{Met}
 use Rattle.uses.specs.Node.{ownVariables, ownBinders}

@@ -5,8 +5,8 @@ use mathlib.Core.List.{List, map}
 use lib.ListN.{length}
 use Rattle.rules.specs.Name.{Name, encodeNames}
 use Rattle.rules.specs.Term.{Term, parts}
+use Rattle.rules.specs.Straight.{count, stands, uses}
 use Rattle.walk.specs.Node.{head}
-use Rattle.straight.specs.Straight.{count, stands, uses}
 use Rattle.uses.specs.Node.{ownVariables, ownBinders}
 use Rattle.uses.specs.declared.Passed.{Passed}
 use Rattle.uses.specs.declared.Met.{Met}

@@ -6,7 +6,7 @@ use mathlib.Core.List.{List, [], _∷_}
 use Rattle.rules.specs.Basic.{if_then_else_, _==_}
 use Rattle.rules.specs.Name.{Name}
 use Rattle.rules.specs.Term.{Term, var, leaf, one, two, abs, both, branch}
-use Rattle.straight.specs.Straight.{Binder, _over_, plainOne, plainTwo, plainBoth, every, once}
+use Rattle.rules.specs.Straight.{Binder, _over_, plainOne, plainTwo, plainBoth, every, once}
 
 abbrev pub ownVariables : Term → List Name
 ownVariables (var x) = x ∷ []

@@ -6,6 +6,7 @@ use mathlib.Core.List.{List, [], _∷_}
 use Rattle.rules.specs.Basic.{Bytes, if_then_else_, _‥_, _==_}
 use Rattle.rules.specs.Name.{Name, same, encodeNames}
 use Rattle.rules.specs.Term.{Term, var, leaf, one, two, abs, both, branch, leafTag, oneTag, twoTag, bothTag, encode}
+pub use Rattle.rules.specs.Term.{names}
 
 abbrev pub tag : Term → ℕ
 tag (var x) = 1
@@ -15,15 +16,6 @@ tag (two k a b) = twoTag k
 tag (abs x e) = 5
 tag (both k x y e b) = bothTag k
 tag (branch x y e l r) = 9
-
-abbrev pub names : Term → List Name
-names (var x) = x ∷ []
-names (leaf k) = []
-names (one k e) = []
-names (two k a b) = []
-names (abs x e) = x ∷ []
-names (both k x y e b) = x ∷ y ∷ []
-names (branch x y e l r) = x ∷ y ∷ []
 
 abbrev pub head : Term → Bytes
 head t = tag t ∷ encodeNames (names t)

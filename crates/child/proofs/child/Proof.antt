@@ -1,6 +1,6 @@
 -- `child::child` meets its contract: the part that was located, or none. Assumes nothing.
 use denote.Ref.{now}
-use Rattle.child.proofs.Children.{part, part-is, missing-is}
+use Rattle.child.proofs.Children.{part-ordered, part-within, part-is, missing-is}
 use borrow.Author.Needs.{needs}
 use Rattle.child.proofs.child.Statement.{statement}
 use Rattle.child.proofs.child.Tie as tie
@@ -12,13 +12,13 @@ enum-known-from : tie.Need-enum-known-from
 enum-known-from c = search needs
 
 sub-result : tie.Need-sub-result
-sub-result c = part (now (c .before .before .before .before .before .args .term)) (c .before .before .before .before .before .args .k) _ (c .before .before .before .locate .ensures) _ _ (c .before .from .given .1) .ordered
+sub-result c = part-ordered (now (c .before .before .before .before .before .args .term)) (c .before .before .before .before .before .args .k) _ (c .before .before .before .locate .ensures) _ _ (c .before .from .given .1)
 
 part-result-start : tie.Need-part-result-start
-part-result-start c = part (now (c .before .before .before .before .before .args .term)) (c .before .before .before .before .before .args .k) _ (c .before .before .before .locate .ensures) _ _ (c .before .from .given .1) .ordered
+part-result-start c = part-ordered (now (c .before .before .before .before .before .args .term)) (c .before .before .before .before .before .args .k) _ (c .before .before .before .locate .ensures) _ _ (c .before .from .given .1)
 
 part-result-end : tie.Need-part-result-end
-part-result-end c = part (now (c .before .before .before .before .before .args .term)) (c .before .before .before .before .before .args .k) _ (c .before .before .before .locate .ensures) _ _ (c .before .from .given .1) .within
+part-result-end c = part-within (now (c .before .before .before .before .before .args .term)) (c .before .before .before .before .before .args .k) _ (c .before .before .before .locate .ensures) _ _ (c .before .from .given .1)
 
 enum-told : tie.Need-enum-told
 enum-told c = search needs

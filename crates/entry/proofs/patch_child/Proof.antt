@@ -1,16 +1,20 @@
 -- `entry::patch_child` meets its contract: what it tells is the piece that was located. Assumes nothing.
 use Prim.Native.Nat.{ℕ}
+use mathlib.Core.Path.{_≡_, refl, ap, _∙_}
 use borrow.Author.Needs.{needs}
 use Rattle.rules.specs.Basic.{Bytes}
-use Rattle.child.specs.Child.{Located}
+use Rattle.rules.specs.Limits.{limits}
+use Rattle.rules.specs.Calls.{locateCall}
+use Rattle.child.specs.Child.{pieceOf}
 use Rattle.child.specs.declared.Piece.{Piece}
 use Rattle.child.specs.declared.Piece.the-variants.{Part, Missing}
-use Rattle.told.specs.Child.{ordered}
+use Rattle.child.proofs.Children.{part-ordered}
+use Rattle.told.specs.Child.{ordered, toldPiece}
 use Rattle.entry.proofs.patch_child.Statement.{statement}
 use Rattle.entry.proofs.patch_child.Tie as tie
 
-in-order : (s : Bytes) (k : ℕ) (p : Piece) → Located s k p → ordered p
-in-order s k (Part a b) h = h .ordered
+in-order : (s : Bytes) (k : ℕ) (p : Piece) → p ≡ pieceOf (locateCall limits s k) → ordered p
+in-order s k (Part a b) h = part-ordered s k (Part a b) h a b refl
 in-order s k (Missing r) h = tt
 
 locate-requires : tie.Need-locate-requires
@@ -20,7 +24,7 @@ tell-piece-requires : tie.Need-tell-piece-requires
 tell-piece-requires c κs = in-order _ _ (c .before .locate .result) (c .before .locate .ensures)
 
 returns : tie.Need-returns
-returns c = search needs
+returns c = c .tell-piece .ensures ∙ ap toldPiece (c .before .before .locate .ensures)
 
 pub patch-child-spec : {M : Type 1} → statement M
 patch-child-spec = tie.close (tie.spec locate-requires tell-piece-requires returns)
