@@ -10,12 +10,6 @@ pub struct CutEntry {
     pub counter: u32,
 }
 
-pub fn row_len(row: &[CutEntry]) -> usize
-    ensures { λ r. ⌜ r ≡ length (now (row .entry)) ⌝ }
-{
-    row.len()
-}
-
 pub fn entry_at(row: &[CutEntry], i: usize) -> CutEntry
     requires { ⌜ i < length (now row) ⌝ }
     ensures { λ r. ⌜ r ≡ getD (now (row .entry)) i none ⌝ }

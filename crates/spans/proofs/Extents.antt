@@ -11,7 +11,7 @@ use Rattle.walk.specs.Place.{TermAt, TermsAt, NameAt, NamesAt}
 use Rattle.walk.proofs.Names.{AfterIs, first-name, other-names, name-end}
 use Rattle.walk.proofs.Terms.{Some, apart-size, encodeAll-append, at-count-parts, first, others, unrolled, starts, alone}
 use Rattle.spans.specs.declared.Extent.{Extent}
-use Rattle.spans.specs.Measured.{Measured, MeasuredTwo, MeasuredThree, Named}
+use Rattle.spans.specs.Measured.{Measured, MeasuredTwo, Named}
 
 abbrev nodesAll : List Term → ℕ
 nodesAll [] = 0
@@ -91,7 +91,7 @@ module _ (s : List ℕ) (at i n count q p h : ℕ) (g : Going s at i n count) (l
         rest = λ r m f ts w. let e = g .rest r (1 + m) (so-rest r m f) ts w in (e .0, omega (arith, e .1));
       }
 
--- ---- two terms in a row, and three
+-- ---- two terms in a row
 
 -- what `span` ensures
 abbrev pub ExtentIs : List ℕ → ℕ → Extent → Type 0
@@ -110,19 +110,6 @@ module _ (s : List ℕ) (i : ℕ) (ra : Extent) (fa : ExtentIs s i ra) where
         let e = fa a (first s i 2 a (b ∷ []) w) in
         let f = fb b (row-second 2 a b [] w) in
         record { second = e .next; end = f .next; a-nodes = e .nodes; b-nodes = f .nodes }
-
-    pub row-third : (a b d : Term) → TermsAt s i 3 (a ∷ b ∷ d ∷ []) → TermAt s (rb .next) d
-    row-third a b d w =
-        let v = row-later 3 a (b ∷ d ∷ []) w in
-        first s (rb .next) 1 d [] (others s (ra .next) 2 b (d ∷ []) v (rb .next) (fb b (row-second 3 a b (d ∷ []) w) .next))
-
-    pub all-measured : (rd : Extent) → ExtentIs s (rb .next) rd → (a b d : Term) → TermsAt s i 3 (a ∷ b ∷ d ∷ [])
-        → MeasuredThree i a b d (record { second = ra .next; third = rb .next; end = rd .next; a = ra .nodes; b = rb .nodes; c = rd .nodes })
-    all-measured rd fd a b d w =
-        let e = fa a (first s i 3 a (b ∷ d ∷ []) w) in
-        let f = fb b (row-second 3 a b (d ∷ []) w) in
-        let g = fd d (row-third a b d w) in
-        record { second = e .next; third = f .next; end = g .next; a-nodes = e .nodes; b-nodes = f .nodes; c-nodes = g .nodes }
 
 -- ---- two names in a row
 

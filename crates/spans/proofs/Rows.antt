@@ -13,10 +13,9 @@ use Rattle.rules.specs.Step.{nameBytes}
 use Rattle.walk.specs.Node.{head}
 use Rattle.walk.specs.Place.{TermAt, TermsAt, NameAt, NamesAt}
 use Rattle.walk.proofs.Names.{AfterIs, drop-app, first-name, other-names, name-end}
-use Rattle.walk.proofs.Terms.{at-tag, at-inside, at-names, at-parts, first, others, unrolled}
-use Rattle.spans.specs.Measured.{MeasuredTwo, MeasuredThree, Named}
+use Rattle.walk.proofs.Terms.{at-tag, at-inside, at-names, at-parts, first, unrolled}
+use Rattle.spans.specs.Measured.{MeasuredTwo, Named}
 use Rattle.spans.specs.declared.Two.{Two as Spans}
-use Rattle.spans.specs.declared.Three.{Three as Spans3}
 use Rattle.spans.specs.declared.Names.{Names}
 
 -- the bytes of a name, and of a term, as a part of a slice
@@ -98,16 +97,6 @@ pub record InThree (src : Bytes) (place at heads : ℕ) (t a b d : Term) : Type 
 module _ {src : Bytes} {place at heads : ℕ} {t a b : Term} (i : InTwo src place at heads t a b) {r : Spans} (m : MeasuredTwo at a b r) where
   pub a-at : TermAt src at a
   a-at = first src at 2 a (b ∷ []) (i .row)
-
-module _ {src : Bytes} {place at heads : ℕ} {t a b d : Term} (i : InThree src place at heads t a b d) {r : Spans3} (m : MeasuredThree at a b d r) where
-  later : TermsAt src (r .second) 2 (b ∷ d ∷ [])
-  later = others src at 3 a (b ∷ d ∷ []) (i .row) (r .second) (m .second)
-
-  pub first-at : TermAt src at a
-  first-at = first src at 3 a (b ∷ d ∷ []) (i .row)
-
-  pub second-at : TermAt src (r .second) b
-  second-at = first src (r .second) 2 b (d ∷ []) later
 
 -- the parts of the first part, then the others
 row : (src : Bytes) (place : ℕ) (t : Term) → TermAt src place t → (u : Term) (ts : List Term) → parts t ≡ u ∷ ts

@@ -6,7 +6,6 @@ use Rattle.rules.specs.Term.{Term, nodes, size}
 use Rattle.rules.specs.Step.{nameBytes}
 use Rattle.spans.specs.declared.Extent.{Extent}
 use Rattle.spans.specs.declared.Two.{Two}
-use Rattle.spans.specs.declared.Three.{Three}
 use Rattle.spans.specs.declared.Names.{Names}
 
 -- of the term t at `at`
@@ -14,20 +13,12 @@ pub record Measured (at : ℕ) (t : Term) (r : Extent) : Type 0 where
   pub next : r .next ≡ at + size t
   pub nodes : r .nodes ≡ nodes t
 
--- of the terms a and b in a row at `at`; of a, b and c
+-- of the terms a and b in a row at `at`
 pub record MeasuredTwo (at : ℕ) (a b : Term) (r : Two) : Type 0 where
   pub second : r .second ≡ at + size a
   pub end : r .end ≡ r .second + size b
   pub a-nodes : r .a ≡ nodes a
   pub b-nodes : r .b ≡ nodes b
-
-pub record MeasuredThree (at : ℕ) (a b c : Term) (r : Three) : Type 0 where
-  pub second : r .second ≡ at + size a
-  pub third : r .third ≡ r .second + size b
-  pub end : r .end ≡ r .third + size c
-  pub a-nodes : r .a ≡ nodes a
-  pub b-nodes : r .b ≡ nodes b
-  pub c-nodes : r .c ≡ nodes c
 
 -- of the names x and y in a row at `at`
 pub record Named (at : ℕ) (x y : Name) (r : Names) : Type 0 where

@@ -4,7 +4,7 @@ ghost use Prim.Native.Nat.{_+_};
 ghost use Rattle.rules.specs.Name.{Name};
 ghost use Rattle.rules.specs.Term.{Term};
 ghost use Rattle.walk.specs.Place.{TermAt, TermsAt, NamesAt};
-ghost use Rattle.spans.specs.Measured.{Measured, MeasuredTwo, MeasuredThree, Named};
+ghost use Rattle.spans.specs.Measured.{Measured, MeasuredTwo, Named};
 
 // The place after a term, and its nodes.
 pub struct Extent {
@@ -50,33 +50,6 @@ pub fn span_two(s: &[u8], at: usize) -> Two
         end: b.next,
         a: a.nodes,
         b: b.nodes,
-    }
-}
-
-// Three terms in a row: where the second and the third start, where that ends, and the nodes of each.
-pub struct Three {
-    pub second: usize,
-    pub third: usize,
-    pub end: usize,
-    pub a: usize,
-    pub b: usize,
-    pub c: usize,
-}
-
-pub fn span_three(s: &[u8], at: usize) -> Three
-    requires { ⌜ ((a : Term) × (b : Term) × (c : Term) × TermsAt (now s) at 3 (a ∷ b ∷ c ∷ [])) ⌝ }
-    ensures { λ r. ⌜ ((a : Term) → (b : Term) → (c : Term) → TermsAt (now (s .entry)) at 3 (a ∷ b ∷ c ∷ []) → MeasuredThree at a b c r) ⌝ }
-{
-    let a = span(s, at);
-    let b = span(s, a.next);
-    let c = span(s, b.next);
-    Three {
-        second: a.next,
-        third: b.next,
-        end: c.next,
-        a: a.nodes,
-        b: b.nodes,
-        c: c.nodes,
     }
 }
 
