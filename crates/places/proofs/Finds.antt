@@ -20,6 +20,7 @@ use Rattle.walk.proofs.Terms.{SkipIs, skip-one, apart-size, at-inside, at-end, 
 use Rattle.places.specs.Places.{places, openPlaces, placesAll, Row, Finding}
 use Rattle.places.proofs.Shapes.{var-places, places-many}
 use Rattle.places.proofs.Nodes as seen
+pub use Rattle.walk.proofs.Terms.{whole}
 
 -- a name has no more places in a term than that has nodes
 pub places-few : (x : Name) (t : Term) (i : ℕ) → length (places x t i) ≤ nodes t
