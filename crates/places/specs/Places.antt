@@ -8,7 +8,7 @@ use Rattle.rules.specs.Limits.{limits}
 use Rattle.rules.specs.Name.{Name, same}
 use Rattle.rules.specs.Term.{Term, var, leaf, one, two, abs, both, branch, size}
 use Rattle.rules.specs.Step.{nameBytes}
-use lib.ListN.{length}
+use lib.ListN.{length, take}
 use Rattle.walk.specs.Node.{hidden}
 use Rattle.walk.specs.Place.{TermAt}
 
@@ -39,6 +39,11 @@ placesAll x m (t ∷ ts) at = openPlaces x m t at ‥ placesAll x (m / 2) ts (at
 -- a row lent for places: as many as a term may have nodes
 abbrev pub Row : List ℕ → Type 0
 Row row = length row ≡ limits .nodes
+
+-- the first `count` of a row are ps
+pub record Held (row : List ℕ) (count : ℕ) (ps : List ℕ) : Type 0 where
+  pub are : take count row ≡ ps
+  pub inside : count ≤ length row
 
 -- a term stands at `at`, and there is room for its places from `to` on
 pub record Finding (s : Bytes) (at mask : ℕ) (x : Name) (row : List ℕ) (to : ℕ) : Type 0 where

@@ -18,11 +18,11 @@ use Rattle.rules.specs.Substitution.{subst}
 use Rattle.laws.specs.Same.{both-true}
 use Rattle.runs.specs.Wrote.{Wrote}
 use Rattle.runs.specs.Writing.{wrote-length, filled-up}
-use Rattle.places.specs.Places.{places, Row}
+use Rattle.places.specs.Places.{places, Row, Held}
 use Rattle.splice.specs.Spliced.{spliced, Left}
 use Rattle.splice.specs.Sizes.{Growth}
 use Rattle.substitution.specs.Work.{Job, Done}
-use Rattle.places.proofs.Writes.{wrote-part, zeros}
+use Rattle.places.proofs.Writes.{held, from-start, zeros}
 use Rattle.places.proofs.Shapes.{places-many}
 use Rattle.splice.proofs.Splices.{spliced-term, spaced-term}
 use Rattle.places.proofs.Finds.{places-few}
@@ -46,20 +46,17 @@ module _ {term name value out : Bytes} {n m : ℕ} {t v : Term} (j : Job term na
         small = (omega (arith, j .term-in .short), omega (arith, j .count, j .term-in .few), omega (arith, j .value-in .short), omega (arith, j .value-count, j .value-in .few));
       }
 
-  within : count ≤ 512
-  within = omega (arith, are .ends, places-few name t 0, j .term-in .few)
-
-  row-long : length row₁ ≡ 512
-  row-long = wrote-length are ∙ long
+  kept : Held row₁ count (places name t 0)
+  kept = held are (omega (arith, are .ends, places-few name t 0, j .term-in .few, long))
 
   pub count-within : count ≤ length row₁
-  count-within = omega (arith, within, row-long)
+  count-within = kept .inside
 
-  held : take (count - 0) row₁ ≡ places name t 0
-  held = wrote-part are (omega (arith, within, long))
+  part-is : take (count - 0) row₁ ≡ places name t 0
+  part-is = from-start count row₁ ∙ kept .are
 
   result : spliced term value (2 + length name) 0 (take (count - 0) row₁) (length term) ≡ encode (subst name v t)
-  result = rw (held, j .value-in .bytes) (spliced-term name v t term (j .term-in .bytes))
+  result = rw (part-is, j .value-in .bytes) (spliced-term name v t term (j .term-in .bytes))
 
   module _ (b : Bool) (e : b ≡ fits limits (subst name v t)) where
     module _ (y : b ≡ true) where
@@ -69,7 +66,7 @@ module _ {term name value out : Bytes} {n m : ℕ} {t v : Term} (j : Job term na
       pub splice-left : Left term (take (count - 0) row₁) (2 + length name) value 0 out 0
       splice-left =
           record {
-            spaced = rw held (spaced-term name v t term (j .term-in .bytes));
+            spaced = rw part-is (spaced-term name v t term (j .term-in .bytes));
             room = omega (arith, ap (λ (z : Bytes). length z) result, fit, j .out-room);
           }
 
