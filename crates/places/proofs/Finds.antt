@@ -30,6 +30,10 @@ places-few x t i = omega (arith, places-many x t i, occurrences-nodes x t)
 pub begins : {s : Bytes} (x : Name) {t : Term} {row : List ℕ} → TermAt s 0 t → nodes t ≤ 512 → length s ≤ 4096 → Row row → Finding s 0 0 x row 0
 begins x {t} w h short long = record { term = t; stands = w; short = short; room = omega (arith, places-few x t 0); long = long }
 
+-- what was found in such a term is within the row
+pub count-within : (x : Name) (t : Term) {row row₁ : List ℕ} {count : ℕ} → nodes t ≤ 512 → Row row → Wrote row 0 (places x t 0) row₁ count → count ≤ length row
+count-within x t few long w = omega (arith, w .ends, places-few x t 0)
+
 -- ---- what `find` ensures
 
 parts-few : (t : Term) → length (parts t) ≤ 3

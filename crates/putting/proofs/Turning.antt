@@ -20,7 +20,7 @@ use Rattle.laws.specs.SubstSize.{subst-nodes}
 use Rattle.runs.specs.Wrote.{Wrote}
 use Rattle.places.specs.Places.{places, Row}
 use Rattle.places.proofs.Writes.{wrote-part, held, from-start}
-use Rattle.places.proofs.Finds.{places-few}
+use Rattle.places.proofs.Finds.{count-within}
 use Rattle.putting.specs.Beside.{fitsBeside}
 use Rattle.putting.specs.Put.{Putting, Turns, Puts}
 use Rattle.putting.specs.declared.Put.{Put}
@@ -136,7 +136,7 @@ module _ {body : Bytes} {row : List ℕ} {many gap : ℕ} {a : Bytes} {k : ℕ} 
         second-job y long found =
             record {
               body-is = half-is;
-              held = held found (omega (arith, found .ends, places-few y u 0, half .fit, long));
+              held = held found (count-within y u (omega (arith, half .fit)) long found);
               gap-is = refl;
               value-is = j .second;
               nodes-in = omega (arith, half .count);

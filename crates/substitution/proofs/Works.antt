@@ -25,7 +25,7 @@ use Rattle.substitution.specs.Work.{Job, Done}
 use Rattle.places.proofs.Writes.{held, from-start, zeros}
 use Rattle.places.proofs.Shapes.{places-many}
 use Rattle.splice.proofs.Splices.{spliced-term, spaced-term}
-use Rattle.places.proofs.Finds.{places-few}
+use Rattle.places.proofs.Finds.{count-within}
 
 -- what fits has at most 4,096 bytes
 fits-bytes : (t : Term) → fits limits t ≡ true → size t ≤ 4096
@@ -47,10 +47,10 @@ module _ {term name value out : Bytes} {n m : ℕ} {t v : Term} (j : Job term na
       }
 
   kept : Held row₁ count (places name t 0)
-  kept = held are (omega (arith, are .ends, places-few name t 0, j .term-in .few, long))
+  kept = held are (count-within name t (j .term-in .few) long are)
 
-  pub count-within : count ≤ length row₁
-  count-within = kept .inside
+  pub part-within : count ≤ length row₁
+  part-within = kept .inside
 
   part-is : take (count - 0) row₁ ≡ places name t 0
   part-is = from-start count row₁ ∙ kept .are

@@ -1,7 +1,7 @@
 -- `substitution::replace` meets its contract: the sizes are those of the result, and the splice is the result. Assumes nothing.
 use mathlib.Core.Path.{refl}
 use Rattle.places.proofs.Finds.{whole}
-use Rattle.substitution.proofs.Works.{growth, count-within, splice-left, end-within, done, outgrown}
+use Rattle.substitution.proofs.Works.{growth, part-within, splice-left, end-within, done, outgrown}
 use borrow.Author.Needs.{needs}
 use Rattle.substitution.proofs.replace.Statement.{statement}
 use Rattle.substitution.proofs.replace.Tie as tie
@@ -25,7 +25,7 @@ part-splice-start : tie.Need-part-splice-start
 part-splice-start c = search needs
 
 part-splice-end : tie.Need-part-splice-end
-part-splice-end c = let (t, v, j) = c .before .before .before .before .before .before .before .before .before .before .before .before .before .before .pre in count-within j refl (c .before .before .before .find-places .ensures t (whole t _ (j .term-in .bytes)) .1)
+part-splice-end c = let (t, v, j) = c .before .before .before .before .before .before .before .before .before .before .before .before .before .before .pre in part-within j refl (c .before .before .before .find-places .ensures t (whole t _ (j .term-in .bytes)) .1)
 
 splice-requires : tie.Need-splice-requires
 splice-requires c κs = let (t, v, j) = c .before .before .before .before .before .before .before .before .before .before .before .before .before .before .before .before .pre in
