@@ -1,6 +1,6 @@
 -- What goes in, and where: the parts of the redex as slices, and what the whole has with the body in the redex's place. Assumes nothing.
 use Prim.Native.Nat.{ℕ, _+_, _-_, _≤_}
-use mathlib.Core.Path.{_≡_, refl, ap, _∙_}
+use mathlib.Core.Path.{_≡_, _∙_}
 use mathlib.Core.Option.{none, some}
 use mathlib.Core.List.{List}
 use native.Mathlib.Omega.{arith}
@@ -15,15 +15,12 @@ use Rattle.spans.specs.Given.{Given}
 use Rattle.spans.proofs.Rows.{term-part}
 use Rattle.putting.specs.Put.{Putting, Turns, Puts}
 use Rattle.putting.specs.declared.Put.{Put}
-use Rattle.putting.specs.declared.Put.the-variants.{Written}
 use Rattle.parts.specs.Contracts.{Contracts, told}
 use Rattle.parts.specs.Parts.{Kept, PartIs, Placing, Pairing}
 use Rattle.parts.specs.declared.Body.{Body}
 use Rattle.parts.specs.declared.Part.{Part}
 use Rattle.parts.specs.declared.Contracted.{Contracted}
-use Rattle.parts.specs.declared.Contracted.the-variants.{Made}
 use Rattle.parts.proofs.Standing.{inside, put-contracts}
-use Rattle.parts.proofs.Finding.{at-start, left-short}
 
 module _ {s : Bytes} {p : Part} {v : Term} (i : PartIs s p v) where
   pub part-in : (p .from ≤ p .end) × (p .end ≤ length s)
