@@ -15,7 +15,8 @@ use Rattle.runs.specs.Wrote.{Wrote}
 use Rattle.walk.specs.Place.{TermAt}
 use Rattle.walk.proofs.Names.{AfterIs}
 use Rattle.walk.proofs.Terms.{at-end, first, others}
-use Rattle.places.specs.Places.{places, kept}
+use Rattle.places.specs.Places.{places, Held}
+use Rattle.places.proofs.Writes.{wrote-part}
 use Rattle.runs.specs.Writing.{slice-is, wrote-length}
 use Rattle.spans.specs.Measured.{Measured}
 use Rattle.spans.specs.declared.Extent.{Extent}
@@ -24,7 +25,7 @@ use Rattle.parts.specs.Contracts.{Redex, Contracts, becomes}
 use Rattle.parts.specs.Parts.{Kept, Placing}
 use Rattle.parts.specs.declared.Body.{Body}
 use Rattle.parts.specs.declared.Contracted.the-variants.{Made}
-use Rattle.parts.proofs.Standing.{inside, written-at}
+use Rattle.parts.proofs.Standing.{inside}
 use Rattle.applying.proofs.Tail.{tail-bytes, tail-nodes, tail-some, tail-long, front-long, front-at}
 use Rattle.parts.proofs.Smaller.{part-is, kept-there, smaller-fits}
 
@@ -37,14 +38,17 @@ module _ {s : Bytes} {at n l : ℕ} where
     pub app-body : TermAt s body e
     app-body = first s body 2 e (a ∷ []) (in-app (j .stands) g .row)
 
+    pub app-few : nodes e ≤ 512
+    app-few = omega (arith, in-app (j .stands) g .count, j .nodes-in, j .few)
+
     pub app-bounds : (at + 3 ≤ body) × (body ≤ length s) × (length s ≤ body + 4096) × (at + 3 ≤ length s)
     app-bounds =
         let h = past-name (j .stands) g in
         let b = at-end s body e app-body in
         (h, omega arith, omega (arith, h, j .behind, j .short), omega (arith, h))
 
-    module _ {held : Bytes} {f : Body} (k : Kept body (take (body - (at + 3)) (drop (at + 3) s)) e held f) where
-      found : Kept body x e held f
+    module _ {row : List ℕ} {f : Body} (k : Kept body (take (body - (at + 3)) (drop (at + 3) s)) e row f) where
+      found : Kept body x e row f
       found = rw (name-is (j .stands) g) at k
 
       pub app-argument : TermAt s (f .end) a
@@ -59,7 +63,7 @@ module _ {s : Bytes} {at n l : ℕ} where
         pub ends : f .end + size a ≡ at + size t
         pub inside : f .end + size a ≤ length s
         pub count : nodes t ≡ 2 + (nodes e + nodes a)
-        pub held-in : f .kept ≤ length held
+        pub held-in : f .count ≤ length row
 
       pub app-numbers : Bounds
       app-numbers =
@@ -76,12 +80,12 @@ module _ {s : Bytes} {at n l : ℕ} where
             ends = omega (arith, k .next, i .ends);
             inside = omega (arith, k .next, i .ends);
             count = i .count;
-            held-in = k .inside;
+            held-in = k .held .inside;
           }
 
       -- the argument goes in
       pub app-placing : {r : Extent} (m : Measured (f .end) a r)
-          → Placing s at (r .next) f (record { from = f .end; end = r .next; nodes = r .nodes }) (n - 2 - r .nodes) l held n t x e a
+          → Placing s at (r .next) f (record { from = f .end; end = r .next; nodes = r .nodes }) (n - 2 - r .nodes) l row n t x e a
       app-placing m =
           let i = in-app (j .stands) g in
           let b = app-numbers in
@@ -97,11 +101,11 @@ module _ {s : Bytes} {at n l : ℕ} where
           }
 
       -- the argument stays
-      module _ (ends-so : (ps : List ℕ) → take (f .kept) held ≡ kept ps → (ps ≡ (f .end - body - f .gap) ∷ []) × (f .gap ≤ f .end - body)) where
+      module _ (ends-so : (ps : List ℕ) → Held row (f .count) ps → (ps ≡ (f .end - body - f .gap) ∷ []) × (f .gap ≤ f .end - body)) where
         last : (places x e 0 ≡ (size e - (2 + length x)) ∷ []) × (2 + length x ≤ size e)
         last =
             let b = app-numbers in
-            let q = ends-so (places x e 0) (found .are) in
+            let q = ends-so (places x e 0) (found .held) in
             let d : f .end - body - f .gap ≡ size e - (2 + length x) = omega (arith, b .next, b .gap-is) in
             (q .0 ∙ ap (λ (p : ℕ). p ∷ []) d, omega (arith, q .1, b .next, b .gap-is))
 
@@ -134,7 +138,7 @@ module _ {s : Bytes} {at n l : ℕ} where
               inside = omega (arith, b);
               written = omega (arith, wrote-length o, o .ends, front-long x a e y, r, i);
               bytes =
-                  ap (λ (q : Bytes). q ++ slice (f .end) (at + size t) s) (written-at o (omega (arith, o .ends, front-long x a e y, r, i)))
+                  ap (λ (q : Bytes). q ++ slice (f .end) (at + size t) s) (wrote-part o (omega (arith, o .ends, front-long x a e y, r, i)))
                   ∙ ap (λ (q : Bytes). take (size e - (2 + length x)) (encode e) ++ q) g
                   ∙ sym (tail-bytes x a e y);
             })

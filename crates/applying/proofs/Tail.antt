@@ -1,43 +1,29 @@
 -- App of Abs where the body ends in its one free place: the argument stands right behind the body, so it stays where it is.
 -- By the splice at one place. Assumes nothing.
-use Prim.Native.Nat.{ℕ, _+_, _-_, _*_, _<_, _≤_}
+use Prim.Native.Nat.{ℕ, _+_, _-_, _*_, _≤_}
 use mathlib.Core.Path.{_≡_, refl, sym, ap, _∙_}
 use mathlib.Core.List.{List, [], _∷_, _++_, append-nil, append-assoc}
 use native.Mathlib.Omega.{arith}
 use lib.ListN.{length, getD, take, drop, length-append, take-append-drop}
-use lib.Seq.{slice, slice-empty, length-take-le, getD-take}
-use Rattle.rules.specs.Basic.{Bytes, low-high}
+use lib.Seq.{slice, slice-empty, length-take-le}
+use Rattle.rules.specs.Basic.{Bytes}
 use Rattle.rules.specs.Name.{Name}
 use Rattle.rules.specs.Term.{Term, encode, nodes, size}
 use Rattle.rules.specs.Free.{occurrences}
 use Rattle.rules.specs.Substitution.{subst}
 use Rattle.laws.specs.SubstSize.{subst-nodes, occurrences-nodes}
-use Rattle.places.specs.Places.{places, kept}
+use Rattle.places.specs.Places.{places, Held}
 use Rattle.splice.specs.Spliced.{spliced}
 use Rattle.places.proofs.Shapes.{places-many}
 use Rattle.splice.proofs.Splices.{spliced-term}
 use Rattle.runs.specs.Writing.{slice-is}
 use Rattle.walk.specs.Place.{TermAt}
 
--- ---- the one place that is kept
+-- ---- the one place that is held
 
-byte-is : (held : Bytes) (i : ℕ) (xs : Bytes) → i < 2 → take 2 held ≡ xs → getD held i 0 ≡ getD xs i 0
-byte-is held i xs h e = sym (getD-take 2 held i 0 h) ∙ ap (λ (z : Bytes). getD z i 0) e
-
-pub one-place : (held : Bytes) (k : ℕ) (ps : List ℕ) → k ≤ length held → k ≡ 2 → take k held ≡ kept ps → ps ≡ (getD held 0 0 + 256 * getD held 1 0) ∷ []
-one-place held k ps h two e = go ps (rw two at e)
-  where
-    long : length (take 2 held) ≡ 2
-    long = length-take-le 2 held (omega arith)
-
-    go : (qs : List ℕ) → take 2 held ≡ kept qs → qs ≡ (getD held 0 0 + 256 * getD held 1 0) ∷ []
-    go [] q = absurd (omega (arith, long, ap (λ (z : Bytes). length z) q))
-    go (p ∷ []) q =
-        let a = byte-is held 0 (low-high p) (omega arith) q in
-        let b = byte-is held 1 (low-high p) (omega arith) q in
-        let d : getD held 0 0 + 256 * getD held 1 0 ≡ p = omega (arith, a, b) in
-        ap (λ (z : ℕ). z ∷ []) (sym d)
-    go (p ∷ r ∷ rs) q = absurd (omega (arith, long, ap (λ (z : Bytes). length z) q))
+pub one-place : (row : List ℕ) {count : ℕ} {ps : List ℕ} → Held row count ps → count ≡ 1 → ps ≡ getD row 0 0 ∷ []
+one-place [] h e = absurd (omega (arith, h .inside))
+one-place (p ∷ row) h e = sym (h .are) ∙ ap (λ (n : ℕ). take n (p ∷ row)) e
 
 pub place-ends : {ps : List ℕ} {p gap long : ℕ} → ps ≡ p ∷ [] → p + gap ≡ long → (ps ≡ (long - gap) ∷ []) × (gap ≤ long)
 place-ends {p = p} {gap} {long} e q = let d : p ≡ long - gap = omega arith in (e ∙ ap (λ (z : ℕ). z ∷ []) d, omega arith)

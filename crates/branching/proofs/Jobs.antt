@@ -1,7 +1,7 @@
 -- What Case of Inl or Inr hands on: the branch, and the injected part that goes into it, where they stand. Assumes nothing.
 use Prim.Native.Nat.{ℕ, _+_, _-_, _≤_}
 use mathlib.Core.Path.{_≡_}
-use mathlib.Core.List.{[], _∷_}
+use mathlib.Core.List.{List, [], _∷_}
 use native.Mathlib.Omega.{arith}
 use lib.ListN.{length, take, drop}
 use Rattle.rules.specs.Basic.{Bytes}
@@ -27,6 +27,9 @@ module _ {s : Bytes} {at n l : ℕ} where
     pub case-value : TermAt s (p .end + 1) v
     case-value = first s (p .end + 1) 3 v (b ∷ d ∷ []) (in-branch (j .stands) m .row)
 
+    pub branches-few : (nodes b ≤ 512) × (nodes d ≤ 512)
+    branches-few = let i = in-branch (j .stands) m in (omega (arith, i .count, j .nodes-in, j .few), omega (arith, i .count, j .nodes-in, j .few))
+
     pub case-inside : (p .end + 1 ≤ length s) × (at + 2 ≤ p .second) × (p .second + 1 ≤ p .end)
     case-inside = (omega (arith, at-end s (p .end + 1) v case-value), names-here .0, names-here .1)
 
@@ -45,7 +48,7 @@ module _ {s : Bytes} {at n l : ℕ} where
       left-short = omega (arith, j .behind, j .short, h .next, in-branch (j .stands) m .past)
 
       -- the left
-      module _ {held : Bytes} {f : Body} (o : Kept (q .next) (take (p .second - (at + 2)) (drop (at + 2) s)) b held f) where
+      module _ {row : List ℕ} {f : Body} (o : Kept (q .next) (take (p .second - (at + 2)) (drop (at + 2) s)) b row f) where
         pub left-other : TermAt s (f .end) d
         left-other = right-at (o .next)
 
@@ -53,7 +56,7 @@ module _ {s : Bytes} {at n l : ℕ} where
         left-nodes g = omega (arith, h .nodes, g .nodes, in-branch (j .stands) m .count, j .nodes-in)
 
         pub left-placing : {r : Extent} (g : Measured (f .end) d r)
-            → Placing s at (r .next) f (record { from = p .end + 1; end = q .next; nodes = q .nodes }) (n - 2 - q .nodes - r .nodes) l held n (branch x y (one k v) b d) x b v
+            → Placing s at (r .next) f (record { from = p .end + 1; end = q .next; nodes = q .nodes }) (n - 2 - q .nodes - r .nodes) l row n (branch x y (one k v) b d) x b v
         left-placing g =
             let i = in-branch (j .stands) m in
             record {
@@ -78,8 +81,8 @@ module _ {s : Bytes} {at n l : ℕ} where
         pub right-nodes : 2 + q .nodes + r .nodes ≤ n
         right-nodes = omega (arith, h .nodes, g .nodes, in-branch (j .stands) m .count, j .nodes-in)
 
-        pub right-placing : {held : Bytes} {f : Body} (o : Kept (r .next) (take (p .end - (p .second + 1)) (drop (p .second + 1) s)) d held f)
-            → Placing s at (f .end) f (record { from = p .end + 1; end = q .next; nodes = q .nodes }) (n - 2 - q .nodes - r .nodes) l held n (branch x y (one k v) b d) y d v
+        pub right-placing : {row : List ℕ} {f : Body} (o : Kept (r .next) (take (p .end - (p .second + 1)) (drop (p .second + 1) s)) d row f)
+            → Placing s at (f .end) f (record { from = p .end + 1; end = q .next; nodes = q .nodes }) (n - 2 - q .nodes - r .nodes) l row n (branch x y (one k v) b d) y d v
         right-placing o =
             let i = in-branch (j .stands) m in
             record {

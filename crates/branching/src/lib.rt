@@ -10,11 +10,12 @@ ghost use Rattle.rules.specs.Substitution.{subst};
 ghost use Rattle.search.specs.Side.{side};
 ghost use Rattle.spans.specs.Measured.{Measured, Named};
 ghost use Rattle.putting.specs.Put.{Room};
-ghost use Rattle.parts.specs.Contracts.{Redex, Contracts};
+ghost use Rattle.parts.specs.Contracts.{Redex, Contracts, Row};
 use parts::Contracted;
 use parts::Part;
 use parts::find_in;
 use parts::put_here;
+use rules::MOST_NODES;
 use rules::Rule;
 use sides::is_left;
 use spans::Extent;
@@ -30,12 +31,13 @@ fn left(
     value: Extent,
     nodes: usize,
     length: usize,
-    places: &mut [u8],
+    places: &mut [u16; MOST_NODES],
     made: &mut [u8],
 ) -> Contracted
     requires { ⌜ ((x : Name) × (y : Name) × (k : One) × (v : Term) × (l : Term) × (r : Term) × Redex (now s) at nodes length (aBranch x y (one k v) l r) × Named (at + 1) x y names × Measured (names .end + 1) v value) ⌝ }
-    requires { ⌜ Room (now places) × Room (now made) ⌝ }
+    requires { ⌜ Row (now places) × Room (now made) ⌝ }
     ensures { λ c. ⌜ ((x : Name) → (y : Name) → (k : One) → (v : Term) → (l : Term) → (r : Term) → Redex (now (s .entry)) at nodes length (aBranch x y (one k v) l r) → Named (at + 1) x y names → Measured (names .end + 1) v value → Contracts (now (s .entry)) at nodes length (aBranch x y (one k v) l r) Case none (subst x v l) (now (made .exit)) c) ⌝ }
+    ensures { λ _. ⌜ Row (now (places .exit)) ⌝ }
 {
     let middle = names.second;
     let from = names.end + 1;
@@ -70,12 +72,13 @@ fn right(
     value: Extent,
     nodes: usize,
     length: usize,
-    places: &mut [u8],
+    places: &mut [u16; MOST_NODES],
     made: &mut [u8],
 ) -> Contracted
     requires { ⌜ ((x : Name) × (y : Name) × (k : One) × (v : Term) × (l : Term) × (r : Term) × Redex (now s) at nodes length (aBranch x y (one k v) l r) × Named (at + 1) x y names × Measured (names .end + 1) v value) ⌝ }
-    requires { ⌜ Room (now places) × Room (now made) ⌝ }
+    requires { ⌜ Row (now places) × Room (now made) ⌝ }
     ensures { λ c. ⌜ ((x : Name) → (y : Name) → (k : One) → (v : Term) → (l : Term) → (r : Term) → Redex (now (s .entry)) at nodes length (aBranch x y (one k v) l r) → Named (at + 1) x y names → Measured (names .end + 1) v value → Contracts (now (s .entry)) at nodes length (aBranch x y (one k v) l r) Case none (subst y v r) (now (made .exit)) c) ⌝ }
+    ensures { λ _. ⌜ Row (now (places .exit)) ⌝ }
 {
     let middle = names.second;
     let scrutinee = names.end;
@@ -109,12 +112,13 @@ pub fn branch(
     at: usize,
     nodes: usize,
     length: usize,
-    places: &mut [u8],
+    places: &mut [u16; MOST_NODES],
     made: &mut [u8],
 ) -> Contracted
     requires { ⌜ ((x : Name) × (y : Name) × (d : Bool) × (v : Term) × (l : Term) × (r : Term) × Redex (now s) at nodes length (aBranch x y (one (side d) v) l r)) ⌝ }
-    requires { ⌜ Room (now places) × Room (now made) ⌝ }
+    requires { ⌜ Row (now places) × Room (now made) ⌝ }
     ensures { λ c. ⌜ ((x : Name) → (y : Name) → (d : Bool) → (v : Term) → (l : Term) → (r : Term) → Redex (now (s .entry)) at nodes length (aBranch x y (one (side d) v) l r) → Contracts (now (s .entry)) at nodes length (aBranch x y (one (side d) v) l r) Case none (if d then subst x v l else subst y v r) (now (made .exit)) c) ⌝ }
+    ensures { λ _. ⌜ Row (now (places .exit)) ⌝ }
 {
     let names = span_names(s, at + 1);
     let scrutinee = names.end;

@@ -1,11 +1,11 @@
 -- From a rule's contract to that of `contract`: the tag of what stands at the place says which form it has, and the rules' `contract`
 -- computes on it. Assumes nothing.
-use Prim.Native.Nat.{ℕ, _<_, _≤_}
+use Prim.Native.Nat.{ℕ, _<_}
 use mathlib.Core.Path.{_≡_, refl, sym, ap, _∙_}
 use mathlib.Core.Bool.{Bool, true, false}
 use mathlib.Core.Option.{Option, none, some}
-use native.Mathlib.Omega.{arith}
-use lib.ListN.{length, getD, replicate, length-replicate}
+use mathlib.Core.List.{List}
+use lib.ListN.{length, getD}
 use borrow.Author.Tests.{ne-eqb}
 use Rattle.rules.specs.Basic.{Bytes, if_then_else_}
 use Rattle.rules.specs.Name.{Name}
@@ -20,21 +20,11 @@ use Rattle.search.proofs.Firsts.{contracts}
 use Rattle.search.proofs.Forms.{Form, form, IsApp, IsLet, IsCase, IsFst, IsSnd, IsDerelict, IsCopy, IsDiscard}
 use Rattle.parts.specs.Contracts.{Contracts}
 use Rattle.parts.specs.declared.Contracted.{Contracted}
-use Rattle.contracting.specs.Contracting.{Contractible, Contracting}
+use Rattle.contracting.specs.Contracting.{Contracting}
 
-module _ {s : Bytes} {at n l : ℕ} {made : Bytes} {t : Term} {r : Rule} {h : Option Term} {u : Term} (j : Contractible s at n l made t r h u) where
+module _ {s : Bytes} {at n l : ℕ} {places : List ℕ} {made : Bytes} {t : Term} {r : Rule} {h : Option Term} {u : Term} (j : Contracting s at n l places made t r h u) where
   pub redex-inside : at < length s
   redex-inside = at-inside s at t (j .redex .stands)
-
-  -- with an array to work in
-  pub in-array : Contracting s at n l (replicate {A = ℕ} 4096 0) made t r h u
-  in-array =
-      let room : 4096 ≤ length (replicate {A = ℕ} 4096 0) = omega (arith, length-replicate {A = ℕ} 4096 0) in
-      record { bare = j; app-room = λ _. room; case-room = λ _. room }
-
-  -- with none, where none is needed
-  pub in-none : {places : Bytes} → (getD s at 0 ≡ 6 → ⊥) → (getD s at 0 ≡ 9 → ⊥) → Contracting s at n l places made t r h u
-  in-none a b = record { bare = j; app-room = λ e. absurd (a e); case-room = λ e. absurd (b e) }
 
   -- the form, by the byte that stands at the place
   form-here : Form (getD s at 0) t

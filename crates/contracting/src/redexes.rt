@@ -7,20 +7,29 @@ ghost use Rattle.rules.specs.Term.{Term, one, two, both as twoNamed, fst, snd, 
 ghost use Rattle.rules.specs.declared.Rule.the-variants.{Let, Fst, Snd, Derelict, Copy, Discard};
 ghost use Rattle.rules.specs.Substitution.{subst};
 ghost use Rattle.putting.specs.Put.{Room};
-ghost use Rattle.parts.specs.Contracts.{Redex, Contracts};
+ghost use Rattle.parts.specs.Contracts.{Redex, Contracts, Row};
 use parts::Contracted;
 use parts::Part;
 use parts::both;
+use rules::MOST_NODES;
 use rules::Rule;
 use spans::span;
 use spans::span_names;
 use spans::span_two;
 
 // LetPair of Pair: a for x, then b for y in all that results.
-pub fn let_pair(s: &[u8], at: usize, nodes: usize, length: usize, made: &mut [u8]) -> Contracted
+pub fn let_pair(
+    s: &[u8],
+    at: usize,
+    nodes: usize,
+    length: usize,
+    places: &mut [u16; MOST_NODES],
+    made: &mut [u8],
+) -> Contracted
     requires { ⌜ ((x : Name) × (y : Name) × (a : Term) × (b : Term) × (e : Term) × Redex (now s) at nodes length (twoNamed letPair x y (two pair a b) e)) ⌝ }
-    requires { ⌜ Room (now made) ⌝ }
+    requires { ⌜ Row (now places) × Room (now made) ⌝ }
     ensures { λ c. ⌜ ((x : Name) → (y : Name) → (a : Term) → (b : Term) → (e : Term) → Redex (now (s .entry)) at nodes length (twoNamed letPair x y (two pair a b) e) → Contracts (now (s .entry)) at nodes length (twoNamed letPair x y (two pair a b) e) Let (some (subst x a e)) (subst y b (subst x a e)) (now (made .exit)) c) ⌝ }
+    ensures { λ _. ⌜ Row (now (places .exit)) ⌝ }
 {
     let names = span_names(s, at + 1);
     let from = names.end + 1;
@@ -47,6 +56,7 @@ pub fn let_pair(s: &[u8], at: usize, nodes: usize, length: usize, made: &mut [u8
         b,
         rest,
         length,
+        places,
         made,
     )
 }
@@ -96,10 +106,18 @@ pub fn derelict(s: &[u8], at: usize, nodes: usize) -> Contracted
 }
 
 // Copy of Promote: the whole Promote for x, then for y.
-pub fn copy(s: &[u8], at: usize, nodes: usize, length: usize, made: &mut [u8]) -> Contracted
+pub fn copy(
+    s: &[u8],
+    at: usize,
+    nodes: usize,
+    length: usize,
+    places: &mut [u16; MOST_NODES],
+    made: &mut [u8],
+) -> Contracted
     requires { ⌜ ((x : Name) × (y : Name) × (v : Term) × (e : Term) × Redex (now s) at nodes length (twoNamed aCopy x y (one promote v) e)) ⌝ }
-    requires { ⌜ Room (now made) ⌝ }
+    requires { ⌜ Row (now places) × Room (now made) ⌝ }
     ensures { λ c. ⌜ ((x : Name) → (y : Name) → (v : Term) → (e : Term) → Redex (now (s .entry)) at nodes length (twoNamed aCopy x y (one promote v) e) → Contracts (now (s .entry)) at nodes length (twoNamed aCopy x y (one promote v) e) Copy (some (subst x (one promote v) e)) (subst y (one promote v) (subst x (one promote v) e)) (now (made .exit)) c) ⌝ }
+    ensures { λ _. ⌜ Row (now (places .exit)) ⌝ }
 {
     let names = span_names(s, at + 1);
     let from = names.end;
@@ -120,6 +138,7 @@ pub fn copy(s: &[u8], at: usize, nodes: usize, length: usize, made: &mut [u8]) -
         part,
         rest,
         length,
+        places,
         made,
     )
 }

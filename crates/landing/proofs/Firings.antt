@@ -43,7 +43,7 @@ drop-slice : (i j : ℕ) (l : Bytes) → i ≤ j → j ≤ length l → drop i l
 drop-slice i j l h g =
     ap (λ (z : Bytes). drop i z) (sym (take-append-drop j l)) ∙ drop-append-le i (take j l) (drop j l) (omega (arith, length-take-le j l g))
 
-module _ {w : Term} {out scratch stack : List ℕ} {o i d n : ℕ} {places out₁ : Bytes} (e : Firing w out scratch stack o i d n places out₁) where
+module _ {w : Term} {out scratch stack : List ℕ} {o i d n : ℕ} {places : List ℕ} {out₁ : Bytes} (e : Firing w out scratch stack o i d n places out₁) where
   abbrev s : Standing w out scratch stack o i d
   s = e .reducing .stands
 
@@ -68,22 +68,18 @@ module _ {w : Term} {out scratch stack : List ℕ} {o i d n : ℕ} {places out�
   pub job : Contracting scratch i n l places out₁ t (x .rule) (x .half) u
   job =
       record {
-        bare =
+        redex =
             record {
-              redex =
-                  record {
-                    stands = stands-at s;
-                    nodes-in = omega (arith, e .count, ap nodes (s .is), plug-frame (s .above) .count t);
-                    bytes-in = omega (arith, sides-size s, ap size (s .is), plug-size (s .above) t);
-                    behind = omega arith;
-                    few = omega (arith, e .count, fits-few w (s .fits));
-                    short = short;
-                  };
-              contracts = x .is;
-              made-room = e .made-room;
+              stands = stands-at s;
+              nodes-in = omega (arith, e .count, ap nodes (s .is), plug-frame (s .above) .count t);
+              bytes-in = omega (arith, sides-size s, ap size (s .is), plug-size (s .above) t);
+              behind = omega arith;
+              few = omega (arith, e .count, fits-few w (s .fits));
+              short = short;
             };
-        app-room = λ _. e .places-room;
-        case-room = λ _. e .places-room;
+        contracts = x .is;
+        row = e .row;
+        made-room = e .made-room;
       }
 
   steps : Steps w (x .rule) (x .half) next

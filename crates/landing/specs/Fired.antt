@@ -10,6 +10,7 @@ use Rattle.rules.specs.Limits.{limits, outputRoom}
 use Rattle.rules.specs.Term.{Term, nodes}
 use Rattle.rules.specs.declared.Rule.{Rule}
 use Rattle.rules.specs.Step.{stepFits}
+pub use Rattle.parts.specs.Contracts.{Row}
 use Rattle.gap.specs.Quiet.{Steps}
 use Rattle.gap.specs.Standing.{Standing, Reducing}
 use Rattle.gap.specs.declared.place.Place.{Place}
@@ -17,10 +18,10 @@ use Rattle.landing.specs.declared.Fired.{Fired}
 use Rattle.landing.specs.declared.Fired.the-variants.{Made, Outgrown}
 
 -- the whole w has n nodes, and the search stands at a redex of it; there is room to work
-pub record Firing (w : Term) (out scratch stack : List ℕ) (o i d n : ℕ) (places made : Bytes) : Type 0 where
+pub record Firing (w : Term) (out scratch stack : List ℕ) (o i d n : ℕ) (places : List ℕ) (made : Bytes) : Type 0 where
   pub reducing : Reducing w out scratch stack o i d
   pub count : n ≡ nodes w
-  pub places-room : outputRoom limits ≤ length places
+  pub row : Row places
   pub made-room : outputRoom limits ≤ length made
 
 -- the step of w leaves u, which fits and has n nodes; the search stands in it

@@ -1,10 +1,12 @@
 // A redex is contracted where the search stands. What it becomes is put in its place, at the start of what the search has yet to see.
 ghost use Rattle.rules.specs.Term.{Term};
+ghost use Rattle.parts.specs.Contracts.{Row};
 ghost use Rattle.gap.specs.Standing.{Standing, Landed};
 ghost use Rattle.landing.specs.Fired.{Firing, Fires};
 use gap::place::Place;
 use gap::place::SECOND;
 use parts::Contracted;
+use rules::MOST_NODES;
 use rules::Rule;
 use search::reduces;
 
@@ -60,11 +62,12 @@ pub fn fire(
     stack: &[u16],
     depth: usize,
     nodes: usize,
-    places: &mut [u8],
+    places: &mut [u16; MOST_NODES],
     made: &mut [u8],
 ) -> Fired
     requires { ⌜ ((w : Term) × Firing w (now out) (now scratch) (now stack) o i depth nodes (now places) (now made)) ⌝ }
     ensures { λ r. ⌜ ((w : Term) → Firing w (now (out .entry)) (now (scratch .entry)) (now (stack .entry)) o i depth nodes (now (places .entry)) (now (made .entry)) → Fires w (now (out .entry)) (now (scratch .exit)) (now (stack .entry)) o i depth r) ⌝ }
+    ensures { λ _. ⌜ Row (now (places .exit)) ⌝ }
 {
     let length = o + (scratch.len() - i);
     match contracting::contract(scratch, i, nodes, length, places, made) {

@@ -1,6 +1,7 @@
 -- A name is found in a part of the redex: the part stands at the start of what is left of the bytes. Assumes nothing.
 use Prim.Native.Nat.{ℕ, _+_, _-_, _≤_}
 use mathlib.Core.Path.{_≡_, refl, ap, _∙_}
+use mathlib.Core.List.{List}
 use native.Mathlib.Omega.{arith}
 use lib.ListN.{length, take, drop, length-take, length-drop}
 use lib.Seq.{take-all}
@@ -10,10 +11,9 @@ use Rattle.rules.specs.Term.{Term, size}
 use Rattle.runs.specs.Wrote.{Wrote}
 use Rattle.walk.specs.Place.{TermAt}
 use Rattle.walk.proofs.Terms.{at-end}
-use Rattle.places.specs.Places.{places, kept}
+use Rattle.places.specs.Places.{places}
 use Rattle.places.specs.declared.Found.{Found}
-use Rattle.places.proofs.Writes.{wrote-part, wrote-length}
-use Rattle.places.proofs.Finds.{kept-small}
+use Rattle.places.proofs.Writes.{held}
 use Rattle.parts.specs.Parts.{Kept}
 
 module _ (s : Bytes) (i : ℕ) (short : length s ≤ i + 4096) where
@@ -24,21 +24,21 @@ module _ (s : Bytes) (i : ℕ) (short : length s ≤ i + 4096) where
     pub at-start : TermAt (take (length s - i) (drop i s)) 0 e
     at-start = record { rest = w .rest; bytes = left-is ∙ w .bytes }
 
-    pub left-short : {room : ℕ} → 4096 ≤ room → (length (take (length s - i) (drop i s)) ≤ 4096) × (length (take (length s - i) (drop i s)) ≤ room)
-    left-short h =
-        let e : length (take (length s - i) (drop i s)) ≡ length s - i = ap (λ (z : Bytes). length z) left-is ∙ length-drop i s in
-        (omega arith, omega arith)
+    pub left-short : length (take (length s - i) (drop i s)) ≤ 4096
+    left-short = let e : length (take (length s - i) (drop i s)) ≡ length s - i = ap (λ (z : Bytes). length z) left-is ∙ length-drop i s in omega arith
 
     pub found-room : (i ≤ length s) × (i + size e ≤ length s)
     found-room = let a = at-end s i e w in (omega arith, a)
 
-    pub is-kept : {name past : ℕ} {held held′ : Bytes} {f : Found} → name ≤ past → past ≤ length s → 4096 ≤ length held
-        → (f .next ≡ size e) × Wrote held 0 (kept (places (take (past - name) (drop name s)) e 0)) held′ (f .to)
-        → Kept i (take (past - name) (drop name s)) e held′ (record { from = i; end = i + f .next; kept = f .to; gap = past - name + 2 })
-    is-kept {name} {past} {held} {held′} {f} hn hp h (n, o) =
-        let a = found-room in
+    pub is-kept : {name past : ℕ} {row row₁ : List ℕ} {f : Found} → name ≤ past → past ≤ length s → f .count ≤ length row
+        → (f .next ≡ size e) × Wrote row 0 (places (take (past - name) (drop name s)) e 0) row₁ (f .count)
+        → Kept i (take (past - name) (drop name s)) e row₁ (record { from = i; end = i + f .next; count = f .count; gap = past - name + 2 })
+    is-kept {name} {past} hn hp within (n, o) =
         let x : Name = take (past - name) (drop name s) in
-        let g : length (take (past - name) (drop name s)) ≡ past - name = simp (length-take, length-drop) (omega arith) in
-        let b : f .to ≤ length held = omega (arith, o .ends, kept-small x e 0) in
-        let d : f .to - 0 ≡ f .to = omega arith in
-        record { from = refl; next = ap (λ (k : ℕ). i + k) n; are = rw d at (wrote-part o b); inside = omega (arith, wrote-length o); gap-is = omega (arith, g) }
+        let g : length x ≡ past - name = simp (length-take, length-drop) (omega arith) in
+        record {
+          from = refl;
+          next = ap (λ (k : ℕ). i + k) n;
+          held = held o within;
+          gap-is = omega (arith, g);
+        }

@@ -1,7 +1,8 @@
 -- What goes in, and where: the parts of the redex as slices, and what the whole has with the body in the redex's place. Assumes nothing.
 use Prim.Native.Nat.{ℕ, _+_, _-_, _≤_}
-use mathlib.Core.Path.{_≡_, refl, ap, _∙_}
+use mathlib.Core.Path.{_≡_, _∙_}
 use mathlib.Core.Option.{none, some}
+use mathlib.Core.List.{List}
 use native.Mathlib.Omega.{arith}
 use lib.ListN.{length, take, drop, replicate, length-replicate}
 use Rattle.rules.specs.Basic.{Bytes}
@@ -14,15 +15,12 @@ use Rattle.spans.specs.Given.{Given}
 use Rattle.spans.proofs.Rows.{term-part}
 use Rattle.putting.specs.Put.{Putting, Turns, Puts}
 use Rattle.putting.specs.declared.Put.{Put}
-use Rattle.putting.specs.declared.Put.the-variants.{Written}
 use Rattle.parts.specs.Contracts.{Contracts, told}
 use Rattle.parts.specs.Parts.{Kept, PartIs, Placing, Pairing}
 use Rattle.parts.specs.declared.Body.{Body}
 use Rattle.parts.specs.declared.Part.{Part}
 use Rattle.parts.specs.declared.Contracted.{Contracted}
-use Rattle.parts.specs.declared.Contracted.the-variants.{Made}
 use Rattle.parts.proofs.Standing.{inside, put-contracts}
-use Rattle.parts.proofs.Finding.{at-start, left-short}
 
 module _ {s : Bytes} {p : Part} {v : Term} (i : PartIs s p v) where
   pub part-in : (p .from ≤ p .end) × (p .end ≤ length s)
@@ -31,12 +29,9 @@ module _ {s : Bytes} {p : Part} {v : Term} (i : PartIs s p v) where
   given : Given (take (p .end - p .from) (drop (p .from) s)) (p .nodes) v
   given = record { bytes = term-part s (p .from) (p .end) v (i .stands) (i .ends); count = i .count; fits = i .fits }
 
-held-part : {i : ℕ} {x : Name} {e : Term} {held : Bytes} {b : Body} → Kept i x e held b → take (b .kept - 0) held ≡ take (b .kept) held
-held-part {held = held} {b = b} k = let e : b .kept - 0 ≡ b .kept = omega arith in ap (λ (n : ℕ). take n held) e
-
 -- ---- one value
 
-module _ {s : Bytes} {at end : ℕ} {b : Body} {p : Part} {n l : ℕ} {held : Bytes} {whole : ℕ} {t : Term} {x : Name} {e v : Term} (j : Placing s at end b p n l held whole t x e v) where
+module _ {s : Bytes} {at end : ℕ} {b : Body} {p : Part} {n l : ℕ} {row : List ℕ} {whole : ℕ} {t : Term} {x : Name} {e v : Term} (j : Placing s at end b p n l row whole t x e v) where
   pub bounds : (at ≤ end) × (end - at ≤ l) × (b .from ≤ b .end) × (b .end ≤ length s) × (l ≤ 4096)
   bounds =
       let r = j .redex in (
@@ -47,12 +42,12 @@ module _ {s : Bytes} {at end : ℕ} {b : Body} {p : Part} {n l : ℕ} {held : By
         r .short,
       )
 
-  pub putting : Putting (take (b .end - b .from) (drop (b .from) s)) (take (b .kept - 0) held) (b .gap) (take (p .end - p .from) (drop (p .from) s)) (p .nodes) n (l - (end - at) + (b .end - b .from)) x e v
+  pub putting : Putting (take (b .end - b .from) (drop (b .from) s)) row (b .count) (b .gap) (take (p .end - p .from) (drop (p .from) s)) (p .nodes) n (l - (end - at) + (b .end - b .from)) x e v
   putting =
       let r = j .redex in
       record {
         body-is = term-part s (b .from) (b .end) e (j .body-at) (j .found .next);
-        held-are = held-part (j .found) ∙ j .found .are;
+        held = j .found .held;
         gap-is = j .found .gap-is;
         value-is = given (j .value);
         nodes-in = omega (arith, j .count);
@@ -68,27 +63,30 @@ module _ {s : Bytes} {at end : ℕ} {b : Body} {p : Part} {n l : ℕ} {held : By
 
 -- ---- two in turn
 
--- an array made here
+-- the array that the first of them is written to
 pub array-room : 4096 ≤ length (replicate {A = ℕ} 4096 0)
 array-room = omega (arith, length-replicate {A = ℕ} 4096 0)
 
 module _ {s : Bytes} {at middle past : ℕ} {p q : Part} {n l whole : ℕ} {t : Term} {x y : Name} {e v w : Term} (j : Pairing s at middle past p q n l whole t x y e v w) where
-  module _ {held : Bytes} {b : Body} (k : Kept (q .end) (take (middle - (at + 2)) (drop (at + 2) s)) e held b) where
+  pub body-within : (nodes e ≤ 512) × (length s ≤ q .end + 4096)
+  body-within = let r = j .redex in (omega (arith, j .nodes-in, r .nodes-in, r .few), omega (arith, j .body-past, r .behind, r .short))
+
+  module _ {row : List ℕ} {b : Body} (k : Kept (q .end) (take (middle - (at + 2)) (drop (at + 2) s)) e row b) where
     ends : b .end ≡ at + size t
     ends = k .next ∙ j .ends
 
-    pub both-bounds : (at ≤ b .end) × (b .end - at ≤ l) × (q .end ≤ b .end) × (b .end ≤ length s) × (b .kept ≤ length held)
+    pub both-bounds : (at ≤ b .end) × (b .end - at ≤ l) × (q .end ≤ b .end) × (b .end ≤ length s)
     both-bounds =
         let r = j .redex in
-        (omega (arith, ends), omega (arith, ends, r .bytes-in), omega (arith, k .next), omega (arith, ends, inside r), k .inside)
+        (omega (arith, ends), omega (arith, ends, r .bytes-in), omega (arith, k .next), omega (arith, ends, inside r))
 
-    pub turning : Turns (take (b .end - q .end) (drop (q .end) s)) held (b .kept) (b .gap) (take (p .end - p .from) (drop (p .from) s)) (p .nodes)
+    pub turning : Turns (take (b .end - q .end) (drop (q .end) s)) row (b .count) (b .gap) (take (p .end - p .from) (drop (p .from) s)) (p .nodes)
         (take (q .end - q .from) (drop (q .from) s)) (q .nodes) n (l - (b .end - at)) x e v w
     turning =
         let r = j .redex in
         record {
           body-is = term-part s (q .end) (b .end) e (j .body-at) (k .next);
-          held-are = rw (j .x-is) at (k .are);
+          held = rw (j .x-is) at (k .held);
           gap-is = rw (j .x-is) at (k .gap-is);
           first = given (j .first);
           second = given (j .second);

@@ -1,6 +1,8 @@
 -- What a rule knows of the parts of its redex: one that goes in is smaller than the redex, so it fits; a body has its places where it stands. Assumes nothing.
 use Prim.Native.Nat.{ℕ, _+_, _-_, _≤_}
 use mathlib.Core.Path.{_≡_, refl, ap, _∙_, sym}
+use mathlib.Core.Bool.{true}
+use mathlib.Core.List.{List}
 use native.Mathlib.Omega.{arith}
 use Rattle.rules.specs.Basic.{Bytes}
 use Rattle.rules.specs.Name.{Name}
@@ -12,7 +14,6 @@ use Rattle.putting.proofs.Puts.{fits-yes, beside-yes}
 use Rattle.parts.specs.Contracts.{Redex}
 use Rattle.parts.specs.Parts.{Kept, PartIs}
 use Rattle.parts.specs.declared.Body.{Body}
-use mathlib.Core.Bool.{true}
 use Rattle.parts.specs.Beside.{fitsAround}
 
 -- a part of the redex that goes in
@@ -27,9 +28,9 @@ part-is j {u = u} w m le ls =
     }
 
 -- a body with its places, at its own place
-pub kept-there : {i : ℕ} {x : Name} {e : Term} {held : Bytes} {b : Body} → Kept i x e held b → Kept (b .from) x e held b
+pub kept-there : {i : ℕ} {x : Name} {e : Term} {row : List ℕ} {b : Body} → Kept i x e row b → Kept (b .from) x e row b
 kept-there {e = e} k =
-    record { from = refl; next = k .next ∙ ap (λ (n : ℕ). n + size e) (sym (k .from)); are = k .are; inside = k .inside; gap-is = k .gap-is }
+    record { from = refl; next = k .next ∙ ap (λ (n : ℕ). n + size e) (sym (k .from)); held = k .held; gap-is = k .gap-is }
 
 -- what is no larger than the redex, in its place
 pub smaller-fits : {s : Bytes} {at n l : ℕ} {t : Term} → Redex s at n l t → (u : Term) → nodes u ≤ nodes t → size u ≤ size t → fitsAround n l t u ≡ true

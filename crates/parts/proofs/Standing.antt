@@ -5,8 +5,8 @@ use mathlib.Core.Bool.{Bool, true, false, _&&_}
 use mathlib.Core.Option.{Option}
 use mathlib.Core.List.{_++_, append-nil}
 use native.Mathlib.Omega.{arith}
-use lib.ListN.{length, take, drop}
-use lib.Seq.{sets, sets-eq, length-sets, slice, slice-empty, take-at}
+use lib.ListN.{length}
+use lib.Seq.{sets, length-sets, slice, slice-empty}
 use Rattle.rules.specs.Basic.{Bytes, if_then_else_}
 use Rattle.rules.specs.Limits.{limits}
 use Rattle.rules.specs.Term.{Term, encode, nodes, size}
@@ -15,6 +15,7 @@ use Rattle.rules.specs.Step.{halfFits}
 use Rattle.laws.specs.Same.{both-true}
 use Rattle.runs.specs.Wrote.{Wrote}
 use Rattle.walk.proofs.Terms.{at-end}
+use Rattle.places.proofs.Writes.{wrote-part}
 use Rattle.putting.specs.Put.{Puts}
 use Rattle.putting.specs.declared.Put.{Put}
 use Rattle.putting.specs.declared.Put.the-variants.{Written, Outgrown as Outgrew}
@@ -22,10 +23,6 @@ use Rattle.putting.proofs.Puts.{beside-within}
 use Rattle.parts.specs.Beside.{fitsAround}
 use Rattle.parts.specs.Contracts.{Redex, Replaced, Contracts, becomes, outgrows, told}
 use Rattle.parts.specs.declared.Contracted.{Contracted}
-
-pub written-at : {xs made made′ : Bytes} {k : ℕ} → Wrote made 0 xs made′ k → k ≤ length made → slice 0 k made′ ≡ xs
-written-at {xs} {made} {made′} {k} w h =
-    ap (λ (z : Bytes). take k z) (w .holds ∙ sets-eq xs made 0 (omega (arith, w .ends))) ∙ take-at xs (drop (0 + length xs) made) k (omega (arith, w .ends))
 
 module _ {s : Bytes} {at n l : ℕ} {t : Term} (j : Redex s at n l t) where
   pub inside : at + size t ≤ length s
@@ -40,7 +37,7 @@ module _ {s : Bytes} {at n l : ℕ} {t : Term} (j : Redex s at n l t) where
         bytes =
             ap (λ (z : Bytes). slice 0 k made′ ++ z) (ap (λ (i : ℕ). slice i (at + size t) s) ee ∙ slice-empty (at + size t) s)
             ∙ append-nil (slice 0 k made′)
-            ∙ written-at w h;
+            ∙ wrote-part w h;
       }
 
   pub put-contracts : {rule : Rule} {end others rest : ℕ} → end ≡ at + size t → others ≡ n - nodes t → rest ≡ l - size t

@@ -11,6 +11,7 @@ use Rattle.rules.specs.Term.{Term, encode, nodes, size}
 use Rattle.rules.specs.declared.Rule.{Rule}
 use Rattle.rules.specs.Step.{halfFits}
 use Rattle.walk.specs.Place.{TermAt}
+pub use Rattle.places.specs.Places.{Row}
 use Rattle.putting.specs.declared.Put.{Put}
 use Rattle.putting.specs.declared.Put.the-variants.{Written, Outgrown as Outgrew}
 use Rattle.parts.specs.Beside.{fitsAround}

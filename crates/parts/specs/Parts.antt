@@ -2,23 +2,23 @@
 use Prim.Native.Nat.{ℕ, _+_, _-_, _≤_}
 use mathlib.Core.Path.{_≡_}
 use mathlib.Core.Bool.{true}
+use mathlib.Core.List.{List}
 use lib.ListN.{length, take, drop}
 use Rattle.rules.specs.Basic.{Bytes}
 use Rattle.rules.specs.Limits.{limits}
 use Rattle.rules.specs.Name.{Name}
 use Rattle.rules.specs.Term.{Term, nodes, size, fits}
 use Rattle.walk.specs.Place.{TermAt}
-use Rattle.places.specs.Places.{places, kept}
+use Rattle.places.specs.Places.{places, Held}
 use Rattle.parts.specs.Contracts.{Redex}
 use Rattle.parts.specs.declared.Body.{Body}
 use Rattle.parts.specs.declared.Part.{Part}
 
--- the term e at i has ended, and the places where x is free in it are held
-pub record Kept (i : ℕ) (x : Name) (e : Term) (held : Bytes) (b : Body) : Type 0 where
+-- the term e at i has ended, and the row holds the places where x is free in it
+pub record Kept (i : ℕ) (x : Name) (e : Term) (row : List ℕ) (b : Body) : Type 0 where
   pub from : b .from ≡ i
   pub next : b .end ≡ i + size e
-  pub are : take (b .kept) held ≡ kept (places x e 0)
-  pub inside : b .kept ≤ length held
+  pub held : Held row (b .count) (places x e 0)
   pub gap-is : b .gap ≡ 2 + length x
 
 -- the part is v
@@ -29,12 +29,12 @@ pub record PartIs (s : Bytes) (p : Part) (v : Term) : Type 0 where
   pub fits : fits limits v ≡ true
 
 -- v goes into e, a part of the redex t, for x; with e for t the whole has n nodes
-pub record Placing (s : Bytes) (at end : ℕ) (b : Body) (p : Part) (n l : ℕ) (held : Bytes) (whole : ℕ) (t : Term) (x : Name) (e v : Term) : Type 0 where
+pub record Placing (s : Bytes) (at end : ℕ) (b : Body) (p : Part) (n l : ℕ) (row : List ℕ) (whole : ℕ) (t : Term) (x : Name) (e v : Term) : Type 0 where
   pub redex : Redex s at whole l t
   pub ends : end ≡ at + size t
   pub body-at : TermAt s (b .from) e
   pub body-in : size e ≤ size t
-  pub found : Kept (b .from) x e held b
+  pub found : Kept (b .from) x e row b
   pub value : PartIs s p v
   pub nodes-in : nodes e ≤ nodes t
   pub count : n ≡ whole - nodes t + nodes e

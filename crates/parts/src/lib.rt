@@ -5,16 +5,18 @@ ghost use Prim.Native.Nat.{ℕ, _+_, _-_, _≤_};
 ghost use lib.ListN.{length, take, drop};
 ghost use Rattle.rules.specs.Limits.{limits};
 ghost use Rattle.rules.specs.Name.{Name};
-ghost use Rattle.rules.specs.Term.{Term};
+ghost use Rattle.rules.specs.Term.{Term, nodes as nodesOf};
 ghost use Rattle.rules.specs.Substitution.{subst};
 ghost use Rattle.walk.specs.Place.{TermAt};
+ghost use Rattle.places.specs.Places.{Row};
 ghost use Rattle.putting.specs.Put.{Room};
 ghost use Rattle.parts.specs.Contracts.{Contracts, told as toldOf};
 ghost use Rattle.parts.specs.Parts.{Kept, Placing, Pairing};
-use places::first_places;
+use places::find_places;
 use putting::Put;
 use putting::in_turn;
 use putting::put_in;
+use rules::MOST_NODES;
 use rules::Rule;
 
 // What becomes of a redex: the rule, and the nodes of the new whole. The redex's bytes up to `end` are replaced by so many that were
@@ -50,25 +52,32 @@ fn told(rule: Rule, end: usize, put: Put) -> Contracted
     }
 }
 
-// A body in which a name was found: where it stands, the bytes that its kept places take, and those of each variable that goes.
+// A body in which a name was found: where it stands, how many places the name has there, and the bytes of each variable that goes.
 pub struct Body {
     pub from: usize,
     pub end: usize,
-    pub kept: usize,
+    pub count: usize,
     pub gap: usize,
 }
 
 // Keeps where the name at [name, past) is free in the body at `from`, counted from there, and tells where the body ends.
-pub fn find_in(s: &[u8], from: usize, name: usize, past: usize, places: &mut [u8]) -> Body
-    requires { ⌜ ((e : Term) × TermAt (now s) from e) ⌝ }
-    requires { ⌜ (name ≤ past) × (past ≤ length (now s)) × (length (now s) ≤ from + limits .bytes) × Room (now places) ⌝ }
+pub fn find_in(
+    s: &[u8],
+    from: usize,
+    name: usize,
+    past: usize,
+    places: &mut [u16; MOST_NODES],
+) -> Body
+    requires { ⌜ ((e : Term) × TermAt (now s) from e × (nodesOf e ≤ limits .nodes)) ⌝ }
+    requires { ⌜ (name ≤ past) × (past ≤ length (now s)) × (length (now s) ≤ from + limits .bytes) × Row (now places) ⌝ }
     ensures { λ r. ⌜ ((e : Term) → TermAt (now (s .entry)) from e → Kept from (take (past - name) (drop name (now (s .entry)))) e (now (places .exit)) r) ⌝ }
+    ensures { λ _. ⌜ Row (now (places .exit)) ⌝ }
 {
-    let found = first_places(&s[from..], &s[name..past], places);
+    let found = find_places(&s[from..], &s[name..past], places);
     Body {
         from,
         end: from + found.next,
-        kept: found.to,
+        count: found.count,
         gap: past - name + 2,
     }
 }
@@ -84,7 +93,7 @@ pub fn put_here(
     value: Part,
     nodes: usize,
     length: usize,
-    places: &[u8],
+    places: &[u16],
     made: &mut [u8],
 ) -> Contracted
     requires { ⌜ ((n : ℕ) × (t : Term) × (x : Name) × (e : Term) × (v : Term) × Placing (now s) at end body value nodes length (now places) n t x e v) ⌝ }
@@ -93,13 +102,13 @@ pub fn put_here(
 {
     let from = body.from;
     let next = body.end;
-    let kept = body.kept;
     let first = value.from;
     let past = value.end;
     let whole = length - (end - at) + (next - from);
     let put = put_in(
         &s[from..next],
-        &places[0..kept],
+        places,
+        body.count,
         body.gap,
         &s[first..past],
         value.nodes,
@@ -122,16 +131,17 @@ pub fn both(
     b: Part,
     nodes: usize,
     length: usize,
+    places: &mut [u16; MOST_NODES],
     made: &mut [u8],
 ) -> Contracted
     requires { ⌜ ((n : ℕ) × (t : Term) × (x : Name) × (y : Name) × (e : Term) × (v : Term) × (w : Term) × Pairing (now s) at middle past a b nodes length n t x y e v w) ⌝ }
-    requires { ⌜ Room (now made) ⌝ }
+    requires { ⌜ Row (now places) × Room (now made) ⌝ }
     ensures { λ c. ⌜ ((n : ℕ) → (t : Term) → (x : Name) → (y : Name) → (e : Term) → (v : Term) → (w : Term) → Pairing (now (s .entry)) at middle past a b nodes length n t x y e v w → Contracts (now (s .entry)) at n length t rule (some (subst x v e)) (subst y w (subst x v e)) (now (made .exit)) c) ⌝ }
+    ensures { λ _. ⌜ Row (now (places .exit)) ⌝ }
 {
-    let mut places = [0u8; 4096];
     let mut half = [0u8; 4096];
     let body = b.end;
-    let found = find_in(s, body, at + 2, middle, &mut places);
+    let found = find_in(s, body, at + 2, middle, places);
     let end = found.end;
     let first = a.from;
     let first_end = a.end;
@@ -139,7 +149,7 @@ pub fn both(
     let second = b.from;
     let put = in_turn(
         &s[body..end],
-        found.kept,
+        found.count,
         found.gap,
         &s[first..first_end],
         a.nodes,
@@ -148,7 +158,7 @@ pub fn both(
         b.nodes,
         nodes,
         length - (end - at),
-        &mut places,
+        places,
         &mut half,
         made,
     );

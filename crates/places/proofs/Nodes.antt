@@ -8,28 +8,20 @@ use lib.ListN.{length}
 use Rattle.rules.specs.Basic.{Bytes}
 use Rattle.rules.specs.Name.{Name}
 use Rattle.rules.specs.Term.{Term, size, parts}
-use Rattle.walk.specs.Node.{head, encodeAll, isVar}
+use Rattle.walk.specs.Node.{head, encodeAll}
 use Rattle.walk.specs.Place.{TermAt, TermsAt}
 use Rattle.walk.specs.Seen.{Seen}
 use Rattle.walk.specs.declared.Node.{Node}
 use Rattle.walk.proofs.Terms.{apart-size, at-end, at-parts}
 use Rattle.places.specs.Places.{places, placesAll}
-use Rattle.places.proofs.Shapes.{var-size, var-parts, node-places}
+use Rattle.places.proofs.Shapes.{var-parts, node-places}
 
 module _ (s : Bytes) (x : Name) (i : ℕ) (node : Node) (t : Term) (w : TermAt s i t) (f : Seen x i t node) where
   pub start-far : (i < node .start) × (node .start ≤ length s)
   start-far = (omega (arith, f .start), omega (arith, f .start, apart-size t, at-end s i t w))
 
-  module _ (hit : node .is ≡ true) where
-    pub hit-var : isVar x t ≡ true
-    hit-var = sym (f .is) ∙ hit
-
-    pub hit-end : node .start ≡ i + size t
-    hit-end = omega (arith, f .start, apart-size t, ap (λ (z : List Term). length (encodeAll z)) (var-parts x t hit-var))
-
-    -- there is room for its place
-    pub hit-far : (i + 2 ≤ node .start) × (node .start ≤ length s)
-    hit-far = (omega (arith, hit-end, var-size x t hit-var), start-far .1)
+  pub hit-end : node .is ≡ true → node .start ≡ i + size t
+  hit-end hit = omega (arith, f .start, apart-size t, ap (λ (z : List Term). length (encodeAll z)) (var-parts x t (sym (f .is) ∙ hit)))
 
   module _ (miss : node .is ≡ false) where
     pub seen-places : places x t i ≡ placesAll x (node .hides) (parts t) (node .start)

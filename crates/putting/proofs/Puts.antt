@@ -1,12 +1,13 @@
 -- A body with a value for a name: its sizes follow from those of the body and the value, and the runs that are spliced are its bytes.
 -- Assumes nothing.
-use Prim.Native.Nat.{ℕ, _+_, _-_, _*_, _/_, _<_, _≤_}
-use mathlib.Core.Path.{_≡_, refl, ap, _∙_}
+use Prim.Native.Nat.{ℕ, _+_, _-_, _*_, _<_, _≤_}
+use mathlib.Core.Path.{_≡_, refl, sym, ap, _∙_}
 use mathlib.Core.Bool.{true, false}
 use mathlib.Core.Option.{none}
 use mathlib.Core.List.{List}
 use native.Mathlib.Omega.{arith}
-use lib.ListN.{length}
+use lib.ListN.{length, take}
+use lib.Seq.{length-take-le}
 use borrow.Author.Tests.{leb-true, le-leb, lt-leb}
 use Rattle.rules.specs.Basic.{Bytes, _≤?_}
 use Rattle.rules.specs.Limits.{limits}
@@ -21,7 +22,7 @@ use Rattle.splice.specs.Spliced.{spliced, Left}
 use Rattle.splice.specs.Sizes.{Growth}
 use Rattle.places.proofs.Shapes.{places-many}
 use Rattle.splice.proofs.Splices.{spliced-term, spaced-term}
-use Rattle.places.proofs.Finds.{kept-length}
+use Rattle.places.proofs.Writes.{from-start}
 use Rattle.splice.proofs.Growths.{nodes-go, bytes-go, count-small, nodes-after, bytes-after}
 use Rattle.putting.specs.Beside.{fitsBeside}
 use Rattle.putting.specs.Put.{Putting, Puts}
@@ -61,7 +62,7 @@ module _ (others rest : ℕ) (u : Term) where
 
 -- ---- a body with a value for a name
 
-module _ {body held : Bytes} {gap : ℕ} {value : Bytes} {m n l : ℕ} {x : Name} {e v : Term} (j : Putting body held gap value m n l x e v) where
+module _ {body : Bytes} {row : List ℕ} {count gap : ℕ} {value : Bytes} {m n l : ℕ} {x : Name} {e v : Term} (j : Putting body row count gap value m n l x e v) where
   abbrev others : ℕ
   others = n - nodes e
 
@@ -71,40 +72,43 @@ module _ {body held : Bytes} {gap : ℕ} {value : Bytes} {m n l : ℕ} {x : Name
   body-long : length body ≡ size e
   body-long = ap (λ (z : Bytes). length z) (j .body-is)
 
-  many : length held ≡ 2 * occurrences x e
-  many = ap (λ (z : Bytes). length z) (j .held-are) ∙ kept-length (places x e 0) ∙ ap (λ (k : ℕ). 2 * k) (places-many x e 0)
+  many : count ≡ occurrences x e
+  many = sym (length-take-le count row (j .held .inside)) ∙ ap (λ (z : List ℕ). length z) (j .held .are) ∙ places-many x e 0
 
-  growth : Growth (length body) (nodes e) (length held / 2) gap (length value) m x e v
+  growth : Growth (length body) (nodes e) (count) gap (length value) m x e v
   growth =
       let c = within v (j .value-is .fits) in
       let d : length value ≡ size v = ap (λ (z : Bytes). length z) (j .value-is .bytes) in
       record {
         bytes-are = body-long;
         nodes-are = refl;
-        count-is = omega (arith, many);
+        count-is = many;
         gap-is = j .gap-is;
         value-is = d;
         added-is = j .value-is .count;
         small = (omega (arith, body-long, j .bytes-in, j .short), omega (arith, j .nodes-in, j .few), omega (arith, c, d), omega (arith, c, j .value-is .count));
       }
 
-  pub nodes-room : (length held / 2 * 1 ≤ n) × (n ≤ 65536) × (length held / 2 ≤ 65536) × (m ≤ 65536)
+  pub nodes-room : (count * 1 ≤ n) × (n ≤ 65536) × (count ≤ 65536) × (m ≤ 65536)
   nodes-room = (omega (arith, nodes-go growth, j .nodes-in), omega (arith, j .few), count-small growth, growth .small .3)
 
-  pub bytes-room : (length held / 2 * gap ≤ l) × (l ≤ 65536) × (length held / 2 ≤ 65536) × (length value ≤ 65536)
+  pub bytes-room : (count * gap ≤ l) × (l ≤ 65536) × (count ≤ 65536) × (length value ≤ 65536)
   bytes-room = (omega (arith, bytes-go growth, body-long, j .bytes-in), omega (arith, j .short), count-small growth, growth .small .2)
 
-  result : spliced body value gap 0 (places x e 0) (length body) ≡ encode (subst x v e)
-  result = rw (j .value-is .bytes, j .gap-is) (spliced-term x v e body (j .body-is))
+  part-is : take (count - 0) row ≡ places x e 0
+  part-is = from-start count row ∙ j .held .are
 
-  module _ {p : ℕ} (ep : p ≡ n - length held / 2 * 1 + length held / 2 * m) where
+  result : spliced body value gap 0 (take (count - 0) row) (length body) ≡ encode (subst x v e)
+  result = rw (part-is, j .value-is .bytes, j .gap-is) (spliced-term x v e body (j .body-is))
+
+  module _ {p : ℕ} (ep : p ≡ n - count * 1 + count * m) where
     total : p ≡ others + nodes (subst x v e)
     total = omega (arith, ep, nodes-after growth, nodes-go growth, j .nodes-in)
 
     pub too-many : {out : Bytes} → 512 < p → Puts others rest none (subst x v e) out out Outgrown
     too-many {out} h = outgrown others rest (subst x v e) out (beside-many others rest (subst x v e) (omega (arith, total)))
 
-    module _ (few-enough : p ≤ 512) {q : ℕ} (eq : q ≡ l - length held / 2 * gap + length held / 2 * length value) where
+    module _ (few-enough : p ≤ 512) {q : ℕ} (eq : q ≡ l - count * gap + count * length value) where
       long : q ≡ rest + size (subst x v e)
       long = omega (arith, eq, bytes-after growth, bytes-go growth, body-long, j .bytes-in)
 
@@ -112,22 +116,17 @@ module _ {body held : Bytes} {gap : ℕ} {value : Bytes} {m n l : ℕ} {x : Name
       too-long {out} h = outgrown others rest (subst x v e) out (beside-long others rest (subst x v e) (omega (arith, total)) (omega (arith, long)))
 
       module _ (short-enough : q ≤ 4096) {out : Bytes} (room : 4096 ≤ length out) where
-        left : Left body held gap value 0 0 out 0 (places x e 0)
-        left =
+        pub splice-left : Left body (take (count - 0) row) gap value 0 out 0
+        splice-left =
             record {
-              held = j .held-are;
-              spaced = rw (j .gap-is) (spaced-term x v e body (j .body-is));
+              spaced = rw (part-is, j .gap-is) (spaced-term x v e body (j .body-is));
               room = omega (arith, ap (λ (z : Bytes). length z) result, long);
             }
 
-        pub splice-left : (ps : List ℕ) × Left body held gap value 0 0 out 0 ps
-        splice-left = (places x e 0, left)
-
-        pub put-whole : {out₁ : Bytes} {o₁ : ℕ}
-            → ((ps : List ℕ) → Left body held gap value 0 0 out 0 ps → Wrote out 0 (spliced body value gap 0 ps (length body)) out₁ o₁)
+        pub put-whole : {out₁ : Bytes} {o₁ : ℕ} → Wrote out 0 (spliced body value gap 0 (take (count - 0) row) (length body)) out₁ o₁
             → Puts others rest none (subst x v e) out out₁ (Written o₁ p)
         put-whole {out₁} {o₁} g =
-            let w : Wrote out 0 (encode (subst x v e)) out₁ o₁ = rw result at (g (places x e 0) left) in
+            let w : Wrote out 0 (encode (subst x v e)) out₁ o₁ = rw result at g in
             let y = beside-yes others rest (subst x v e) (omega (arith, total)) (omega (arith, long)) in
             let s : o₁ ≡ size (subst x v e) = omega (arith, w .ends) in
             record { says = rw (y, s, total); leaves = rw y (w .holds) }

@@ -4,6 +4,7 @@ use Prim.Native.Nat.{ℕ, _+_, _-_, _*_, _<_, _≤_}
 use mathlib.Core.Path.{_≡_, refl, ap, _∙_}
 use mathlib.Core.Bool.{Bool, true, false, _&&_}
 use mathlib.Core.Option.{none, some}
+use mathlib.Core.List.{List}
 use native.Mathlib.Nat.{mul-le-mul-left}
 use native.Mathlib.Omega.{arith}
 use lib.ListN.{length, take}
@@ -17,9 +18,9 @@ use Rattle.rules.specs.Free.{occurrences}
 use Rattle.rules.specs.Substitution.{subst}
 use Rattle.laws.specs.SubstSize.{subst-nodes}
 use Rattle.runs.specs.Wrote.{Wrote}
-use Rattle.places.specs.Places.{places, kept}
-use Rattle.places.proofs.Writes.{wrote-part}
-use Rattle.places.proofs.Finds.{kept-small}
+use Rattle.places.specs.Places.{places, Row}
+use Rattle.places.proofs.Writes.{wrote-part, held, from-start}
+use Rattle.places.proofs.Finds.{count-within}
 use Rattle.putting.specs.Beside.{fitsBeside}
 use Rattle.putting.specs.Put.{Putting, Turns, Puts}
 use Rattle.putting.specs.declared.Put.{Put}
@@ -81,7 +82,7 @@ stuck others u half₀ half₁ r d is = go (fitsBeside others 0 u) refl (d .says
     go true y s = absurd (let z : _≡_ {A = ℕ} 0 1 = cc in omega arith)
     go false y s = y
 
-module _ {body held : Bytes} {many gap : ℕ} {a : Bytes} {k : ℕ} {b : Bytes} {m n rest : ℕ} {x : Name} {e v w : Term} (j : Turns body held many gap a k b m n rest x e v w) where
+module _ {body : Bytes} {row : List ℕ} {many gap : ℕ} {a : Bytes} {k : ℕ} {b : Bytes} {m n rest : ℕ} {x : Name} {e v w : Term} (j : Turns body row many gap a k b m n rest x e v w) where
   abbrev others : ℕ
   others = n - nodes e
 
@@ -91,12 +92,11 @@ module _ {body held : Bytes} {many gap : ℕ} {a : Bytes} {k : ℕ} {b : Bytes} 
   body-long : length body ≡ size e
   body-long = ap (λ (z : Bytes). length z) (j .body-is)
 
-  pub first-job : Putting body (take (many - 0) held) gap a k n (length body) x e v
+  pub first-job : Putting body row many gap a k n (length body) x e v
   first-job =
-      let z : many - 0 ≡ many = omega arith in
       record {
         body-is = j .body-is;
-        held-are = rw z (j .held-are);
+        held = j .held;
         gap-is = j .gap-is;
         value-is = j .first;
         nodes-in = j .nodes-in;
@@ -125,34 +125,25 @@ module _ {body held : Bytes} {many gap : ℕ} {a : Bytes} {k : ℕ} {b : Bytes} 
       half-short = omega (arith, half .long, half .fit)
 
       module _ (h : 4096 ≤ length half₀) where
-        bytes : take (l - 0) half₁ ≡ encode u
-        bytes = wrote-part (record { holds = half .leaves; ends = half .long ∙ omega arith }) (omega (arith, half-short))
+        pub half-is : take (l - 0) half₁ ≡ encode u
+        half-is = from-start l half₁ ∙ wrote-part (record { holds = half .leaves; ends = half .long ∙ omega arith }) (omega (arith, half-short))
 
-        long : length (take (l - 0) half₁) ≡ size u
-        long = ap (λ (z : Bytes). length z) bytes
+        pub half-within : (nodes u ≤ 512) × (length (take (l - 0) half₁) ≤ 4096)
+        half-within = (omega (arith, half .fit), omega (arith, ap (λ (z : Bytes). length z) half-is, half .fit))
 
-        pub half-term : {room : ℕ} → 4096 ≤ room → ((t : Term) × (take (l - 0) half₁ ≡ encode t)) × ((length (take (l - 0) half₁) ≤ 4096) × (length (take (l - 0) half₁) ≤ room))
-        half-term g = ((u, bytes), (omega (arith, long, half .fit), omega (arith, long, half .fit)))
-
-        module _ (y : Name) {places₀ places₁ : Bytes} {f : ℕ} (g : 4096 ≤ length places₀) (o : (t : Term) → take (l - 0) half₁ ≡ encode t → Wrote places₀ 0 (kept (places y t 0)) places₁ f) where
-          found : Wrote places₀ 0 (kept (places y u 0)) places₁ f
-          found = o u bytes
-
-          pub found-short : f ≤ 4096
-          found-short = omega (arith, found .ends, kept-small y u 0, half .fit)
-
-          pub second-job : Putting (take (l - 0) half₁) (take (f - 0) places₁) (2 + length y) b m c (rest + l) y u w
-          second-job =
-              record {
-                body-is = bytes;
-                held-are = wrote-part found (omega (arith, found-short));
-                gap-is = refl;
-                value-is = j .second;
-                nodes-in = omega (arith, half .count);
-                bytes-in = omega (arith, half .long);
-                few = omega (arith, half .count, half .fit);
-                short = omega (arith, half .long, half .fit, j .short);
-              }
+        pub second-job : (y : Name) {row₁ row₂ : List ℕ} {count : ℕ} → Row row₁ → Wrote row₁ 0 (places y u 0) row₂ count
+            → Putting (take (l - 0) half₁) row₂ count (2 + length y) b m c (rest + l) y u w
+        second-job y long found =
+            record {
+              body-is = half-is;
+              held = held found (count-within y u (omega (arith, half .fit)) long found);
+              gap-is = refl;
+              value-is = j .second;
+              nodes-in = omega (arith, half .count);
+              bytes-in = omega (arith, half .long);
+              few = omega (arith, half .count, half .fit);
+              short = omega (arith, half .long, half .fit, j .short);
+            }
 
       pub finished : (y : Name) {out out′ : Bytes} {q : Put} → Puts (c - nodes u) (rest + l - size u) none (subst y w u) out out′ q → Puts others rest (some u) (subst y w u) out out′ q
       finished y d =

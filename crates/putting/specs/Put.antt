@@ -3,23 +3,25 @@ use Prim.Native.Nat.{ℕ, _+_, _≤_}
 use mathlib.Core.Path.{_≡_}
 use mathlib.Core.Bool.{_&&_}
 use mathlib.Core.Option.{Option}
-use lib.ListN.{length, take}
+use mathlib.Core.List.{List}
+use lib.ListN.{length}
 use lib.Seq.{sets}
 use Rattle.rules.specs.Basic.{Bytes, if_then_else_}
 use Rattle.rules.specs.Limits.{limits, outputRoom}
 use Rattle.rules.specs.Name.{Name}
 use Rattle.rules.specs.Term.{Term, encode, nodes, size}
 use Rattle.rules.specs.Step.{halfFits}
-use Rattle.places.specs.Places.{places, kept}
+use Rattle.places.specs.Places.{places, Held}
 use Rattle.spans.specs.Given.{Given}
 use Rattle.putting.specs.Beside.{fitsBeside}
 use Rattle.putting.specs.declared.Put.{Put}
 use Rattle.putting.specs.declared.Put.the-variants.{Written, Outgrown}
 
--- the body e, with the places where x is free in it; it stands in a whole of n nodes and l bytes, and the value v has m nodes
-pub record Putting (body held : Bytes) (gap : ℕ) (value : Bytes) (m n l : ℕ) (x : Name) (e v : Term) : Type 0 where
+-- the body e, with the places where x is free in it, so many at the start of the row; it stands in a whole of n nodes and l bytes, and
+-- the value v has m nodes
+pub record Putting (body : Bytes) (row : List ℕ) (count gap : ℕ) (value : Bytes) (m n l : ℕ) (x : Name) (e v : Term) : Type 0 where
   pub body-is : body ≡ encode e
-  pub held-are : held ≡ kept (places x e 0)
+  pub held : Held row count (places x e 0)
   pub gap-is : gap ≡ 2 + length x
   pub value-is : Given value m v
   pub nodes-in : nodes e ≤ n
@@ -27,10 +29,10 @@ pub record Putting (body held : Bytes) (gap : ℕ) (value : Bytes) (m n l : ℕ)
   pub few : n ≤ limits .nodes
   pub short : l ≤ limits .bytes + limits .bytes
 
--- the same for two values, v for x first; so many bytes of `held` are x's places, and beside the redex stand `rest` bytes
-pub record Turns (body held : Bytes) (many gap : ℕ) (a : Bytes) (k : ℕ) (b : Bytes) (m n rest : ℕ) (x : Name) (e v w : Term) : Type 0 where
+-- the same for two values, v for x first; beside the redex stand `rest` bytes
+pub record Turns (body : Bytes) (row : List ℕ) (count gap : ℕ) (a : Bytes) (k : ℕ) (b : Bytes) (m n rest : ℕ) (x : Name) (e v w : Term) : Type 0 where
   pub body-is : body ≡ encode e
-  pub held-are : take many held ≡ kept (places x e 0)
+  pub held : Held row count (places x e 0)
   pub gap-is : gap ≡ 2 + length x
   pub first : Given a k v
   pub second : Given b m w

@@ -1,12 +1,12 @@
 // What a redex becomes, written by itself. The sizes of the new whole are known before anything is written.
 ghost use mathlib.Core.Option.{none, some};
-ghost use Prim.Native.Nat.{_-_, _≤_};
-ghost use lib.ListN.{length};
+ghost use Prim.Native.Nat.{_-_};
 ghost use Rattle.rules.specs.Name.{Name};
 ghost use Rattle.rules.specs.Term.{Term, nodes as nodesOf, size as sizeOf};
 ghost use Rattle.rules.specs.Substitution.{subst};
+ghost use Rattle.places.specs.Places.{Row};
 ghost use Rattle.putting.specs.Put.{Putting, Turns, Puts, Room};
-use places::free_places;
+use places::find_places;
 use rules::MOST_BYTES;
 use rules::MOST_NODES;
 use splice::sizes::grown;
@@ -18,10 +18,11 @@ pub enum Put {
     Outgrown,
 }
 
-// The body with the value at each of its kept places. With the body as it is, the whole has so many nodes and bytes.
+// The body with the value at each of its places, the first `count` of the row. With the body as it is, the whole has so many nodes and bytes.
 pub fn put_in(
     body: &[u8],
-    places: &[u8],
+    places: &[u16],
+    count: usize,
     gap: usize,
     value: &[u8],
     added: usize,
@@ -29,11 +30,10 @@ pub fn put_in(
     length: usize,
     out: &mut [u8],
 ) -> Put
-    requires { ⌜ ((x : Name) × (e : Term) × (v : Term) × Putting (now body) (now places) gap (now value) added nodes length x e v) ⌝ }
+    requires { ⌜ ((x : Name) × (e : Term) × (v : Term) × Putting (now body) (now places) count gap (now value) added nodes length x e v) ⌝ }
     requires { ⌜ Room (now out) ⌝ }
-    ensures { λ r. ⌜ ((x : Name) → (e : Term) → (v : Term) → Putting (now (body .entry)) (now (places .entry)) gap (now (value .entry)) added nodes length x e v → Puts (nodes - nodesOf e) (length - sizeOf e) none (subst x v e) (now (out .entry)) (now (out .exit)) r) ⌝ }
+    ensures { λ r. ⌜ ((x : Name) → (e : Term) → (v : Term) → Putting (now (body .entry)) (now (places .entry)) count gap (now (value .entry)) added nodes length x e v → Puts (nodes - nodesOf e) (length - sizeOf e) none (subst x v e) (now (out .entry)) (now (out .exit)) r) ⌝ }
 {
-    let count = places.len() / 2;
     let total = grown(nodes, count, 1, added);
     if MOST_NODES < total {
         return Put::Outgrown;
@@ -41,15 +41,15 @@ pub fn put_in(
     if MOST_BYTES < grown(length, count, gap, value.len()) {
         return Put::Outgrown;
     }
-    let size = splice(body, places, gap, value, out, 0);
+    let size = splice(body, &places[0..count], gap, value, out, 0);
     Put::Written { size, nodes: total }
 }
 
-// The body with a for x, whose places are kept, then b for y in all that results; what the first makes is tested as a term by itself.
+// The body with a for x, whose places are the first `count` of the row, then b for y in all that results; what the first makes is tested as a term by itself.
 // Its nodes are no more than those of the whole, which the second does not lessen: so only its bytes are.
 pub fn in_turn(
     body: &[u8],
-    kept: usize,
+    count: usize,
     gap: usize,
     a: &[u8],
     added: usize,
@@ -58,34 +58,27 @@ pub fn in_turn(
     more: usize,
     nodes: usize,
     rest: usize,
-    places: &mut [u8],
+    places: &mut [u16; MOST_NODES],
     half: &mut [u8],
     out: &mut [u8],
 ) -> Put
-    requires { ⌜ ((x : Name) × (e : Term) × (v : Term) × (w : Term) × Turns (now body) (now places) kept gap (now a) added (now b) more nodes rest x e v w) ⌝ }
-    requires { ⌜ (kept ≤ length (now places)) × Room (now places) × Room (now half) × Room (now out) ⌝ }
-    ensures { λ r. ⌜ ((x : Name) → (e : Term) → (v : Term) → (w : Term) → Turns (now (body .entry)) (now (places .entry)) kept gap (now (a .entry)) added (now (b .entry)) more nodes rest x e v w → Puts (nodes - nodesOf e) rest (some (subst x v e)) (subst (now (y .entry)) w (subst x v e)) (now (out .entry)) (now (out .exit)) r) ⌝ }
+    requires { ⌜ ((x : Name) × (e : Term) × (v : Term) × (w : Term) × Turns (now body) (now places) count gap (now a) added (now b) more nodes rest x e v w) ⌝ }
+    requires { ⌜ Row (now places) × Room (now half) × Room (now out) ⌝ }
+    ensures { λ r. ⌜ ((x : Name) → (e : Term) → (v : Term) → (w : Term) → Turns (now (body .entry)) (now (places .entry)) count gap (now (a .entry)) added (now (b .entry)) more nodes rest x e v w → Puts (nodes - nodesOf e) rest (some (subst x v e)) (subst (now (y .entry)) w (subst x v e)) (now (out .entry)) (now (out .exit)) r) ⌝ }
+    ensures { λ _. ⌜ Row (now (places .exit)) ⌝ }
 {
     let other_gap = 2 + y.len();
-    match put_in(
-        body,
-        &places[0..kept],
-        gap,
-        a,
-        added,
-        nodes,
-        body.len(),
-        half,
-    ) {
+    match put_in(body, places, count, gap, a, added, nodes, body.len(), half) {
         Put::Outgrown => Put::Outgrown,
         Put::Written {
             size,
             nodes: halfway,
         } => {
-            let found = free_places(&half[0..size], y, places);
+            let found = find_places(&half[0..size], y, places);
             put_in(
                 &half[0..size],
-                &places[0..found],
+                places,
+                found.count,
                 other_gap,
                 b,
                 more,

@@ -16,7 +16,7 @@ use Rattle.rules.specs.Step.{Stepped, isNormal}
 use Rattle.rules.specs.Reduction.{stopped, plus, reduceFrom, reduce}
 use Rattle.runs.specs.Wrote.{Wrote}
 use Rattle.gap.specs.Standing.{Ended, Reducing, Finds}
-use Rattle.landing.specs.Fired.{Firing, Fires, Lands, Over}
+use Rattle.landing.specs.Fired.{Firing, Fires, Lands, Over, Row}
 use Rattle.landing.specs.declared.Fired.{Fired}
 use Rattle.landing.specs.declared.Fired.the-variants.{Made, Outgrown as TooLarge}
 use Rattle.gap.specs.declared.place.Place.{Place}
@@ -73,8 +73,8 @@ module _ {limit : ℕ} {t : Term} {out scratch stack out₁ stack₁ : List ℕ}
       (record { says = m (a .whole) l; bytes = rw (← l) (join-bytes s v); fits = s .fits })
 
 module _ {limit : ℕ} {t : Term} {out scratch stack : List ℕ} {g : Course} {p : Place} (a : AtRedex limit t out scratch stack g p) where
-  pub fires : {places made : Bytes} → Room places made → Firing (a .whole) out scratch stack (p .o) (p .i) (p .depth) (g .nodes) places made
-  fires b = record { reducing = a .redex; count = a .carried .count; places-room = b .places-room; made-room = b .made-room }
+  pub fires : {places : List ℕ} {made : Bytes} → Room places made → Firing (a .whole) out scratch stack (p .o) (p .i) (p .depth) (g .nodes) places made
+  fires b = record { reducing = a .redex; count = a .carried .count; row = b .row; made-room = b .made-room }
 
   left : reduce limits limit t ≡ reduceFrom limits (suc (limit - (g .steps + 1))) (g .steps) (g .counts) (a .whole)
   left =
@@ -125,17 +125,13 @@ module _ (limit : ℕ) (t : Term) (steps : ℕ) (out scratch stack : List ℕ) (
   is-on e = subst (λ (z : Turned). Turns limit t steps out scratch stack z) e f
 
 -- the buffers keep their lengths
-pub record Kept (out₀ scratch₀ stack₀ : List ℕ) (places₀ made₀ : Bytes) (out scratch stack : List ℕ) (places made : Bytes) : Type 0 where
+pub record Kept (out₀ scratch₀ stack₀ : List ℕ) (made₀ : Bytes) (out scratch stack places : List ℕ) (made : Bytes) : Type 0 where
   pub same-out : length out ≡ length out₀
   pub same-scratch : length scratch ≡ length scratch₀
   pub same-stack : length stack ≡ length stack₀
-  pub same-places : length places ≡ length places₀
   pub same-made : length made ≡ length made₀
+  pub row : Row places
 
-pub still-room : {out₀ scratch₀ stack₀ : List ℕ} {places₀ made₀ : Bytes} {out scratch stack : List ℕ} {places made : Bytes}
-    → Kept out₀ scratch₀ stack₀ places₀ made₀ out scratch stack places made → Room places₀ made₀ → Room places made
-still-room k a =
-    record {
-      places-room = omega (arith, k .same-places, a .places-room);
-      made-room = omega (arith, k .same-made, a .made-room);
-    }
+pub still-room : {out₀ scratch₀ stack₀ places₀ : List ℕ} {made₀ : Bytes} {out scratch stack places : List ℕ} {made : Bytes}
+    → Kept out₀ scratch₀ stack₀ made₀ out scratch stack places made → Room places₀ made₀ → Room places made
+still-room k a = record { row = k .row; made-room = omega (arith, k .same-made, a .made-room) }

@@ -10,6 +10,7 @@ use Rattle.rules.specs.Term.{Term, encode, nodes, size, fits}
 use Rattle.rules.specs.Reduction.{Reduced, stopped, outgrew, reduceFrom, reduce}
 use Rattle.gap.specs.Standing.{Standing, Reducing}
 use Rattle.gap.specs.declared.place.Place.{Place}
+use Rattle.landing.specs.Fired.{Row}
 use Rattle.course.specs.Counted.{total}
 use Rattle.course.specs.declared.Course.{Course}
 use Rattle.course.specs.Told.{repeatedOf}
@@ -39,8 +40,8 @@ pub record AtRedex (limit : ℕ) (t : Term) (out scratch stack : List ℕ) (g : 
   pub small : limit ≤ 4294967295
 
 -- room to contract in
-pub record Room (places made : Bytes) : Type 0 where
-  pub places-room : outputRoom limits ≤ length places
+pub record Room (places : List ℕ) (made : Bytes) : Type 0 where
+  pub row : Row places
   pub made-room : outputRoom limits ≤ length made
 
 -- the last term that fitted

@@ -14,6 +14,7 @@ use course::Repeated;
 use course::at_rest;
 use course::counting::no_counts;
 use gap::moves::seek;
+use rules::MOST_NODES;
 
 mod turn;
 
@@ -24,7 +25,7 @@ fn go_on(
     out: &mut [u8],
     scratch: &mut [u8],
     stack: &mut [u16],
-    places: &mut [u8],
+    places: &mut [u16; MOST_NODES],
     made: &mut [u8],
 ) -> Repeated
     requires { ⌜ ((t : Term) × Stands limit t (now out) (now scratch) (now stack) from) × Room (now places) (now made) ⌝ }
@@ -54,7 +55,7 @@ fn with_room(
     requires { ⌜ ((t : Term) × Stands limit t (now out) (now scratch) (now stack) from) ⌝ }
     ensures { λ r. ⌜ ((t : Term) → Stands limit t (now (out .entry)) (now (scratch .entry)) (now (stack .entry)) from → Repeats (reduce limits limit t) (now (out .exit)) r) ⌝ }
 {
-    let mut places = [0u8; 4096];
+    let mut places = [0u16; MOST_NODES];
     let mut made = [0u8; 4096];
     go_on(from, limit, out, scratch, stack, &mut places, &mut made)
 }

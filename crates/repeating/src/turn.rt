@@ -1,6 +1,7 @@
 // One turn of bounded reduction: the search goes on to the next redex, which is contracted unless the limit is reached.
 ghost use Rattle.rules.specs.Term.{Term};
 ghost use Prim.Native.Nat.{ℕ};
+ghost use Rattle.landing.specs.Fired.{Row};
 ghost use Rattle.repeating.specs.Turning.{Stands, AtRedex, Room, Turns};
 use course::Course;
 use course::Repeated;
@@ -12,6 +13,7 @@ use gap::moves::seek;
 use gap::place::Place;
 use landing::Fired;
 use landing::fire;
+use rules::MOST_NODES;
 
 // A turn ends the reduction, or it goes on.
 pub enum Turned {
@@ -26,11 +28,12 @@ fn contract(
     out: &mut [u8],
     scratch: &mut [u8],
     stack: &[u16],
-    places: &mut [u8],
+    places: &mut [u16; MOST_NODES],
     made: &mut [u8],
 ) -> Turned
     requires { ⌜ ((limit : ℕ) × (t : Term) × AtRedex limit t (now out) (now scratch) (now stack) course place) × Room (now places) (now made) ⌝ }
     ensures { λ r. ⌜ ((limit : ℕ) (t : Term) → AtRedex limit t (now (out .entry)) (now (scratch .entry)) (now (stack .entry)) course place → Turns limit t (course .steps) (now (out .exit)) (now (scratch .exit)) (now (stack .entry)) r) ⌝ }
+    ensures { λ _. ⌜ Row (now (places .exit)) ⌝ }
 {
     let o = place.o;
     let i = place.i;
@@ -56,11 +59,12 @@ pub fn turn(
     out: &mut [u8],
     scratch: &mut [u8],
     stack: &mut [u16],
-    places: &mut [u8],
+    places: &mut [u16; MOST_NODES],
     made: &mut [u8],
 ) -> Turned
     requires { ⌜ ((t : Term) × Stands limit t (now out) (now scratch) (now stack) course) × Room (now places) (now made) ⌝ }
     ensures { λ r. ⌜ ((t : Term) → Stands limit t (now (out .entry)) (now (scratch .entry)) (now (stack .entry)) course → Turns limit t (course .steps) (now (out .exit)) (now (scratch .exit)) (now (stack .exit)) r) ⌝ }
+    ensures { λ _. ⌜ Row (now (places .exit)) ⌝ }
 {
     let from = course.at;
     let steps = course.steps;

@@ -15,7 +15,7 @@ use Rattle.runs.specs.Writing.{slice-split, slice-is}
 use Rattle.walk.specs.Node.{head, encodeAll, isVar, hides, hidden}
 use Rattle.walk.specs.Place.{TermAt, TermsAt}
 use Rattle.walk.proofs.Terms.{apart, at-parts, first, others, whole}
-use Rattle.places.specs.Places.{places, placesAll}
+use Rattle.places.specs.Places.{places, openPlaces, placesAll}
 use Rattle.splice.specs.Spliced.{spliced, Spaced}
 use Rattle.places.proofs.Shapes.{substAll, var-size, var-places, var-subst, node-subst, node-places}
 
@@ -90,7 +90,7 @@ module _ (s : Bytes) (x : Name) (v : Term) where
   row : (ts : List Term) → Laws ts → (m i n : ℕ) → TermsAt s i n ts → Put i (placesAll x m ts i) (encodeAll ts) (encodeAll (substAll x v m ts))
   row [] fs m i n w = plain i [] (w .rest) (w .bytes)
   row (t ∷ ts) fs m i n w =
-      joined i (i + size t) (if hidden m then [] else places x t i) (placesAll x (m / 2) ts (i + size t)) (encode t) (encode (if hidden m then t else subst x v t))
+      joined i (i + size t) (openPlaces x m t i) (placesAll x (m / 2) ts (i + size t)) (encode t) (encode (if hidden m then t else subst x v t))
       (encodeAll ts) (encodeAll (substAll x v (m / 2) ts)) refl
       (part (hidden m) t (fs .0) i (first s i n t ts w)) (row ts (fs .1) (m / 2) (i + size t) (n - 1) (others s i n t ts w (i + size t) refl))
 

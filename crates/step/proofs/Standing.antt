@@ -6,7 +6,7 @@ use mathlib.Core.Bool.{true, _&&_}
 use mathlib.Core.Option.{Option}
 use mathlib.Core.List.{[], _++_, append-nil, append-assoc}
 use native.Mathlib.Omega.{arith}
-use lib.ListN.{length, drop, length-append}
+use lib.ListN.{length, drop, replicate, length-append, length-replicate}
 use lib.Seq.{slice, drop-at, length-slice}
 use borrow.Author.Tests.{leb-true}
 use Rattle.rules.specs.Basic.{Bytes, _≤?_}
@@ -52,7 +52,7 @@ module _ {src : Bytes} {n place : ℕ} {out : Bytes} {f : Term → Term} {t : Te
   long : length src ≡ place + (size t + length right)
   long = ap (λ (z : Bytes). length z) bytes ∙ omega (arith, length-append left (encode t ++ right), length-append (encode t) right, j .frame .long)
 
-  pub job : {work : Bytes} → 4096 ≤ length work → contracting.Contractible src place n (length src) work t (j .rule) h u
+  pub job : {work : Bytes} → 4096 ≤ length work → contracting.Contracting src place n (length src) (replicate 512 0) work t (j .rule) h u
   job c =
       let w = within (f t) (j .fits) in
       record {
@@ -66,6 +66,7 @@ module _ {src : Bytes} {n place : ℕ} {out : Bytes} {f : Term → Term} {t : Te
               short = omega (arith, w, ap (λ (z : Bytes). length z) (j .whole));
             };
         contracts = j .contracts;
+        row = length-replicate {A = ℕ} 512 0;
         made-room = c;
       }
 

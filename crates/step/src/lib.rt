@@ -6,8 +6,9 @@ ghost use Rattle.rules.specs.Term.{Term};
 ghost use Rattle.rules.specs.Step.{step};
 ghost use Rattle.spans.specs.Given.{Reads};
 ghost use Rattle.step.specs.Taken.{Contracting, contracted, Takes};
-use contracting::contract_alone;
+use contracting::contract;
 use parts::Contracted;
+use rules::MOST_NODES;
 use rules::Rule;
 use search::Sought;
 use search::find;
@@ -28,7 +29,8 @@ fn contract_at(src: &[u8], nodes: usize, place: usize, out: &mut [u8], work: &mu
     requires { ⌜ ((f : Term → Term) × (t : Term) × Contracting (now src) nodes place (now out) f t) × (outputRoom limits ≤ length (now work)) ⌝ }
     ensures { λ r. ⌜ ((f : Term → Term) → (t : Term) → Contracting (now (src .entry)) nodes place (now (out .entry)) f t → Takes (contracted place f t) (now (out .entry)) (now (out .exit)) r) ⌝ }
 {
-    match contract_alone(src, place, nodes, src.len(), work) {
+    let mut places = [0u16; MOST_NODES];
+    match contract(src, place, nodes, src.len(), &mut places, work) {
         Contracted::Outgrown => Taken::Outgrown,
         Contracted::Made {
             rule,

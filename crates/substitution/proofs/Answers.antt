@@ -66,7 +66,7 @@ module _ (term name value out scratch : Bytes) where
       pub record Ready (n m : ℕ) : Type 0 where
         pub t : Term
         pub v : Term
-        pub job : Job term name value out scratch n m t v
+        pub job : Job term name value out n m t v
         pub is : substituted limits term name value ≡ grown limits (subst name v t)
 
       pub ready : (n m : ℕ) → inputs (readTerm limits 1 term) (readName 2 name) (readTerm limits 3 value) ≡ Read n m → Ready n m
@@ -90,7 +90,6 @@ module _ (term name value out scratch : Bytes) where
                       count = cc;
                       value-count = cc;
                       out-room = h;
-                      scratch-room = omega arith;
                     };
                 is = rw (p, p′, p″, w .0);
               }

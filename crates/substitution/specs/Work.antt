@@ -22,14 +22,13 @@ inputs (good t) (refused r) v = Refused r
 inputs (good t) (good x) (refused r) = Refused r
 inputs (good t) (good x) (good v) = Read (nodes t) (nodes v)
 
--- term and value encode t and v, which have so many nodes; the buffers are long enough
-pub record Job (term name value out scratch : Bytes) (n m : ℕ) (t v : Term) : Type 0 where
+-- term and value encode t and v, which have so many nodes; the output is long enough
+pub record Job (term name value out : Bytes) (n m : ℕ) (t v : Term) : Type 0 where
   pub term-in : TermIn limits term t
   pub value-in : TermIn limits value v
   pub count : n ≡ nodes t
   pub value-count : m ≡ nodes v
   pub out-room : outputRoom limits ≤ length out
-  pub scratch-room : outputRoom limits ≤ length scratch
 
 -- the new term and zeros behind it, or 8 and the output as it was; zeros in the scratch
 pub record Done (x : Name) (t v : Term) (out scratch : Bytes) (a : Answer) (out′ scratch′ : Bytes) : Type 0 where

@@ -7,6 +7,7 @@ ghost use Rattle.rules.specs.Reading.{readTerm, readName};
 ghost use Rattle.rules.specs.Calls.{substituteCall};
 ghost use Rattle.substitution.specs.Work.{inputs, Job, Done};
 use rules::Answer;
+use rules::MOST_NODES;
 use rules::OUTPUT_ROOM;
 use rules::Refusal;
 use rules::SCRATCH_ROOM;
@@ -55,18 +56,19 @@ fn replace(
     out: &mut [u8],
     scratch: &mut [u8],
 ) -> Answer
-    requires { ⌜ ((t : Term) × (v : Term) × Job (now term) (now name) (now value) (now out) (now scratch) nodes added t v) ⌝ }
-    ensures { λ r. ⌜ ((t : Term) → (v : Term) → Job (now (term .entry)) (now (name .entry)) (now (value .entry)) (now (out .entry)) (now (scratch .entry)) nodes added t v → Done (now (name .entry)) t v (now (out .entry)) (now (scratch .entry)) r (now (out .exit)) (now (scratch .exit))) ⌝ }
+    requires { ⌜ ((t : Term) × (v : Term) × Job (now term) (now name) (now value) (now out) nodes added t v) ⌝ }
+    ensures { λ r. ⌜ ((t : Term) → (v : Term) → Job (now (term .entry)) (now (name .entry)) (now (value .entry)) (now (out .entry)) nodes added t v → Done (now (name .entry)) t v (now (out .entry)) (now (scratch .entry)) r (now (out .exit)) (now (scratch .exit))) ⌝ }
 {
-    let kept = places::free_places(term, name, scratch);
+    runs::clear(scratch, 0);
+    let mut row = [0u16; MOST_NODES];
+    let found = places::find_places(term, name, &mut row);
+    let count = found.count;
     let gap = 2 + name.len();
-    if sizes::stays(term.len(), nodes, kept / 2, gap, value.len(), added) {
-        let end = splice::splice(term, &scratch[0..kept], gap, value, out, 0);
+    if sizes::stays(term.len(), nodes, count, gap, value.len(), added) {
+        let end = splice::splice(term, &row[0..count], gap, value, out, 0);
         runs::clear(out, end);
-        runs::clear(scratch, 0);
         return Answer::Good(end);
     }
-    runs::clear(scratch, 0);
     refused(8)
 }
 

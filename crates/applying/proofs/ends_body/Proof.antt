@@ -1,4 +1,4 @@
--- `applying::ends_body` meets its contract: two bytes are one place. Assumes nothing.
+-- `applying::ends_body` meets its contract: by the one place that is held. Assumes nothing.
 use mathlib.Core.Path.{_≡_}
 use Prim.Native.Nat.{ℕ}
 use native.Mathlib.Omega.{arith}
@@ -8,43 +8,21 @@ use borrow.Author.Needs.{needs}
 use Rattle.applying.proofs.ends_body.Statement.{statement}
 use Rattle.applying.proofs.ends_body.Tie as tie
 
-shared-slice-read-low : tie.Need-shared-slice-read-low
-shared-slice-read-low c = search needs
+shared-slice-read-place : tie.Need-shared-slice-read-place
+shared-slice-read-place c = search needs
 
-cast-low : tie.Need-cast-low
-cast-low c = omega (arith, c .shared-slice-known .given 0)
-
-shared-slice-read-high : tie.Need-shared-slice-read-high
-shared-slice-read-high c = search needs
-
-cast-high : tie.Need-cast-high
-cast-high c = omega (arith, c .shared-slice-known2 .given 1)
-
-mul-result : tie.Need-mul-result
-mul-result c = omega (arith, c .shared-slice-known2 .given 1)
+cast-place : tie.Need-cast-place
+cast-place c = omega (arith, c .shared-slice-known .given 0)
 
 add-result : tie.Need-add-result
-add-result c = omega (arith, c .before .shared-slice-known .given 0, c .shared-slice-known2 .given 1)
-
-add-result-2 : tie.Need-add-result-2
-add-result-2 c = omega (arith, c .before .shared-slice-known .given 0, c .shared-slice-known2 .given 1)
+add-result c = omega (arith, c .shared-slice-known .given 0)
 
 returns : tie.Need-returns
-returns c ps e t = place-ends (one-place _ _ ps (c .before .before .before .pre .0) (c .before .before .if1 .taken) e) (eqb-true _ _ t)
+returns c = λ ps h e. place-ends (one-place _ h (c .before .if1 .taken)) (eqb-true _ _ e)
 
 returns-2 : tie.Need-returns-2
-returns-2 c ps e t = absurd (let z : _≡_ {A = ℕ} 0 1 = cc in omega arith)
+returns-2 c = λ ps h e. absurd (let z : _≡_ {A = ℕ} 0 1 = cc in omega arith)
 
 pub ends-body-spec : {M : Type 1} → statement M
 ends-body-spec =
-    tie.close
-    (tie.spec
-    shared-slice-read-low
-    cast-low
-    shared-slice-read-high
-    cast-high
-    mul-result
-    add-result
-    add-result-2
-    returns
-    returns-2)
+    tie.close (tie.spec shared-slice-read-place cast-place add-result returns returns-2)

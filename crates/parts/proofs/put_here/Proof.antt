@@ -33,19 +33,10 @@ part-put-in-start-2 : tie.Need-part-put-in-start-2
 part-put-in-start-2 c = search needs
 
 part-put-in-end-2 : tie.Need-part-put-in-end-2
-part-put-in-end-2 c = search needs
-
-sub-put-in-3 : tie.Need-sub-put-in-3
-sub-put-in-3 c = search needs
-
-part-put-in-start-3 : tie.Need-part-put-in-start-3
-part-put-in-start-3 c = search needs
-
-part-put-in-end-3 : tie.Need-part-put-in-end-3
-part-put-in-end-3 c = omega (arith, part-in (c .before .before .before .before .before .pre .0 .5 .value))
+part-put-in-end-2 c = omega (arith, part-in (c .before .before .before .before .pre .0 .5 .value))
 
 put-in-requires : tie.Need-put-in-requires
-put-in-requires c κs = ((_, _, _, putting (c .before .before .before .before .before .before .before .pre .0 .5)), c .before .before .before .before .before .before .before .pre .1)
+put-in-requires c κs = ((_, _, _, putting (c .before .before .before .before .before .before .pre .0 .5)), c .before .before .before .before .before .before .pre .1)
 
 told-requires : tie.Need-told-requires
 told-requires c κs = search needs
@@ -54,7 +45,7 @@ same-length : tie.Need-same-length
 same-length c = search needs
 
 returns : tie.Need-returns
-returns c = λ n t x e v j. placed j (c .before .before .before .before .before .before .before .before .before .before .before .pre .1) (c .before .before .before .put-in .ensures _ _ _ (putting j)) (c .told .ensures)
+returns c = λ n t x e v j. placed j (c .before .before .before .before .before .before .before .before .before .before .pre .1) (c .before .before .before .put-in .ensures _ _ _ (putting j)) (c .told .ensures)
 
 pub put-here-spec : {M : Type 1} → statement M
 put-here-spec =
@@ -70,9 +61,6 @@ put-here-spec =
     sub-put-in-2
     part-put-in-start-2
     part-put-in-end-2
-    sub-put-in-3
-    part-put-in-start-3
-    part-put-in-end-3
     put-in-requires
     told-requires
     same-length

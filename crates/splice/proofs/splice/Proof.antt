@@ -1,6 +1,6 @@
 -- `splice::splice` meets its contract: whatever the places that are left give, all give. Assumes nothing.
-use Prim.Native.Nat.{_+_, _-_}
-use mathlib.Core.Path.{refl, _∙_}
+use Prim.Native.Nat.{_-_}
+use mathlib.Core.Path.{_∙_}
 use native.Mathlib.Omega.{arith}
 use lib.ListN.{length}
 use Rattle.runs.specs.Writing.{wrote-length}
@@ -15,49 +15,34 @@ abbrev μ-loop : tie.MeasureT-loop
 μ-loop s places gap value out₀ to i₀ k₀ o₀ out i k o = length places - k
 
 loop-holds : tie.Need-loop-holds Inv-loop μ-loop
-loop-holds c = begin _ _ _ _ _ _ (c .before .before .before .before .pre)
-
-shared-slice-read-low : tie.Need-shared-slice-read-low Inv-loop μ-loop
-shared-slice-read-low c = omega arith
-
-cast-low : tie.Need-cast-low Inv-loop μ-loop
-cast-low c = omega (arith, c .shared-slice-known4 .given (c .before .before .loop .k))
-
-add-second : tie.Need-add-second Inv-loop μ-loop
-add-second c = omega arith
-
-shared-slice-read-high : tie.Need-shared-slice-read-high Inv-loop μ-loop
-shared-slice-read-high c = omega (arith, bounds (c .before .before .before .loop .inv) (c .before .before .loop-test .taken) _ refl .held)
-
-cast-high : tie.Need-cast-high Inv-loop μ-loop
-cast-high c = omega (arith, c .shared-slice-known5 .given (c .before .before .before .loop .k + 1))
+loop-holds c = begin (c .before .before .before .before .pre)
 
 mul-place : tie.Need-mul-place Inv-loop μ-loop
-mul-place c = omega (arith, c .shared-slice-known5 .given (c .before .before .before .loop .k + 1))
+mul-place c = omega arith
 
-add-place : tie.Need-add-place Inv-loop μ-loop
-add-place c = omega (arith, c .shared-slice-known5 .given (c .before .before .before .loop .k), c .shared-slice-known5 .given (c .before .before .before .loop .k + 1))
+shared-slice-read-place : tie.Need-shared-slice-read-place Inv-loop μ-loop
+shared-slice-read-place c = omega arith
+
+cast-place : tie.Need-cast-place Inv-loop μ-loop
+cast-place c = omega (arith, c .shared-slice-known4 .given (c .before .before .loop .k))
 
 copy-requires : tie.Need-copy-requires Inv-loop μ-loop
-copy-requires c κs = let b = bounds (c .before .before .before .before .loop .inv) (c .before .before .before .loop-test .taken) _ refl in (b .from, omega (arith, b .within), omega (arith, b .room))
+copy-requires c κs = let b = bounds (c .before .before .before .loop .inv) (c .before .before .loop-test .taken) in (b .0, omega (arith, b .1), b .2)
 
 copy-requires-2 : tie.Need-copy-requires-2 Inv-loop μ-loop
-copy-requires-2 c κs =
-    let l = c .before .before .before .before .before .before .before .before .loop in
-    let t = c .before .before .before .before .before .before .before .loop-test .taken in
-    (omega arith, omega arith, value-room (l .inv) t _ refl _ _ (c .before .before .before .copy .ensures))
+copy-requires-2 c κs = (omega arith, omega arith, value-room (c .before .before .before .before .before .before .before .loop .inv) (c .before .before .before .before .before .before .loop-test .taken) (c .before .before .before .copy .ensures))
 
 add-i : tie.Need-add-i Inv-loop μ-loop
-add-i c = let b = bounds (c .before .before .before .before .before .before .before .before .before .before .before .loop .inv) (c .before .before .before .before .before .before .before .before .before .before .loop-test .taken) _ refl in omega (arith, b .within)
+add-i c = omega (arith, bounds (c .before .before .before .before .before .before .before .before .before .before .loop .inv) (c .before .before .before .before .before .before .before .before .before .loop-test .taken) .1)
 
 add-k : tie.Need-add-k Inv-loop μ-loop
-add-k c = let b = bounds (c .before .before .before .before .before .before .before .before .before .before .before .loop .inv) (c .before .before .before .before .before .before .before .before .before .before .loop-test .taken) _ refl in omega (arith, b .held)
+add-k c = omega arith
 
 loop-less : tie.Need-loop-less Inv-loop μ-loop
 loop-less c = omega arith
 
 loop-again : tie.Need-loop-again Inv-loop μ-loop
-loop-again c = turn (c .before .before .before .before .before .before .before .before .before .before .before .loop .inv) (c .before .before .before .before .before .before .before .before .before .before .loop-test .taken) _ refl _ _ _ _ (c .before .before .before .before .before .before .copy .ensures) (c .before .before .copy2 .ensures)
+loop-again c = turn (c .before .before .before .before .before .before .before .before .before .before .loop .inv) (c .before .before .before .before .before .before .before .before .before .loop-test .taken) (c .before .before .before .before .before .before .copy .ensures) (c .before .before .copy2 .ensures)
 
 copy-requires-3 : tie.Need-copy-requires-3 Inv-loop μ-loop
 copy-requires-3 c κs = let b = last-run (c .before .before .loop .inv) (c .before .loop-test .left) in (b .0, omega arith, b .1)
@@ -66,7 +51,7 @@ same-length : tie.Need-same-length Inv-loop μ-loop
 same-length c = wrote-length (c .before .before .copy3 .ensures) ∙ c .before .before .before .before .before .loop .inv .same
 
 returns : tie.Need-returns Inv-loop μ-loop
-returns c = done (c .before .before .before .before .before .loop .inv) (c .before .before .before .before .loop-test .left) _ _ (c .before .before .copy3 .ensures)
+returns c = done (c .before .before .before .before .before .loop .inv) (c .before .before .before .before .loop-test .left) (c .before .before .copy3 .ensures)
 
 pub splice-spec : {M : Type 1} → statement M
 splice-spec =
@@ -75,13 +60,9 @@ splice-spec =
     Inv-loop
     μ-loop
     loop-holds
-    shared-slice-read-low
-    cast-low
-    add-second
-    shared-slice-read-high
-    cast-high
     mul-place
-    add-place
+    shared-slice-read-place
+    cast-place
     copy-requires
     copy-requires-2
     add-i

@@ -1,19 +1,22 @@
 -- `substitution::replace` meets its contract: the sizes are those of the result, and the splice is the result. Assumes nothing.
-use Rattle.substitution.proofs.Works.{growth, kept-within, splice-left, end-within, done, outgrown}
+use mathlib.Core.Path.{refl}
+use Rattle.places.proofs.Finds.{whole}
+use Rattle.substitution.proofs.Works.{growth, part-within, splice-left, end-within, done, outgrown}
 use borrow.Author.Needs.{needs}
 use Rattle.substitution.proofs.replace.Statement.{statement}
 use Rattle.substitution.proofs.replace.Tie as tie
 
-free-places-requires : tie.Need-free-places-requires
-free-places-requires c κs = search needs
+clear-requires : tie.Need-clear-requires
+clear-requires c κs = search needs
+
+find-places-requires : tie.Need-find-places-requires
+find-places-requires c κs = let (t, v, j) = c .before .before .before .before .before .before .before .before .before .before .pre in ((t, whole t _ (j .term-in .bytes), j .term-in .few), (j .term-in .short, refl))
 
 add-gap : tie.Need-add-gap
 add-gap c = search needs
 
 stays-requires : tie.Need-stays-requires
-stays-requires c κs =
-    let b = c .before .before .before .before .before .before .before .before .before in
-    (_, b .pre .0, b .pre .1, growth (b .pre .2) _ _ (c .before .before .free-places .ensures))
+stays-requires c κs = let (t, v, j) = c .before .before .before .before .before .before .before .before .before .before .before .pre in (_, t, v, growth j refl (c .find-places .ensures t (whole t _ (j .term-in .bytes)) .1))
 
 sub-splice : tie.Need-sub-splice
 sub-splice c = search needs
@@ -22,22 +25,17 @@ part-splice-start : tie.Need-part-splice-start
 part-splice-start c = search needs
 
 part-splice-end : tie.Need-part-splice-end
-part-splice-end c = kept-within (c .before .before .before .before .before .before .before .before .before .before .before .before .pre .2) _ _ (c .before .before .before .before .before .free-places .ensures)
+part-splice-end c = let (t, v, j) = c .before .before .before .before .before .before .before .before .before .before .before .before .before .before .pre in part-within j refl (c .before .before .before .find-places .ensures t (whole t _ (j .term-in .bytes)) .1)
 
 splice-requires : tie.Need-splice-requires
-splice-requires c κs =
-    let j = c .before .before .before .before .before .before .before .before .before .before .before .before .before .before .pre .2 in
-    let f = c .before .before .before .before .before .before .before .free-places .ensures in
-    splice-left j _ _ f _ (c .before .before .before .before .stays .ensures _ _ _ (growth j _ _ f)) (c .before .before .before .if1 .taken)
-
-clear-requires : tie.Need-clear-requires
-clear-requires c κs =
-    let j = c .before .before .before .before .before .before .before .before .before .before .before .before .before .before .before .before .before .before .pre .2 in
-    let f = c .before .before .before .before .before .before .before .before .before .before .before .free-places .ensures in
-    end-within j _ _ f _ (c .before .before .before .before .before .before .before .before .stays .ensures _ _ _ (growth j _ _ f)) (c .before .before .before .before .before .before .before .if1 .taken) _ _ (c .before .before .before .splice .ensures)
+splice-requires c κs = let (t, v, j) = c .before .before .before .before .before .before .before .before .before .before .before .before .before .before .before .before .pre in
+    let f = c .before .before .before .before .before .find-places .ensures t (whole t _ (j .term-in .bytes)) .1 in
+    splice-left j refl f _ (c .before .before .before .before .stays .ensures _ _ _ (growth j refl f)) (c .before .before .before .if1 .taken)
 
 clear-requires-2 : tie.Need-clear-requires-2
-clear-requires-2 c κs = search needs
+clear-requires-2 c κs = let (t, v, j) = c .before .before .before .before .before .before .before .before .before .before .before .before .before .before .before .before .before .before .before .before .pre in
+    let f = c .before .before .before .before .before .before .before .before .before .find-places .ensures t (whole t _ (j .term-in .bytes)) .1 in
+    end-within j refl f _ (c .before .before .before .before .before .before .before .before .stays .ensures _ _ _ (growth j refl f)) (c .before .before .before .before .before .before .before .if1 .taken) _ _ (c .before .before .before .splice .ensures)
 
 same-length : tie.Need-same-length
 same-length c = search needs
@@ -46,12 +44,9 @@ same-length-2 : tie.Need-same-length-2
 same-length-2 c = search needs
 
 returns : tie.Need-returns
-returns c t v j =
-    let f = c .before .before .before .before .before .before .before .before .before .before .before .before .before .before .before .before .before .before .free-places .ensures in
-    done j _ _ f _ (c .before .before .before .before .before .before .before .before .before .before .before .before .before .before .before .stays .ensures _ _ _ (growth j _ _ f)) (c .before .before .before .before .before .before .before .before .before .before .before .before .before .before .if1 .taken) _ _ (c .before .before .before .before .before .before .before .before .before .before .splice .ensures) _ _ (c .before .before .before .before .before .before .clear .ensures) (c .before .before .clear2 .ensures)
-
-clear-requires-3 : tie.Need-clear-requires-3
-clear-requires-3 c κs = search needs
+returns c = λ t v j.
+    let f = c .before .before .before .before .before .before .before .before .before .before .before .before .find-places .ensures t (whole t _ (j .term-in .bytes)) .1 in
+    done j refl f _ (c .before .before .before .before .before .before .before .before .before .before .before .stays .ensures _ _ _ (growth j refl f)) (c .before .before .before .before .before .before .before .before .before .before .if1 .taken) _ _ (c .before .before .before .before .before .before .splice .ensures) _ _ _ (c .before .before .clear2 .ensures) (c .before .before .before .before .before .before .before .before .before .before .before .before .before .before .before .before .clear .ensures)
 
 refused-requires : tie.Need-refused-requires
 refused-requires c κs = search needs
@@ -60,27 +55,26 @@ same-length-3 : tie.Need-same-length-3
 same-length-3 c = search needs
 
 returns-2 : tie.Need-returns-2
-returns-2 c t v j =
-    let f = c .before .before .before .before .before .before .before .before .before .free-places .ensures in
-    outgrown j _ _ f _ (c .before .before .before .before .before .before .stays .ensures _ _ _ (growth j _ _ f)) (c .before .before .before .before .before .if1 .left) _ (c .refused .ensures) _ (c .before .before .before .clear3 .ensures)
+returns-2 c = λ t v j.
+    let f = c .before .before .before .find-places .ensures t (whole t _ (j .term-in .bytes)) .1 in
+    outgrown j refl f _ (c .before .before .stays .ensures _ _ _ (growth j refl f)) (c .before .if1 .left) _ (c .refused .ensures) _ _ (c .before .before .before .before .before .before .before .clear .ensures)
 
 pub replace-spec : {M : Type 1} → statement M
 replace-spec =
     tie.close
     (tie.spec
-    free-places-requires
+    clear-requires
+    find-places-requires
     add-gap
     stays-requires
     sub-splice
     part-splice-start
     part-splice-end
     splice-requires
-    clear-requires
     clear-requires-2
     same-length
     same-length-2
     returns
-    clear-requires-3
     refused-requires
     same-length-3
     returns-2)

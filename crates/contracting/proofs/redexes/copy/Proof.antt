@@ -30,17 +30,20 @@ sub-rest-2 c =
 
 both-requires : tie.Need-both-requires
 both-requires c κs =
-    let j = c .before .before .before .before .before .before .pre .0 .4 in
-    let m = c .before .before .before .span-names .ensures _ _ (both-names _ _ _ _ _ (j .stands)) in
-    ((_, _, _, _, _, _, _, copy-pairing j m (c .before .before .span .ensures _ (copy-source j m))), c .before .before .before .before .before .before .pre .1)
+    let j = c .before .before .before .before .before .before .before .pre .0 .4 in
+    let m = c .before .before .before .before .span-names .ensures _ _ (both-names _ _ _ _ _ (j .stands)) in
+    ((_, _, _, _, _, _, _, copy-pairing j m (c .before .before .before .span .ensures _ (copy-source j m))), c .before .before .before .before .before .before .before .pre .1)
 
 same-length : tie.Need-same-length
 same-length c = search needs
 
 returns : tie.Need-returns
-returns c x y v e j =
-    let m = c .before .before .before .before .before .before .span-names .ensures _ _ (both-names _ _ _ _ _ (j .stands)) in
-    c .before .before .both .ensures _ _ _ _ _ _ _ (copy-pairing j m (c .before .before .before .before .before .span .ensures _ (copy-source j m)))
+returns c = (
+  λ x y v e j.
+      let m = c .before .before .before .before .before .before .before .span-names .ensures _ _ (both-names _ _ _ _ _ (j .stands)) in
+      c .before .before .both .ensures .0 _ _ _ _ _ _ _ (copy-pairing j m (c .before .before .before .before .before .before .span .ensures _ (copy-source j m))),
+  c .before .before .both .ensures .1,
+)
 
 pub copy-spec : {M : Type 1} → statement M
 copy-spec =

@@ -49,19 +49,22 @@ sub-rest-3 c =
 
 both-requires : tie.Need-both-requires
 both-requires c κs =
-    let j = c .before .before .before .before .before .before .before .before .before .pre .0 .5 in
-    let m = c .before .before .before .before .before .before .span-names .ensures _ _ (both-names _ _ _ _ _ (j .stands)) in
-    let h = c .before .before .before .before .span .ensures _ (let-first j m) in
-    ((_, _, _, _, _, _, _, let-pairing j m h (c .before .before .before .span2 .ensures _ (let-second j m h))), c .before .before .before .before .before .before .before .before .before .pre .1)
+    let j = c .before .before .before .before .before .before .before .before .before .before .pre .0 .5 in
+    let m = c .before .before .before .before .before .before .before .span-names .ensures _ _ (both-names _ _ _ _ _ (j .stands)) in
+    let h = c .before .before .before .before .before .span .ensures _ (let-first j m) in
+    ((_, _, _, _, _, _, _, let-pairing j m h (c .before .before .before .before .span2 .ensures _ (let-second j m h))), c .before .before .before .before .before .before .before .before .before .before .pre .1)
 
 same-length : tie.Need-same-length
 same-length c = search needs
 
 returns : tie.Need-returns
-returns c x y a b e j =
-    let m = c .before .before .before .before .before .before .before .before .before .span-names .ensures _ _ (both-names _ _ _ _ _ (j .stands)) in
-    let h = c .before .before .before .before .before .before .before .span .ensures _ (let-first j m) in
-    c .before .before .both .ensures _ _ _ _ _ _ _ (let-pairing j m h (c .before .before .before .before .before .before .span2 .ensures _ (let-second j m h)))
+returns c = (
+  λ x y a b e j.
+      let m = c .before .before .before .before .before .before .before .before .before .before .span-names .ensures _ _ (both-names _ _ _ _ _ (j .stands)) in
+      let h = c .before .before .before .before .before .before .before .before .span .ensures _ (let-first j m) in
+      c .before .before .both .ensures .0 _ _ _ _ _ _ _ (let-pairing j m h (c .before .before .before .before .before .before .before .span2 .ensures _ (let-second j m h))),
+  c .before .before .both .ensures .1,
+)
 
 pub let-pair-spec : {M : Type 1} → statement M
 let-pair-spec =
