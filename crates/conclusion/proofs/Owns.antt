@@ -3,24 +3,23 @@
 use Prim.Native.Nat.{ℕ, _+_, _*_}
 use native.Mathlib.Omega.{arith}
 use mathlib.Core.Path.{_≡_, refl, sym, _∙_}
-use mathlib.Core.List.{[], _∷_}
 use lib.ListN.{drop}
 use Rattle.rules.specs.Basic.{Bytes}
 use Rattle.rules.specs.Limits.{Limits}
 use Rattle.rules.specs.Layout.{headAt}
 use Rattle.rules.specs.Formula.{Formula}
 use Rattle.rules.specs.Proof.{RuleHead, aPlain, aCut, aFocus, ruleHeads, cut, focus}
-use Rattle.rules.specs.Reading.{Got, got, bad, Reader, Met, andThen, many, byte, tag, ruleGot, ruleOf}
+use Rattle.rules.specs.Reading.{Got, got, bad, Reader, Met, andThen, byte, tag, ruleGot, ruleOf}
 use Rattle.conclusion.proofs.Answers.{Reached, To, Fault, Tag, Plain, Cut, Focus, NoTag}
 use Rattle.rule_bytes.specs.Seen.{pastTag, seen, found, carries, tagSeen}
 use Rattle.rule_bytes.specs.Stages.{formulaOf, rowOf, indexOf, ownOf}
-use Rattle.conclusion.proofs.Views.{seen-made}
+use Rattle.conclusion.proofs.Views.{seen-made, many-one}
 use Rattle.rule_bytes.proofs.Tags.{Headed}
 
 -- one formula in a row
 row-one : (L : Limits) (s : Bytes) (q : Reached) → seen (found (rowOf L 1) s q) ≡ seen (found (formulaOf L) s q)
-unfolding rowOf many
-row-one L s q = seen-made (found (formulaOf L) s q) (λ x. x ∷ [])
+unfolding rowOf
+row-one L s q = many-one (formulaOf L) s q 1 refl
 
 module _ (m : Reader Met Formula) (s : Bytes) (q : Reached) where
   plain-seen : (h : RuleHead) → carries h ≡ Plain → seen (found (ruleOf m h) s q) ≡ To q

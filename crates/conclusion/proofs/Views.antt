@@ -3,7 +3,7 @@
 use Prim.Native.Nat.{ℕ, suc, _≤_}
 use native.Mathlib.Omega.{arith}
 use mathlib.Core.Path.{_≡_, refl, ap, _∙_}
-use mathlib.Core.List.{_∷_}
+use mathlib.Core.List.{[], _∷_}
 use lib.ListN.{length, drop}
 use Rattle.rules.specs.Basic.{Bytes}
 use Rattle.rules.specs.Reading.{Got, got, bad, Reader, Met, andThen, many}
@@ -42,6 +42,10 @@ module _ {A : Type 0} (m : Reader Met A) (s : Bytes) (q : Reached) (n : ℕ) whe
   pub many-none : n ≡ 0 → seen (found (many m n) s q) ≡ To q
   unfolding many
   many-none z = rw z
+
+  pub many-one : n ≡ 1 → seen (found (many m n) s q) ≡ seen (found m s q)
+  unfolding many
+  many-one z = rw z (seen-made (found m s q) (λ x. x ∷ []))
 
   pub many-off : (k : ℕ) → n ≡ suc k → (i p : ℕ) → found m s q ≡ bad i p → seen (found (many m n) s q) ≡ Fault i p
   unfolding many

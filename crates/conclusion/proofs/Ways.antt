@@ -108,3 +108,22 @@ onward = record {
 
 pub proof-onward : (L : Limits) (depth : ℕ) (u : Met) (at : ℕ) (r : Bytes) → Holds (λ x v p r′. (u .rules ≤ v .rules) × (at ≤ p)) (proofAt L depth u at r)
 proof-onward L depth = keeps-proof Onward onward L (λ n u at b r l. (omega arith, omega arith)) (λ f u at b r l. (omega arith, omega arith)) depth
+
+-- Rules and formula nodes are within the limits, and stay so.
+abbrev pub Few : Limits → Met → Type 0
+Few L u = (u .rules ≤ L .rules) × (u .formulas ≤ L .formulas)
+
+module _ (L : Limits) where
+  abbrev StaysFew : Met → ℕ → Bytes → Met → ℕ → Bytes → Type 0
+  StaysFew u at r v p r′ = Few L u → Few L v
+
+  stays-few : Kept StaysFew
+  stays-few = record { still = λ u at r h. h; on = λ f g h. g (f h); passed = λ u at b r h. h }
+
+  pub top-few : (u : Met) (at : ℕ) (r : Bytes) → Holds (λ x v p r′. Few L u → Few L v) (topOf L u at r)
+  top-few =
+      makes-top StaysFew stays-few L (λ n u at b r l h. (h .0, omega arith)) StaysFew
+      record { tagged = λ u at b r l h. (omega arith, h .1); on = λ f g h. g (f h) }
+
+  pub proof-few : (depth : ℕ) (u : Met) (at : ℕ) (r : Bytes) → Holds (λ x v p r′. Few L u → Few L v) (proofAt L depth u at r)
+  proof-few depth = keeps-proof StaysFew stays-few L (λ n u at b r l h. (h .0, omega arith)) (λ f u at b r l h. (omega arith, h .1)) depth

@@ -1,15 +1,53 @@
--- `proof_input` meets its contract: the limits are those of document 01. Assumes nothing.
-use mathlib.Core.Path.{refl}
+-- `proof_input` meets its contract: each return is a case of what a whole input is. Assumes nothing.
+use native.Mathlib.Omega.{arith}
+use mathlib.Core.Path.{sym, _∙_}
 use Rattle.rules.specs.Limits.{limits}
+use Rattle.laws.specs.Octets.{octets}
+use Rattle.proof.proofs.Whole.{whole-long, whole-bad, whole-end}
 use borrow.Author.Needs.{needs}
 use Rattle.proof.proofs.proof_input.Statement.{statement}
 use Rattle.proof.proofs.proof_input.Tie as tie
 
-check-within-requires : tie.Need-check-within-requires
-check-within-requires c κs = search needs
-
 returns : tie.Need-returns
-returns c = c .check-within .ensures limits refl refl refl
+returns c = let a = c .before .before .args in sym (whole-long (a .input) (a .t1 .now) (c .if1 .taken))
+
+table-of-requires : tie.Need-table-of-requires
+table-of-requires c κs = search needs
+
+read-rule-requires : tie.Need-read-rule-requires
+read-rule-requires c κs = (c .before .before .table-of .ensures, record { short = omega arith; inside = omega arith; ruled = omega arith; formed = omega arith })
+
+told-requires : tie.Need-told-requires
+told-requires c κs = search needs
+
+enum-known-end : tie.Need-enum-known-end
+enum-known-end c = search needs
+
+at-end-requires : tie.Need-at-end-requires
+at-end-requires c κs = search needs
+
+enum-known-number : tie.Need-enum-known-number
+enum-known-number c = search needs
+
+returns-2 : tie.Need-returns-2
+returns-2 c = let a = c .before .before .before .before .before .before .before .before .before .before .before .args in
+    c .at-end .ensures
+    ∙ sym (whole-end (a .input) (a .t1 .now) (omega arith) (sym (c .before .before .before .before .before .read-rule .ensures (limits .rules) (omega arith)) ∙ sym (c .before .before .before .before .told .ensures) ∙ c .before .before .end .given .1)
+    (octets (a .t1 .now) (λ i. c .before .before .before .before .before .before .before .before .before .before .shared-slice-known .given i .fits)))
+
+returns-3 : tie.Need-returns-3
+returns-3 c = let a = c .before .before .before .before .before .before .before .before .before .before .args in sym (whole-bad (a .input) (a .t1 .now) (omega arith) (sym (c .before .before .before .before .read-rule .ensures (limits .rules) (omega arith)) ∙ sym (c .before .before .before .told .ensures) ∙ c .before .number .given .1))
 
 pub proof-input-spec : {M : Type 1} → statement M
-proof-input-spec = tie.close (tie.spec check-within-requires returns)
+proof-input-spec =
+    tie.close
+    (tie.spec
+    returns
+    table-of-requires
+    read-rule-requires
+    told-requires
+    enum-known-end
+    at-end-requires
+    enum-known-number
+    returns-2
+    returns-3)

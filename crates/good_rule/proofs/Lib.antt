@@ -1,4 +1,0 @@
--- What the proofs of several functions use.
-mod Carried
-mod Rows
-mod Parts
