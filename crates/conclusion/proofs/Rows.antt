@@ -13,7 +13,7 @@ use Rattle.letters.specs.declared.Read.the-variants.{Whole, Bad}
 use Rattle.letters.specs.View.{view}
 use Rattle.conclusion.proofs.Answers.{Reached, Most, Reading, To, Fault}
 use Rattle.rule_bytes.specs.Seen.{seen, found, within}
-use Rattle.rule_bytes.specs.Stages.{formulaOf, rowOf}
+use Rattle.rule_bytes.specs.Stages.{rowOf}
 use Rattle.conclusion.proofs.Views.{seen-made}
 
 -- what a row of nodes says, where k rules were met

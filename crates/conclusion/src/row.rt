@@ -1,4 +1,4 @@
-// Reads formulas in a row: the loop of `nodes` for nodes with one name at most. It is so short that it is compiled into its callers.
+// Reads formulas in a row: the loop of `nodes`, for nodes with one name at most. It is so short that the compiler puts it where it is called.
 ghost use mathlib.Core.Path.{_≡_};
 ghost use Prim.Native.Nat.{ℕ, _≤_};
 ghost use lib.ListN.{drop};
@@ -26,7 +26,7 @@ fn skip_atom(s: &[u8], t: &[u8; 256], at: usize, names: usize) -> Skip
     skip_name(s, t, longest_name(Form::Formula), at)
 }
 
-// n formulas from `at` on, where `used` nodes were met before: of these, and of the parts of those met, so many are left.
+// n formulas from `at` on, where `used` nodes were met before. Still to be read are, of those n and of the parts of those met, `left`.
 pub fn read_row(s: &[u8], t: &[u8; 256], at: usize, used: usize, most: usize, n: usize) -> Read
     requires { ⌜ Classes formulaLayout (now t) ⌝ }
     requires { ⌜ (most ≤ 65536) × (n ≤ 65536) ⌝ }
