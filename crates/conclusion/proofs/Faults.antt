@@ -13,7 +13,7 @@ use Rattle.rules.specs.Limits.{Limits}
 use Rattle.rules.specs.Layout.{Layout, headAt}
 use Rattle.rules.specs.Formula.{formulas}
 use Rattle.rules.specs.Proof.{RuleHead, aPlain, aCut, aFocus, ruleHeads}
-use Rattle.rules.specs.Reading.{Got, got, bad, Reader, andThen, times, many, byte, byteFor, room, letters, name, listed, tag, tooMany, node, ruleGot, formulaGot, countingRules, countingFormulas, ruleOf}
+use Rattle.rules.specs.Reading.{Got, got, bad, Reader, andThen, times, many, byte, byteFor, room, letters, name, listed, tag, tooMany, node, ruleGot, formulaGot, ruleOf}
 use Rattle.laws.specs.Steady.{Stands, stands, stands-next}
 use Rattle.rule_bytes.specs.Seen.{found, countSeen}
 use Rattle.rule_bytes.specs.Stages.{formulaOf, rowOf, tagOf, ownOf, linearOf, countOf, topOf}

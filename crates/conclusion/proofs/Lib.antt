@@ -1,7 +1,6 @@
 -- What the proofs of several functions use, here and in the crates above.
 pub mod Answers
 pub mod Views
-pub mod Left
 pub mod Rows
 pub mod Ways
 pub mod Owns

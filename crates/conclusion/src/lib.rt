@@ -6,8 +6,9 @@ ghost use Rattle.rules.specs.Formula.{formulas as formulaLayout};
 ghost use Rattle.letters.specs.Classes.{Classes};
 ghost use Rattle.rule_bytes.specs.Seen.{seen, found, countSeen, within};
 ghost use Rattle.rule_bytes.specs.Stages.{rowOf, indexOf, ownOf, linearOf, topOf};
+use letters::Form;
 use letters::Read;
-use row::read_row;
+use nodes::read_row;
 use rule_bytes::Most;
 use rule_bytes::Reached;
 use rule_bytes::Reading;
@@ -18,15 +19,24 @@ use rule_bytes::past_tag;
 use rule_bytes::tag::Tag;
 use rule_bytes::tag::read_tag;
 
-mod row;
-
 // n formulas, one after the other.
 fn read_formulas(s: &[u8], t: &[u8; 256], most: Most, from: Reached, n: usize) -> Reading
     requires { ⌜ Classes formulaLayout (now t) ⌝ }
     requires { ⌜ (most .formulas ≤ 65536) × (n ≤ 65536) ⌝ }
     ensures { λ r. ⌜ r ≡ seen (found (rowOf (within most) n) (now (s .entry)) from) ⌝ }
 {
-    match read_row(s, t, from.next, from.formulas, most.formulas, n) {
+    if n == 0 {
+        return Reading::To(from);
+    }
+    match read_row(
+        s,
+        Form::Formula,
+        t,
+        from.next,
+        from.formulas,
+        most.formulas,
+        n,
+    ) {
         Read::Whole { next, met } => Reading::To(Reached {
             next,
             rules: from.rules,

@@ -25,6 +25,7 @@ pub fn fault(number: u8, place: usize) -> usize
     FAULT + place * 256 + number as usize
 }
 
+// What such a number tells.
 pub fn told(r: usize) -> Reading
     ensures { λ reading. ⌜ reading ≡ toldBy r ⌝ }
 {

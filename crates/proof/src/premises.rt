@@ -1,5 +1,5 @@
 // Reads a rule with its premises: one reader for a rule and one for its row of premises, each calling the other.
-// What they hand on are numbers and thin references, and the last premise of a row is a jump.
+// What they hand on are numbers and thin references, and what they hand back is one number: so the last premise of a row is a jump.
 ghost use mathlib.Core.Path.{_≡_};
 ghost use Prim.Native.Nat.{ℕ, _+_, _≤_};
 ghost use Rattle.rules.specs.Limits.{limits};
@@ -40,7 +40,7 @@ pub fn read_rule(s: &&[u8], t: &[u8; 256], next: usize, rules: usize, formulas: 
     }
 }
 
-// The premises of a rule, n of them.
+// The premises of a rule, n of them, each by a call of the other reader.
 fn read_premises(s: &&[u8], t: &[u8; 256], from: Reached, n: usize) -> usize
     requires { ⌜ Classes formulaLayout (now t) ⌝ }
     requires { ⌜ Far (now (now s)) from ⌝ }
