@@ -23,7 +23,7 @@ use Rattle.places.proofs.Nodes as seen
 pub use Rattle.walk.proofs.Terms.{whole}
 
 -- a name has no more places in a term than that has nodes
-pub places-few : (x : Name) (t : Term) (i : ℕ) → length (places x t i) ≤ nodes t
+places-few : (x : Name) (t : Term) (i : ℕ) → length (places x t i) ≤ nodes t
 places-few x t i = omega (arith, places-many x t i, occurrences-nodes x t)
 
 -- so a row has room for those of a term that breaks no limit

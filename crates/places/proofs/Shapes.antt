@@ -68,7 +68,7 @@ module _ (x : Name) where
 
   -- ---- any other term
 
-  pub node-head : (v t : Term) → isVar x t ≡ false → head (subst x v t) ≡ head t
+  node-head : (v t : Term) → isVar x t ≡ false → head (subst x v t) ≡ head t
   unfolding subst
   node-head v (var y) h = rw h
   node-head v (leaf k) h = refl
@@ -97,7 +97,7 @@ sub-3 true false a c e f g h = refl
 sub-3 false true a c e f g h = refl
 sub-3 false false a c e f g h = refl
 
-pub node-parts : (x : Name) (v t : Term) → isVar x t ≡ false → parts (subst x v t) ≡ substAll x v (hides x t) (parts t)
+node-parts : (x : Name) (v t : Term) → isVar x t ≡ false → parts (subst x v t) ≡ substAll x v (hides x t) (parts t)
 unfolding subst
 node-parts x v (var y) h = rw h
 node-parts x v (leaf k) h = refl

@@ -37,7 +37,7 @@ some-node (abs x e) = omega arith
 some-node (both k x y e b) = omega arith
 some-node (branch x y e l r) = omega arith
 
-pub no-fewer : (y : Name) (w u : Term) → nodes u ≤ nodes (subst y w u)
+no-fewer : (y : Name) (w u : Term) → nodes u ≤ nodes (subst y w u)
 no-fewer y w u =
     let h : occurrences y u * 1 ≤ occurrences y u * nodes w = mul-le-mul-left (occurrences y u) (some-node w) in
     omega (arith, subst-nodes y w u)

@@ -21,19 +21,19 @@ use Rattle.places.proofs.Shapes.{substAll, var-size, var-places, var-subst, nod
 
 module _ (s v : Bytes) (gap : ℕ) where
   -- a run in front of the first place
-  pub flush : (i j : ℕ) (qs : List ℕ) (end : ℕ) → i ≤ j → Spaced gap j qs end → spliced s v gap i qs end ≡ slice i j s ++ spliced s v gap j qs end
+  flush : (i j : ℕ) (qs : List ℕ) (end : ℕ) → i ≤ j → Spaced gap j qs end → spliced s v gap i qs end ≡ slice i j s ++ spliced s v gap j qs end
   unfolding spliced
   flush i j [] end h w = slice-split i j end s h w
   flush i j (q ∷ qs) end h w =
       ap (λ (z : Bytes). z ++ (v ++ spliced s v gap (q + gap) qs end)) (slice-split i j q s h (w .0))
       ∙ append-assoc (slice i j s) (slice j q s) (v ++ spliced s v gap (q + gap) qs end)
 
-  pub sooner : (i j : ℕ) (qs : List ℕ) (end : ℕ) → i ≤ j → Spaced gap j qs end → Spaced gap i qs end
+  sooner : (i j : ℕ) (qs : List ℕ) (end : ℕ) → i ≤ j → Spaced gap j qs end → Spaced gap i qs end
   sooner i j [] end h w = omega arith
   sooner i j (q ∷ qs) end h w = (omega (arith, w .0), w .1)
 
 -- from i on stand the bytes `old`, at the places ps of which v goes in; `new` comes of it, whatever the places after it are
-abbrev pub Becomes : (s v : Bytes) (gap i : ℕ) → (ps : List ℕ) (old new : Bytes) → Type 0
+abbrev Becomes : (s v : Bytes) (gap i : ℕ) → (ps : List ℕ) (old new : Bytes) → Type 0
 Becomes s v gap i ps old new =
     (qs : List ℕ) (end : ℕ) → Spaced gap (i + length old) qs end
     → (spliced s v gap i (ps ++ qs) end ≡ new ++ spliced s v gap (i + length old) qs end) × Spaced gap i (ps ++ qs) end
