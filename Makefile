@@ -110,7 +110,9 @@ cases:
 	@cargo run $(CARGO) -p cases > host/target/cases.antt
 	@mv host/target/cases.antt crates/cases/specs/RustCases.antt
 
-# The list of the Rust's answers that the program crates/vectors replays.
+# The list of answers that the program crates/vectors replays, and what it prints if all are right.
 vectors:
 	@cargo run $(CARGO) -p cases --bin vectors > host/target/vectors
+	@cargo run $(CARGO) -p cases --bin vectors said > host/target/said
 	@mv host/target/vectors crates/vectors/stdin
+	@mv host/target/said crates/vectors/stdout

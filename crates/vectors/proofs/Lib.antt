@@ -1,0 +1,3 @@
+pub mod Prefix
+pub mod Cell
+pub mod Extracting
