@@ -9,13 +9,14 @@ use types.Run.{OneOf}
 use Rattle.rules.specs.Basic.{Bytes}
 use Rattle.rules.specs.Name.{Name}
 use Rattle.rules.specs.Term.{Term, var, leaf, one, two, abs, both, branch, One, Two, Both}
+use Rattle.walk.specs.Node.{onePart}
 use Rattle.walk.specs.Place.{NameAt, NamesAt, TermAt}
 use Rattle.walk.proofs.Names.{AfterIs, name-room, single}
 use Rattle.walk.proofs.Terms.{at-inside, at-end, at-tag, at-names}
 use Rattle.name_row.specs.State.{State, Meets, Met}
 use Rattle.gathering.specs.Walk.{Task, Done}
 use Rattle.name_row.proofs.Meeting as meeting
-use Rattle.gathering.proofs.Inverts.{Rest, leafTags, twoTags, bothTags, is-var, is-leaf, is-one, is-two, is-abs, is-both, is-branch}
+use Rattle.gathering.proofs.Inverts.{Rest, twoTags, bothTags, is-var, is-leaf, is-one, is-two, is-abs, is-both, is-branch}
 use Rattle.gathering.proofs.Moves.{some-nodes, leaf-done, var-meets, var-done, one-task, one-done, two-task, two-again, two-done, abs-room, abs-name, abs-task, abs-done, both-first, both-second, both-task, both-room, both-body, both-done, branch-first, branch-second, branch-task, branch-room, branch-left, branch-right, branch-done}
 
 abbrev Some : Bytes → ℕ → List ℕ → ℕ → ℕ → Type 0
@@ -63,13 +64,13 @@ module _ {s : Bytes} {at : ℕ} {row : List ℕ} {low n : ℕ} (some : Some s at
       pub var-fits : (h ≤ 65536) × (r ≤ 1088)
       var-fits = let (t, xs, l, w) = some in let z = var-ends t xs l w in (omega (arith, z .ends, at-end s at t (w .term), small), let (x, ys, k, v) = var-some in omega (arith, m x ys k v .few, few))
 
-  pub leaf-ends : OneOf leafTags (getD s at 0) → All s at row row low n (at + 1) n
+  pub leaf-ends : Rest (getD s at 0) → All s at row row low n (at + 1) n
   leaf-ends e t xs l w = let (j, d) = is-leaf t _ (at-tag s at t (w .term)) e in rw d (leaf-done j (rw d at w))
 
   pub leaf-fits : (at + 1 ≤ 65536) × (n ≤ 1088)
   leaf-fits = (omega (arith, inside, small), omega (arith, few))
 
-  module _ (e : Rest (getD s at 0)) where
+  module _ (e : onePart (getD s at 0) ≡ 1) where
     one-is : (t : Term) → TermAt s at t → (j : One) × (u : Term) × (t ≡ one j u)
     one-is t w = is-one t _ (at-tag s at t w) e
 

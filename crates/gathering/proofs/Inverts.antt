@@ -1,4 +1,4 @@
--- Which term a node is, from its tag, as the walk tells tags apart: by the keys of an arm, or by its having none of them.
+-- Which term a node is, from its tag, as the walk tells tags apart: by the bit of a node with one part, by the keys of an arm, or by having neither.
 -- By the seven shapes.
 -- Assumes nothing.
 use Prim.Native.Nat.{ℕ}
@@ -12,7 +12,8 @@ use borrow.Author.Tests.{eq-eqb}
 use types.Run.{OneOf}
 use Rattle.rules.specs.Name.{Name}
 use Rattle.rules.specs.Term.{Term, var, leaf, one, two, abs, both, branch, Leaf, unit, trivial, One, inl as injectLeft, inr as injectRight, fst, snd, abort, promote, derelict, Two, pair, app, discard, Both, letPair, copy}
-use Rattle.walk.specs.Node.{tag}
+use Rattle.walk.specs.Node.{tag, onePart}
+use Rattle.walk.specs.OnePart.{one-bit, only-one}
 
 -- k is one of the keys, as a test
 abbrev keyed : List ℕ → ℕ → Bool
@@ -32,22 +33,22 @@ is-keyed (i ∷ j ∷ is) k (inr h) = go (eqb k i) (is-keyed (j ∷ is) k h)
 none : {P : Type 0} → _≡_ {A = Bool} false true → P
 none e = absurd (let z : _≡_ {A = ℕ} 0 1 = cc in omega arith)
 
-abbrev pub leafTags : List ℕ
-leafTags = 2 ∷ 10 ∷ []
-
 abbrev pub twoTags : List ℕ
 twoTags = 3 ∷ 6 ∷ 16 ∷ []
 
 abbrev pub bothTags : List ℕ
 bothTags = 4 ∷ 17 ∷ []
 
--- the tag is none of those
+-- the tag is not one of a node with one part, and none of the keys
 abbrev pub Rest : ℕ → Type 0
-Rest k = (((((Unit {0} × (k ≡ 1 → ⊥)) × (OneOf leafTags k → ⊥)) × (OneOf twoTags k → ⊥)) × (k ≡ 5 → ⊥)) × (OneOf bothTags k → ⊥)) × (k ≡ 9 → ⊥)
+Rest k = (onePart k ≡ 1 → ⊥) × (((((Unit {0} × (k ≡ 1 → ⊥)) × (OneOf twoTags k → ⊥)) × (k ≡ 5 → ⊥)) × (OneOf bothTags k → ⊥)) × (k ≡ 9 → ⊥))
 
 module _ (t : Term) (k : ℕ) (is : k ≡ tag t) where
   told : (ks : List ℕ) → OneOf ks k → keyed ks (tag t) ≡ true
   told ks h = ap (keyed ks) (sym is) ∙ is-keyed ks k h
+
+  pub is-one : onePart k ≡ 1 → (i : One) × (e : Term) × (t ≡ one i e)
+  is-one h = only-one t (rw is at h)
 
   pub is-var : k ≡ 1 → (x : Name) × (t ≡ var x)
   is-var h = go t (told (1 ∷ []) h)
@@ -56,27 +57,6 @@ module _ (t : Term) (k : ℕ) (is : k ≡ tag t) where
       go (var x) e = (x, refl)
       go (leaf unit) e = none e
       go (leaf trivial) e = none e
-      go (one injectLeft a) e = none e
-      go (one injectRight a) e = none e
-      go (one fst a) e = none e
-      go (one snd a) e = none e
-      go (one abort a) e = none e
-      go (one promote a) e = none e
-      go (one derelict a) e = none e
-      go (two pair a b) e = none e
-      go (two app a b) e = none e
-      go (two discard a b) e = none e
-      go (abs x a) e = none e
-      go (both letPair x y a b) e = none e
-      go (both copy x y a b) e = none e
-      go (branch x y a b c) e = none e
-
-  pub is-leaf : OneOf leafTags k → (i : Leaf) × (t ≡ leaf i)
-  is-leaf h = go t (told leafTags h)
-    where
-      go : (u : Term) → keyed leafTags (tag u) ≡ true → (i : Leaf) × (u ≡ leaf i)
-      go (var x) e = none e
-      go (leaf i) e = (i, refl)
       go (one injectLeft a) e = none e
       go (one injectRight a) e = none e
       go (one fst a) e = none e
@@ -177,18 +157,17 @@ module _ (t : Term) (k : ℕ) (is : k ≡ tag t) where
       go (both copy x y a b) e = none e
       go (branch x y a b c) e = (x, y, a, b, c, refl)
 
-  pub is-one : Rest k → (i : One) × (e : Term) × (t ≡ one i e)
-  is-one rest = go t is
+  pub is-leaf : Rest k → (i : Leaf) × (t ≡ leaf i)
+  is-leaf rest = go t is
     where
-      go : (u : Term) → k ≡ tag u → (i : One) × (e : Term) × (u ≡ one i e)
-      go (one i a) e = (i, a, refl)
-      go (var x) e = absurd (rest .0 .0 .0 .0 .0 .1 e)
-      go (leaf unit) e = absurd (rest .0 .0 .0 .0 .1 (inl e))
-      go (leaf trivial) e = absurd (rest .0 .0 .0 .0 .1 (inr e))
-      go (two pair a b) e = absurd (rest .0 .0 .0 .1 (inl e))
-      go (two app a b) e = absurd (rest .0 .0 .0 .1 (inr (inl e)))
-      go (two discard a b) e = absurd (rest .0 .0 .0 .1 (inr (inr e)))
-      go (abs x a) e = absurd (rest .0 .0 .1 e)
-      go (both letPair x y a b) e = absurd (rest .0 .1 (inl e))
-      go (both copy x y a b) e = absurd (rest .0 .1 (inr e))
-      go (branch x y a b c) e = absurd (rest .1 e)
+      go : (u : Term) → k ≡ tag u → (i : Leaf) × (u ≡ leaf i)
+      go (leaf i) e = (i, refl)
+      go (one i a) e = absurd (rest .0 (ap (λ (z : ℕ). onePart z) e ∙ one-bit i))
+      go (var x) e = absurd (rest .1 .0 .0 .0 .0 .1 e)
+      go (two pair a b) e = absurd (rest .1 .0 .0 .0 .1 (inl e))
+      go (two app a b) e = absurd (rest .1 .0 .0 .0 .1 (inr (inl e)))
+      go (two discard a b) e = absurd (rest .1 .0 .0 .0 .1 (inr (inr e)))
+      go (abs x a) e = absurd (rest .1 .0 .0 .1 e)
+      go (both letPair x y a b) e = absurd (rest .1 .0 .1 (inl e))
+      go (both copy x y a b) e = absurd (rest .1 .0 .1 (inr e))
+      go (branch x y a b c) e = absurd (rest .1 .1 e)

@@ -18,18 +18,22 @@ fn come_to(next: usize, count: usize) -> usize
 
 // Puts the free names of the term at `at` into the row, but for those of the binders passed, which stand from low on.
 // It calls itself on each part. What it hands on are numbers and thin references, so that a call on the last part is a jump.
+// Nodes with one part are told apart before the match, so that a chain of them goes by no jump table.
 pub fn gather(s: &&[u8], at: usize, row: &mut [u16; 1088], low: usize, n: usize) -> usize
     requires { ⌜ ((t : Term) × (xs : List Name) × (l : List Name) × Task (now (now s)) at (now row) low n t xs l) ⌝ }
     ensures { λ r. ⌜ ((t : Term) → (xs : List Name) → (l : List Name) → Task (now (now (s .entry))) at (now (row .entry)) low n t xs l → Done (now (now (s .entry))) at (now (row .exit)) low n t xs l (r % 131072) (r / 131072)) ⌝ }
 {
     let first = at + 1;
-    match s[at] {
+    let tag = s[at];
+    if walk::one_part(tag) == 1 {
+        return gather(s, first, row, low, n);
+    }
+    match tag {
         1 => {
             let next = walk::after_names(*s, first, 1);
             let count = meet(*s, first, row, low, n);
             come_to(next, count)
         }
-        2 | 10 => come_to(first, n),
         3 | 6 | 16 => {
             let a = gather(s, first, row, low, n);
             gather(s, a % 131072, row, low, a / 131072)
@@ -56,6 +60,6 @@ pub fn gather(s: &&[u8], at: usize, row: &mut [u16; 1088], low: usize, n: usize)
             let c = push(row, low, second);
             gather(s, l % 131072, row, c, l / 131072)
         }
-        _ => gather(s, first, row, low, n),
+        _ => come_to(first, n),
     }
 }

@@ -4,15 +4,14 @@ use Prim.Native.Nat.{ℕ}
 use mathlib.Core.Path.{_≡_, refl, sym, ap, _∙_}
 use mathlib.Core.Logic.{inl, inr}
 use mathlib.Core.List.{List, [], _∷_}
-use native.Mathlib.Omega.{arith}
 use lib.ListN.{getD}
 use types.Run.{OneOf}
 use Rattle.rules.specs.Name.{Name}
-use Rattle.rules.specs.Term.{Term, var, leaf, one, two, abs, both, branch, Leaf, unit, trivial, One, inl as injectLeft, inr as injectRight, fst, snd, abort, promote, derelict, Two, pair, app, discard, letPair, copy, oneTag, encode}
-use Rattle.walk.specs.Node.{tag}
+use Rattle.rules.specs.Term.{Term, var, leaf, one, two, abs, both, branch, Leaf, unit, trivial, One, inl as injectLeft, inr as injectRight, fst, snd, abort, promote, derelict, Two, pair, app, discard, letPair, copy, encode}
+use Rattle.walk.specs.Node.{tag, onePart}
+use Rattle.walk.specs.OnePart.{one-bit, only-one}
 use Rattle.words.specs.Steps.{first-byte}
 use Rattle.phrases.specs.Task.{TermTask, Whole}
-use Rattle.phrases.specs.Words.{onePart}
 use Rattle.phrases.specs.Shapes.{Bracketed}
 
 pub data Shape : Type 0 where
@@ -99,28 +98,6 @@ pub two-key : {k : ℕ} → OneOf (3 ∷ 6 ∷ []) k → shapeOf k ≡ a-two
 two-key (inl h) = rw h
 two-key (inr h) = rw h
 
-one-tags : (k : One) → onePart (oneTag k) ≡ 1
-one-tags injectLeft = refl
-one-tags injectRight = refl
-one-tags fst = refl
-one-tags snd = refl
-one-tags abort = refl
-one-tags promote = refl
-one-tags derelict = refl
-
-one-shape : (t : Term) → onePart (tag t) ≡ 1 → shape t ≡ an-one
-one-shape (var x) h = absurd (omega (arith, h))
-one-shape (leaf unit) h = absurd (omega (arith, h))
-one-shape (leaf trivial) h = absurd (omega (arith, h))
-one-shape (one k e) h = refl
-one-shape (two pair a b) h = absurd (omega (arith, h))
-one-shape (two app a b) h = absurd (omega (arith, h))
-one-shape (two discard a b) h = absurd (omega (arith, h))
-one-shape (abs x e) h = absurd (omega (arith, h))
-one-shape (both letPair x y e b) h = absurd (omega (arith, h))
-one-shape (both copy x y e b) h = absurd (omega (arith, h))
-one-shape (branch x y e l r) h = absurd (omega (arith, h))
-
 -- it has none of the keys of the walk, and not one part
 abbrev pub Rest : ℕ → Type 0
 Rest k = (((Unit {0} × (k ≡ 1 → ⊥)) × (OneOf (3 ∷ 6 ∷ []) k → ⊥)) × (k ≡ 5 → ⊥)) × (onePart k ≡ 1 → ⊥)
@@ -128,7 +105,7 @@ Rest k = (((Unit {0} × (k ≡ 1 → ⊥)) × (OneOf (3 ∷ 6 ∷ []) k → ⊥)
 rest-whole : (t : Term) → Rest (tag t) → Whole t
 rest-whole (var x) r = absurd (r .0 .0 .0 .1 refl)
 rest-whole (leaf k) r = tt
-rest-whole (one k e) r = absurd (r .1 (one-tags k))
+rest-whole (one k e) r = absurd (r .1 (one-bit k))
 rest-whole (two pair a b) r = absurd (r .0 .0 .1 (inl refl))
 rest-whole (two app a b) r = absurd (r .0 .0 .1 (inr refl))
 rest-whole (two discard a b) r = tt
@@ -168,7 +145,7 @@ module _ {s : List ℕ} {at : ℕ} {out : List ℕ} {to : ℕ} where
   made-of n t w h = let q : shape t ≡ n = sym (ap (λ (k : ℕ). shapeOf k) (tag-at t w) ∙ tag-shape t) ∙ h in rw q at (made t)
 
   pub made-one : (t : Term) → TermTask s at out to t → onePart (getD s at 0) ≡ 1 → Made an-one t
-  made-one t w h = rw (one-shape t (rw (tag-at t w) at h)) at (made t)
+  made-one t w h = only-one t (rw (tag-at t w) at h)
 
   pub is-whole : (t : Term) → TermTask s at out to t → Rest (getD s at 0) → Whole t
   is-whole t w h = rest-whole t (rw (tag-at t w) at h)

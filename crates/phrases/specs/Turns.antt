@@ -12,8 +12,9 @@ use Rattle.words.specs.Prints.{Prints, brackets}
 use Rattle.rules.specs.Text.{text}
 use Rattle.words.specs.Task.{Task, Done}
 use Rattle.words.specs.Steps.{told-done}
+use Rattle.walk.specs.Node.{onePart}
 use Rattle.phrases.specs.Task.{TermTask, TermDone, nameAt, afterName, NameIn, Whole}
-use Rattle.phrases.specs.Words.{signOf, onePart, betweenOf}
+use Rattle.phrases.specs.Words.{signOf, betweenOf}
 use Rattle.phrases.specs.Shapes.{Bracketed}
 use Rattle.phrases.specs.Inverts.{shapeOf, a-var, a-two, an-abs, two-key, made-of, made-one, Rest, is-whole}
 use Rattle.phrases.specs.Shaped.{begun}

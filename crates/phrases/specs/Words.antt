@@ -22,7 +22,3 @@ signOf k = take (longOf k) (eight (wordOf k) ++ 32 ∷ [])
 -- what stands between the parts of a pair or an application
 abbrev pub betweenOf : (tag : ℕ) → List ℕ
 betweenOf k = take (1 + k % 2) (eight (0x2020 + 12 * (k % 2)))
-
--- 1 for the tags of nodes with one part and no name
-abbrev pub onePart : (tag : ℕ) → ℕ
-onePart k = 63872 / 2 ^ (k % 32) % 2

@@ -9,7 +9,7 @@ ghost use Rattle.rules.specs.Term.{Leaf, leaf as leafOf};
 ghost use Rattle.words.specs.Prints.{Prints, brackets};
 ghost use Rattle.words.specs.Task.{Task, Done};
 ghost use Rattle.phrases.specs.Task.{TermTask, TermDone, nameAt, afterName, NameIn};
-ghost use Rattle.phrases.specs.Words.{wordOf, longOf, signOf, onePart, betweenOf};
+ghost use Rattle.phrases.specs.Words.{wordOf, longOf, signOf, betweenOf};
 use names::name;
 use names::named;
 use names::past;
@@ -58,13 +58,6 @@ pub fn sign(tag: u8, out: &mut [u8], to: usize) -> usize
     ensures { λ r. ⌜ Prints (now (out .entry)) to (signOf tag) (now (out .exit)) r ⌝ }
 {
     spaced(out, to, word_of(tag), long_of(tag as usize))
-}
-
-// 1 for a tag of nodes with one part and no name, 0 for any other: one bit a tag.
-pub fn one_part(tag: u8) -> usize
-    ensures { λ r. ⌜ r ≡ onePart tag ⌝ }
-{
-    (63872usize >> (tag % 32) as usize) % 2
 }
 
 // What stands between the parts of a pair, a comma and a space, or of an application, a space.

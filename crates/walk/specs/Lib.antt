@@ -1,3 +1,4 @@
 pub mod Node
+pub mod OnePart
 pub mod Place
 pub mod Seen

@@ -58,3 +58,7 @@ namesAfter k = packed 34360264196 k
 
 abbrev pub partsAfter : ℕ → ℕ
 partsAfter k = packed 44380808832 k
+
+-- 1 for a tag that one part follows and no name, 0 for any other, one bit a tag
+abbrev pub onePart : ℕ → ℕ
+onePart k = 63872 / 2 ^ (k % 32) % 2

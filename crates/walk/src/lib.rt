@@ -6,7 +6,7 @@ ghost use Prim.Native.Nat.{_+_, _<_};
 ghost use lib.ListN.{length};
 ghost use Rattle.rules.specs.Name.{Name, same as sameName, encodeNames};
 ghost use Rattle.rules.specs.Term.{Term, parts};
-ghost use Rattle.walk.specs.Node.{head, namesAfter, partsAfter, encodeAll};
+ghost use Rattle.walk.specs.Node.{head, namesAfter, partsAfter, onePart, encodeAll};
 ghost use Rattle.walk.specs.Place.{TermAt, TermsAt, NameAt, NamesAt};
 ghost use Rattle.walk.specs.Seen.{Seen};
 
@@ -27,6 +27,15 @@ pub fn parts_of(tag: usize) -> usize
     ensures { λ r. ⌜ r ≡ partsAfter tag ⌝ }
 {
     (PARTS >> (tag * 2)) % 4
+}
+
+// 1 for a tag that one part follows and no name, 0 for any other: one bit a tag.
+const ONE_PART: usize = 63872;
+
+pub fn one_part(tag: u8) -> usize
+    ensures { λ r. ⌜ r ≡ onePart tag ⌝ }
+{
+    (ONE_PART >> (tag % 32) as usize) % 2
 }
 
 // The position after n names.

@@ -44,7 +44,7 @@ use Rattle.phrases.proofs.last_name.Reads as last-name-reads
 use Rattle.phrases.proofs.leaf.Reads as leaf-reads
 use Rattle.phrases.proofs.left_name.Reads as left-name-reads
 use Rattle.phrases.proofs.let_names.Reads as let-names-reads
-use Rattle.phrases.proofs.one_part.Reads as one-part-reads
+use Rattle.walk.proofs.one_part.Reads as one-part-reads
 use Rattle.phrases.proofs.past_names.Reads as past-names-reads
 use Rattle.phrases.proofs.right_name.Reads as right-name-reads
 use Rattle.phrases.proofs.sign.Reads as sign-reads
