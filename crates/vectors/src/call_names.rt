@@ -44,6 +44,18 @@ pub fn print(text: &[u8]) {
 }
 
 pub fn print_name(call: u8) {
+    if call < FREE_VARS {
+        print_without_output(call);
+        return;
+    }
+    if call < SUBSTITUTE {
+        print_with_output(call);
+        return;
+    }
+    print_with_scratch(call);
+}
+
+fn print_without_output(call: u8) {
     match call {
         0 => print(b"all calls"),
         1 => print(b"reader::check_term"),
@@ -52,19 +64,28 @@ pub fn print_name(call: u8) {
         4 => print(b"stepping::is_normal"),
         5 => print(b"straightness::is_straight"),
         6 => print(b"child::child_fault"),
-        7 => print(b"child::child"),
+        _ => print(b"child::child"),
+    }
+}
+
+fn print_with_output(call: u8) {
+    match call {
         8 => print(b"free::free_vars"),
         9 => print(b"term_text::pretty"),
         10 => print(b"formula_text::pretty"),
         11 => print(b"stored::store of a term"),
         12 => print(b"stored::store of a proof"),
         13 => print(b"stored::load of a term"),
-        14 => print(b"stored::load of a proof"),
+        _ => print(b"stored::load of a proof"),
+    }
+}
+
+fn print_with_scratch(call: u8) {
+    match call {
         15 => print(b"substitution::substitute"),
         16 => print(b"stepping::step"),
         17 => print(b"reduction::normalize_bounded"),
         18 => print(b"extract::extract"),
-        19 => print(b"extractor::Extractor::extract, two by each Extractor"),
-        _ => print(b"no such call"),
+        _ => print(b"extractor::Extractor::extract, two by each Extractor"),
     }
 }

@@ -10,7 +10,6 @@ use crate::call_names::NORMALIZE_BOUNDED;
 use crate::call_names::STEP;
 use crate::call_names::STORE_PROOF;
 use crate::call_names::STORE_TERM;
-use crate::call_names::SUBSTITUTE;
 use crate::call_names::TERM_TEXT;
 use crate::list::FIRST;
 use crate::list::NUMBERS;
@@ -104,7 +103,18 @@ fn with_kind(call: u8, input: &[u8], out: &mut [u8], told: &mut [u64; 16]) {
     tell(stored::load(Kind::Proof, input, out), told);
 }
 
-// Inputs, perhaps a number, an output and a scratch.
+// Three inputs, an output and a scratch.
+pub fn with_three(list: &[u8], out: &mut [u8], scratch: &mut [u8], told: &mut [u64; 16]) {
+    let term = field(list, FIRST);
+    let name = field(list, SECOND);
+    let value = field(list, THIRD);
+    tell(
+        substitution::substitute(term, name, value, out, scratch),
+        told,
+    );
+}
+
+// An input, perhaps a number, an output and a scratch.
 pub fn with_scratch(
     call: u8,
     list: &[u8],
@@ -113,20 +123,11 @@ pub fn with_scratch(
     told: &mut [u64; 16],
 ) {
     let input = field(list, FIRST);
-    let n = number(field(list, NUMBERS), 0) as u32;
-    if call == SUBSTITUTE {
-        let name = field(list, SECOND);
-        let value = field(list, THIRD);
-        tell(
-            substitution::substitute(input, name, value, out, scratch),
-            told,
-        );
-        return;
-    }
     if call == STEP {
         tell_step(stepping::step(input, out, scratch), told);
         return;
     }
+    let n = number(field(list, NUMBERS), 0) as u32;
     if call == NORMALIZE_BOUNDED {
         tell_reduced(reduction::normalize_bounded(input, n, out, scratch), told);
         return;

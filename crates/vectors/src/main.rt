@@ -1,5 +1,6 @@
 // Replays a list of answers on every public call, and says of each call how many records there were and how many were right.
 // The list (stdin) is printed by `make vectors`: the answers are the Rust's own, and of refusals those of the model of the rules.
+// A call more is a number and a name in call_names, a line in its shape in calls, and its answer where host/cases prints the list.
 ghost use Prim.Native.Nat.{_≤_};
 use libc::STDIN_FILENO;
 use libc::STDOUT_FILENO;
@@ -119,14 +120,18 @@ fn print_all(records: &[u64; 32], right: &[u64; 32]) {
     }
 }
 
-fn main() {
-    let mut list = [0u8; 300000];
-    let n = io::read_full(STDIN_FILENO, &mut list);
+fn replay_and_print(list: &[u8]) {
     // More than any call asks for.
     let mut out = [0u8; 20992];
     let mut scratch = [0u8; 8448];
     let mut records = [0u64; 32];
     let mut right = [0u64; 32];
-    replay_all(&list[..n], &mut out, &mut scratch, &mut records, &mut right);
+    replay_all(list, &mut out, &mut scratch, &mut records, &mut right);
     print_all(&records, &right);
+}
+
+fn main() {
+    let mut list = [0u8; 300000];
+    let n = io::read_full(STDIN_FILENO, &mut list);
+    replay_and_print(&list[..n]);
 }

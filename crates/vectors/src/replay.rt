@@ -3,11 +3,13 @@ use crate::call_names::CHILD_FAULT;
 use crate::call_names::EXTRACT;
 use crate::call_names::IS_STRAIGHT;
 use crate::call_names::LOAD_PROOF;
+use crate::call_names::SUBSTITUTE;
 use crate::calls::alone;
 use crate::calls::child_part;
 use crate::calls::with_child;
 use crate::calls::with_output;
 use crate::calls::with_scratch;
+use crate::calls::with_three;
 use crate::lent::fill;
 use crate::lent::left;
 use crate::list::OUTPUT;
@@ -28,6 +30,10 @@ fn ask(call: u8, list: &[u8], out: &mut [u8], scratch: &mut [u8], told: &mut [u6
     }
     if call <= LOAD_PROOF {
         with_output(call, list, out, told);
+        return;
+    }
+    if call == SUBSTITUTE {
+        with_three(list, out, scratch, told);
         return;
     }
     if call <= EXTRACT {
@@ -65,12 +71,19 @@ pub fn asked_right(call: u8, list: &[u8], out: &mut [u8], scratch: &mut [u8]) ->
     told_right(&told, wanted)
 }
 
-// A part of the term that is handed back counts as the output, and its length as the answer.
+// A part of the term that is handed back counts as the output, and its length as the answer; there is no scratch.
 pub fn part_right(list: &[u8]) -> bool {
     let part = child_part(list);
     let wanted = field(list, WANTED);
-    if part.len() as u64 != number(wanted, 5) {
+    if left(part, field(list, OUTPUT)) != number(wanted, 0) {
         return false;
     }
-    left(part, field(list, OUTPUT)) == number(wanted, 0)
+    if number(wanted, 1) != 0 {
+        return false;
+    }
+    let length = part.len() as u64;
+    told_right(
+        &[0, 0, 0, length, 0, 0, 0, 0, 0, 0, 0, 0, 0, 0, 0, 0],
+        wanted,
+    )
 }

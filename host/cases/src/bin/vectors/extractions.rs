@@ -2,6 +2,7 @@
 
 use crate::record::{Call, Case, L};
 use crate::List;
+use patch_model::read;
 
 const ONE: [u8; 3] = [3, 0, 0];
 /// Axiom with One only: `\x. x` of a new name.
@@ -49,14 +50,22 @@ fn chain(first: &[u8], second: &[u8], counter: u32) -> Case {
     Case::new(Call::Extractor, &[first, second]).with(counter)
 }
 
+/// By value, and held to what document 01 says of it: the term's text, and the counter after it.
+fn as_told(list: &mut List, proof: &[u8], counter: u32, text: &str, after: u64) {
+    let case = Case::new(Call::Extract, &[proof]).with(counter);
+    let wanted = case.wanted();
+    assert_eq!(read::term(&L, 1, &wanted.output).unwrap().pretty(), text);
+    assert_eq!(wanted.numbers.last(), Some(&after));
+    list.put(case);
+}
+
 /// The atoms `A1` at counter 0 and `A` at counter 10 both make `a10`.
 fn a10(list: &mut List) {
     let (long, short) = (cut_atom("A1", &axiom("A1")), cut_atom("A", &axiom("A")));
     list.put(chain(&long, &short, 0));
     list.put(chain(&short, &long, 10));
-    list.put(Case::new(Call::Extract, &[&long]));
-    list.put(Case::new(Call::Extract, &[&short]).with(10));
-    assert!(Case::new(Call::Extract, &[&long]).wanted().output == Case::new(Call::Extract, &[&short]).with(10).wanted().output);
+    as_told(list, &long, 0, "(a10 ())", 1);
+    as_told(list, &short, 10, "(a10 ())", 11);
 }
 
 /// The counter at its edge: 9 leaves all as it was, and so does what follows 9.
@@ -93,8 +102,11 @@ fn buffers(list: &mut List) {
 }
 
 pub fn all(list: &mut List) {
+    as_told(list, &p10(), 0, "let (x1, x2) = () in ()", 3);
+    as_told(list, &p11(), 0, "((a0 ()) ())", 2);
+    as_told(list, &P12, 0, "λx0. x0", 1);
+    list.put(Case::new(Call::Extract, &[&deep()]));
     for proof in [p10(), p11(), P12.to_vec(), deep(), ONE.to_vec()] {
-        list.put(Case::new(Call::Extract, &[&proof]));
         list.put(chain(&proof, &[], 0));
         list.put(chain(&proof, &p11(), 0));
         list.put(chain(&P12, &proof, 0));
