@@ -2,8 +2,8 @@
 use draft_heads::head_len;
 use draft_heads::nodes_of;
 use draft_heads::parts_of;
-use ended::few_nodes;
 use rules::MOST_BYTES;
+use rules::MOST_NODES;
 ghost use mathlib.Core.Path.{_≡_};
 ghost use Prim.Native.Nat.{_+_, _≤_, _<_};
 ghost use Rattle.rules.specs.Limits.{limits};
@@ -84,5 +84,5 @@ pub fn fits(s: &[u8], rows: &[usize], used: usize, part: usize, sizes: &mut [usi
     if MOST_BYTES < sizes[at] {
         return false;
     }
-    few_nodes(sizes[at + 1])
+    sizes[at + 1] <= MOST_NODES
 }

@@ -2,12 +2,10 @@
 ghost use mathlib.Core.Path.{_≡_};
 ghost use mathlib.Core.Bool.{true, false};
 ghost use Prim.Native.Nat.{_<_, _≤_};
-ghost use Rattle.rules.specs.Basic.{_≤?_};
 ghost use Rattle.rules.specs.Limits.{limits, entryRoom, mostCounter};
 ghost use Rattle.ended.specs.Ends.{clearsOf, madeEnd, refusedEnd};
 use rules::Answer;
 use rules::ENTRY_ROOM;
-use rules::MOST_NODES;
 use rules::Refusal;
 
 const MOST_COUNTER: usize = 100_000_000;
@@ -28,13 +26,6 @@ pub fn short_row(room: usize) -> bool
         return true;
     }
     false
-}
-
-// Whether the term has no more nodes than the most.
-pub fn few_nodes(nodes: usize) -> bool
-    ensures { λ r. ⌜ r ≡ (nodes ≤? limits .nodes) ⌝ }
-{
-    nodes <= MOST_NODES
 }
 
 // Whether the counter after an extraction is over the most.

@@ -1,5 +1,4 @@
 -- `draft_term::sizes::fits` meets its contract: both limits lie below the cap. Assumes nothing.
-use mathlib.Core.Path.{_∙_}
 use Rattle.draft_term.proofs.Sizing.{too-long, short-enough}
 use borrow.Author.Needs.{needs}
 use Rattle.draft_term.proofs.sizes.fits.Statement.{statement}
@@ -25,25 +24,22 @@ returns c =
     let z = c .before .before .before .before .measure .ensures .each (c .before .before .before .before .before .before .before .before .before .args .part) (c .before .before .before .before .before .before .before .before .before .pre .1) in
     λ t x. too-long _ t (z .bytes t x) (c .if1 .taken)
 
-add-few-nodes : tie.Need-add-few-nodes
-add-few-nodes c = search needs
+add-result : tie.Need-add-result
+add-result c = search needs
 
-mul-few-nodes : tie.Need-mul-few-nodes
-mul-few-nodes c = search needs
+mul-result : tie.Need-mul-result
+mul-result c = search needs
 
-slice-read-few-nodes : tie.Need-slice-read-few-nodes
-slice-read-few-nodes c = search needs
-
-few-nodes-requires : tie.Need-few-nodes-requires
-few-nodes-requires c κs = search needs
+slice-read-result : tie.Need-slice-read-result
+slice-read-result c = search needs
 
 same-length-2 : tie.Need-same-length-2
 same-length-2 c = search needs
 
 returns-2 : tie.Need-returns-2
 returns-2 c =
-    let z = c .before .before .before .before .before .before .measure .ensures .each (c .before .before .before .before .before .before .before .before .before .before .before .args .part) (c .before .before .before .before .before .before .before .before .before .before .before .pre .1) in
-    λ t x. c .few-nodes .ensures ∙ short-enough _ _ t (z .bytes t x) (z .nodes t x) (c .before .before .if1 .left)
+    let z = c .before .before .before .before .before .measure .ensures .each (c .before .before .before .before .before .before .before .before .before .before .args .part) (c .before .before .before .before .before .before .before .before .before .before .pre .1) in
+    λ t x. short-enough _ _ t (z .bytes t x) (z .nodes t x) (c .before .if1 .left)
 
 pub fits-spec : {M : Type 1} → statement M
 fits-spec =
@@ -55,9 +51,8 @@ fits-spec =
     slice-read-if1
     same-length
     returns
-    add-few-nodes
-    mul-few-nodes
-    slice-read-few-nodes
-    few-nodes-requires
+    add-result
+    mul-result
+    slice-read-result
     same-length-2
     returns-2)
