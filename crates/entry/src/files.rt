@@ -4,9 +4,9 @@ ghost use Rattle.rules.specs.Limits.{limits};
 ghost use Rattle.rules.specs.Refusal.{answered};
 ghost use Rattle.rules.specs.Calls.{storeCall, loadCall};
 ghost use Rattle.rules.specs.declared.Kind.the-variants.{Term, Proof};
-ghost use Rattle.told.specs.Told.{toldAnswer};
+ghost use Rattle.entry.specs.Told.{toldAnswer};
+use crate::tell::tell;
 use rules::Kind;
-use told::tell;
 
 #[no_mangle]
 pub extern "C" fn patch_store_term(term: &[u8], out: &mut [u8], answer: &mut [u64; 16])

@@ -4,22 +4,25 @@
 ghost use mathlib.Core.Path.{_≡_};
 ghost use Rattle.rules.specs.Limits.{limits};
 ghost use Rattle.rules.specs.Refusal.{answered};
-ghost use Rattle.stepping.specs.Answers.{stepAnswered, normalAnswered};
+ghost use Rattle.step.specs.Answers.{stepAnswered, normalAnswered};
 ghost use Rattle.reduction.specs.Answers.{reducedBy};
 ghost use Rattle.rules.specs.Calls.{checkTermCall, checkFormulaCall, checkProofCall, formulaTextCall, textCall, locateCall, freeVarsCall, substituteCall, stepCall, reduceCall, isNormalCall};
-ghost use Rattle.child.specs.Child.{pieceOf};
-ghost use Rattle.told.specs.Told.{toldAnswer};
-ghost use Rattle.told.specs.Child.{toldPiece};
-ghost use Rattle.told_results.specs.Steps.{toldStep, toldNormal, toldReduced};
-use told::tell;
-use told::tell_piece;
-use told_results::steps::tell_normal;
-use told_results::steps::tell_reduced;
-use told_results::steps::tell_step;
+ghost use Rattle.term.specs.Child.{pieceOf};
+ghost use Rattle.entry.specs.Told.{toldAnswer};
+ghost use Rattle.entry.specs.Child.{toldPiece};
+ghost use Rattle.entry.specs.Steps.{toldStep, toldNormal, toldReduced};
+use tell::tell;
+use tell::tell_piece;
+use tell_steps::tell_normal;
+use tell_steps::tell_reduced;
+use tell_steps::tell_step;
+use term::child;
 
 pub mod files;
 pub mod proofs_to_terms;
 pub mod straight_terms;
+pub mod tell;
+pub mod tell_steps;
 
 #[no_mangle]
 pub extern "C" fn patch_check_formula(formula: &[u8], answer: &mut [u64; 16])
@@ -104,7 +107,7 @@ pub extern "C" fn patch_step(
     ensures { λ _. ⌜ now (out .exit) ≡ stepCall limits (now (term .entry)) (now (out .entry)) (now (scratch .entry)) .output ⌝ }
     ensures { λ _. ⌜ now (scratch .exit) ≡ stepCall limits (now (term .entry)) (now (out .entry)) (now (scratch .entry)) .scratch ⌝ }
 {
-    tell_step(stepping::step(term, out, scratch), answer);
+    tell_step(step::step(term, out, scratch), answer);
 }
 
 #[no_mangle]
@@ -129,5 +132,5 @@ pub extern "C" fn patch_normalize_bounded(
 pub extern "C" fn patch_is_normal(term: &[u8], answer: &mut [u64; 16])
     ensures { λ _. ⌜ now (answer .exit) ≡ toldNormal (normalAnswered (isNormalCall limits (now (term .entry)))) ⌝ }
 {
-    tell_normal(stepping::is_normal(term), answer);
+    tell_normal(step::is_normal(term), answer);
 }

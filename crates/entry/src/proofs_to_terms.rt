@@ -6,9 +6,9 @@ ghost use lib.ListN.{length};
 ghost use Rattle.rules.specs.Limits.{limits, entryRoom};
 ghost use Rattle.rules.specs.Calls.{Entry, extractCall};
 ghost use Rattle.extract.specs.Whole.{extraction};
-ghost use Rattle.told_results.specs.Extraction.{toldExtraction};
+ghost use Rattle.entry.specs.Extraction.{toldExtraction};
+use crate::tell::tell_extraction;
 use extract::extract;
-use told_results::tell_extraction;
 
 // The cut entries are the call's own, so no row of them is lent, and none can be too short.
 #[no_mangle]

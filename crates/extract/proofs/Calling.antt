@@ -17,8 +17,8 @@ use Rattle.rules.specs.Reading.{readProof}
 use Rattle.rules.specs.Extraction.{terms, sizes, extract, extractFrom, sizeFits, Size}
 use Rattle.rules.specs.Buffers.{lent, filled, cleared}
 use Rattle.rules.specs.Calls.{Entry, workRoom, counterAfter, extractEnding, proofOutcome, extractCall}
-use Rattle.laws.specs.Octets.{Octets}
-use Rattle.laws.specs.Numbers.{proof-spares}
+use Rattle.laws.specs.reading.Octets.{Octets}
+use Rattle.laws.specs.reading.Numbers.{proof-spares}
 use Rattle.proof.specs.Accepted.{accepts-proof, refuses-proof}
 use Rattle.extract.specs.Sizes.{extract-sizes}
 use Rattle.extract.specs.Whole.{decided, outcome, extraction, told, Finished, Checked}

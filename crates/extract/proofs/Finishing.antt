@@ -13,14 +13,14 @@ use Rattle.rules.specs.Refusal.{Outcome, good, refuse}
 use Rattle.rules.specs.Buffers.{filled, cleared}
 use Rattle.rules.specs.Calls.{extractEnding}
 use Rattle.rules.specs.Term.{Term, encode, size, nodes, fits}
-use Rattle.laws.specs.Same.{both-true}
-use Rattle.runs.specs.Wrote.{Wrote}
-use Rattle.runs.specs.Writing.{filled-up, wrote-length, wrote-none}
+use Rattle.laws.specs.free.Same.{both-true}
+use Rattle.buffer.specs.Wrote.{Wrote}
+use Rattle.buffer.specs.Writing.{filled-up, wrote-length, wrote-none}
 use Rattle.draft.specs.Draft.{Drafts}
 use Rattle.draft.specs.Made.{Small}
-use Rattle.draft_term.specs.Measured.{Countable}
-use Rattle.draft_term.specs.Writing.{Writable}
-use Rattle.draft_rows.specs.declared.Drafted.{Drafted}
+use Rattle.draft.specs.Measured.{Countable}
+use Rattle.draft.specs.Writing.{Writable}
+use Rattle.proof_draft.specs.declared.put.Drafted.{Drafted}
 use Rattle.extract.specs.declared.Extraction.{Extraction}
 use Rattle.extract.specs.declared.Extraction.the-variants.{Made}
 use Rattle.extract.specs.Whole.{decided, outcome, told, Finishes, Finished}

@@ -14,9 +14,9 @@ use Rattle.rules.specs.Proof.{Proof, encodeProof}
 use Rattle.rules.specs.Extraction.{terms, extract}
 use Rattle.rules.specs.Buffers.{filled, cleared}
 use Rattle.rules.specs.Calls.{extractEnding}
-use Rattle.draft_rows.specs.declared.Drafted.{Drafted}
-use Rattle.planning.specs.Walk.{Done}
-use Rattle.own_row.specs.Whole.{Whole}
+use Rattle.proof_draft.specs.declared.put.Drafted.{Drafted}
+use Rattle.proof_draft.specs.Walk.{Done}
+use Rattle.proof_draft.specs.Whole.{Whole}
 use Rattle.extract.specs.Legals.{extract-fine}
 use Rattle.extract.specs.Whole.{decided, outcome, told, Finishes, Finished, Checked}
 use Rattle.extract.specs.declared.Extraction.{Extraction}

@@ -2,3 +2,5 @@ pub mod Names
 pub mod Legals
 pub mod Sizes
 pub mod Whole
+pub mod Ending
+pub mod Ends

@@ -13,10 +13,10 @@ use Rattle.rules.specs.Legal.{Legal}
 use Rattle.rules.specs.Proof.{Proof, rules}
 use Rattle.rules.specs.Buffers.{filled, cleared}
 use Rattle.rules.specs.Calls.{extractEnding}
-use Rattle.laws.specs.DecodingProof.{ProofIn}
+use Rattle.laws.specs.reading.DecodingProof.{ProofIn}
 use Rattle.draft.specs.Draft.{Drafts}
 use Rattle.draft.specs.Made.{Small}
-use Rattle.draft_rows.specs.declared.Drafted.{Drafted}
+use Rattle.proof_draft.specs.declared.put.Drafted.{Drafted}
 use Rattle.extract.specs.declared.Extraction.{Extraction}
 use Rattle.extract.specs.declared.Extraction.the-variants.{Made, Refused}
 

@@ -1,4 +1,4 @@
-// Extraction of terms from proofs: a walk over the checked proof makes a draft of the term (crates/drafting), and the term is measured and written from the draft.
+// Extraction of terms from proofs: a walk over the checked proof makes a draft of the term (crates/proof_draft/src/walk.rt), and the term is measured and written from the draft.
 ghost use mathlib.Core.Path.{_≡_};
 ghost use mathlib.Core.List.{List, []};
 ghost use Prim.Native.Nat.{ℕ, _≤_};
@@ -10,16 +10,20 @@ ghost use Rattle.rules.specs.Proof.{Proof};
 ghost use Rattle.rules.specs.Extraction.{terms, extract as extractOf};
 ghost use Rattle.rules.specs.Calls.{Entry, extractCall};
 ghost use Rattle.extract.specs.Whole.{extraction, told, Finishes, Finished, Checked};
-use draft_rows::Drafted;
-use draft_term::parts::put_part;
-use draft_term::sizes::fits;
-use ended::over_counter;
-use own_row::draft_few;
-use own_row::draft_many;
+use buffer::run;
+use draft::size::fits;
+use draft::write::put_part;
+use ending::over_counter;
+use proof_draft::own::draft_few;
+use proof_draft::own::draft_many;
+use proof_draft::put::Drafted;
 use rules::Answer;
 use rules::OUTPUT_ROOM;
 use rules::Refusal;
 use rules::SCRATCH_ROOM;
+
+pub mod ending;
+pub mod extractor;
 
 // The bytes of the term and the counter after it; or a refusal.
 pub enum Extraction {
@@ -58,14 +62,14 @@ pub fn finish(
     }
     if fits(proof, rows, draft.used, draft.part, sizes) {
         let end = put_part(proof, rows, draft.used, draft.part, out, 0);
-        runs::clear(out, end);
-        runs::clear(scratch, 0);
+        run::clear(out, end);
+        run::clear(scratch, 0);
         return Extraction::Made {
             bytes: end,
             counter: draft.counter as u32,
         };
     }
-    runs::clear(scratch, 0);
+    run::clear(scratch, 0);
     refused(8)
 }
 

@@ -3,10 +3,14 @@ ghost use mathlib.Core.Path.{_≡_};
 ghost use Rattle.rules.specs.Limits.{limits};
 ghost use Rattle.rules.specs.Refusal.{answered};
 ghost use Rattle.rules.specs.Calls.{formulaTextCall};
-use formula_walk::walk;
+use buffer::run;
 use rules::Answer;
 use rules::FORMULA_TEXT_ROOM;
 use rules::Refusal;
+use walk::walk;
+
+pub mod sign;
+pub mod walk;
 
 // The formula's text, then zeros.
 pub fn pretty(formula: &[u8], out: &mut [u8]) -> Answer
@@ -23,7 +27,7 @@ pub fn pretty(formula: &[u8], out: &mut [u8]) -> Answer
     match reader::check_formula(formula) {
         Answer::Good(_) => {
             let past = walk(formula, 0, out, 0) / 65536;
-            runs::clear(out, past);
+            run::clear(out, past);
             Answer::Good(past)
         }
         Answer::Refused(r) => Answer::Refused(r),

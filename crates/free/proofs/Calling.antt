@@ -11,7 +11,7 @@ use Rattle.rules.specs.Refusal.{mapped, answered, refuse}
 use Rattle.rules.specs.Term.{Term, nodes}
 use Rattle.rules.specs.Reading.{readTerm}
 use Rattle.rules.specs.Calls.{freeVarsCall}
-use Rattle.laws.specs.Decoding.{term-sound}
+use Rattle.laws.specs.reading.Decoding.{term-sound}
 use Rattle.reader.specs.Accepted.{Accepts, accepts, refuses}
 use Rattle.free.specs.Whole.{Lists, Listed}
 

@@ -8,12 +8,12 @@ use lib.ListN.{length, getD, take, drop, length-append, take-append-drop}
 use lib.Seq.{slice, take-suc, take-all}
 use Rattle.rules.specs.Basic.{Bytes}
 use Rattle.rules.specs.Name.{Name, encodeName, encodeNames}
-use Rattle.runs.specs.Wrote.{Wrote}
-use Rattle.runs.specs.Writing.{slice-is, chain, wrote-none}
-use Rattle.walk.specs.Place.{NameAt}
-use Rattle.walk.proofs.Names.{head-byte}
-use Rattle.name_slots.specs.Search.{at}
-use Rattle.name_slots.specs.Rows.{Writes}
+use Rattle.buffer.specs.Wrote.{Wrote}
+use Rattle.buffer.specs.Writing.{slice-is, chain, wrote-none}
+use Rattle.term.specs.Place.{NameAt}
+use Rattle.term.proofs.node.Names.{head-byte}
+use Rattle.free.specs.Search.{at}
+use Rattle.free.specs.Rows.{Writes}
 
 names-app : (xs ys : List Name) → encodeNames (xs ++ ys) ≡ encodeNames xs ++ encodeNames ys
 names-app [] ys = refl

@@ -10,13 +10,13 @@ use Rattle.rules.specs.Basic.{Bytes}
 use Rattle.rules.specs.Name.{encodeNames}
 use Rattle.rules.specs.Term.{Term}
 use Rattle.rules.specs.Free.{free}
-use Rattle.laws.specs.FreeSize.{free-size}
-use Rattle.runs.specs.Wrote.{Wrote}
-use Rattle.runs.specs.Writing.{filled-up, wrote-length}
-use Rattle.walk.proofs.Terms.{whole}
-use Rattle.gathering.specs.Gather.{gather-free}
-use Rattle.name_slots.specs.Rows.{Held, Passed, Writes}
-use Rattle.gathering.specs.Walk.{Task, Done}
+use Rattle.laws.specs.size.FreeSize.{free-size}
+use Rattle.buffer.specs.Wrote.{Wrote}
+use Rattle.buffer.specs.Writing.{filled-up, wrote-length}
+use Rattle.term.proofs.node.Terms.{whole}
+use Rattle.free.specs.Gather.{gather-free}
+use Rattle.free.specs.Rows.{Held, Passed, Writes}
+use Rattle.free.specs.Walk.{Task, Done}
 use Rattle.free.specs.Whole.{Lists, Listed}
 
 none-held : (s : Bytes) (row : List ℕ) → Held s row 0 []

@@ -1,1 +1,9 @@
+pub mod Ordered
+pub mod Order
+pub mod Members
+pub mod Search
+pub mod Rows
+pub mod State
+pub mod Gather
+pub mod Walk
 pub mod Whole

@@ -6,14 +6,21 @@ ghost use Rattle.rules.specs.Term.{Term};
 ghost use Rattle.rules.specs.Limits.{limits};
 ghost use Rattle.rules.specs.Refusal.{answered};
 ghost use Rattle.rules.specs.Calls.{freeVarsCall};
-ghost use Rattle.runs.specs.Wrote.{Wrote};
-ghost use Rattle.name_slots.specs.Rows.{Writes};
+ghost use Rattle.buffer.specs.Wrote.{Wrote};
+ghost use Rattle.free.specs.Rows.{Writes};
 ghost use Rattle.free.specs.Whole.{Lists, Listed};
-use gathering::gather;
-use name_slots::BINDERS;
+use buffer::room;
+use buffer::run;
+use gather::gather;
 use rules::Answer;
 use rules::OUTPUT_ROOM;
 use rules::Refusal;
+use slot::BINDERS;
+
+pub mod gather;
+pub mod order;
+pub mod row;
+pub mod slot;
 
 // Writes the names whose places are the first n of the row, each with its length byte.
 fn write_names(s: &[u8], row: &[u16], n: usize, out: &mut [u8]) -> usize
@@ -25,7 +32,7 @@ fn write_names(s: &[u8], row: &[u16], n: usize, out: &mut [u8]) -> usize
     while i < n {
         let from = row[i] as usize;
         let end = from + 1 + s[from] as usize;
-        to = runs::copy(s, from, end, out, to);
+        to = run::copy(s, from, end, out, to);
         i += 1;
     }
     to
@@ -39,7 +46,7 @@ fn list_names(term: &[u8], out: &mut [u8]) -> usize
     let mut row = [0u16; 1088];
     let found = gather(&term, 0, &mut row, BINDERS, 0);
     let end = write_names(term, &row, found / 131072, out);
-    buffers::behind(out, end);
+    room::behind(out, end);
     end
 }
 

@@ -1,7 +1,7 @@
 // Reads one stored term from standard input, and writes what is printed for it. All that is printed is computed by `printed`.
 use libc::STDIN_FILENO;
 use libc::STDOUT_FILENO;
-use printed::printed;
+use program::run::printed;
 
 fn main() {
     // Longer than a stored file may be, so that input which is too long is refused and not cut.

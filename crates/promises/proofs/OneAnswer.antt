@@ -12,19 +12,19 @@ use Rattle.proof.proofs.check_proof.Reads as check-proof
 use Rattle.proof.proofs.proof_input.Reads as proof-input
 use Rattle.formula_text.proofs.pretty.Reads as formula-text-pretty
 use Rattle.term_text.proofs.pretty.Reads as term-text-pretty
-use Rattle.child.proofs.locate.Reads as locate
-use Rattle.child.proofs.child.Reads as child
-use Rattle.child.proofs.child_fault.Reads as child-fault
+use Rattle.term.proofs.child.locate.Reads as locate
+use Rattle.term.proofs.child.child.Reads as child
+use Rattle.term.proofs.child.child_fault.Reads as child-fault
 use Rattle.free.proofs.free_vars.Reads as free-vars
 use Rattle.substitution.proofs.substitute.Reads as substitute
-use Rattle.stepping.proofs.step.Reads as step
-use Rattle.stepping.proofs.is_normal.Reads as is-normal
+use Rattle.step.proofs.step.Reads as step
+use Rattle.step.proofs.is_normal.Reads as is-normal
 use Rattle.reduction.proofs.normalize_bounded.Reads as normalize-bounded
-use Rattle.straightness.proofs.is_straight.Reads as is-straight
+use Rattle.straight.proofs.is_straight.Reads as is-straight
 use Rattle.extract.proofs.extract.Reads as extract
 use Rattle.stored.proofs.store.Reads as store
 use Rattle.stored.proofs.load.Reads as load
-use Rattle.printed.proofs.printed.Reads as printed
+use Rattle.program.proofs.run.printed.Reads as printed
 
 pub check-formula-has-one : One check-formula.Learnt (λ κ r s. r)
 check-formula-has-one κ a r r′ s s′ = agree

@@ -16,12 +16,12 @@ use denote.Triple.Clauses.{AtExit}
 use denote.Triple.Entry.{Args, Res}
 use Rattle.rules.specs.Limits.{limits}
 use Rattle.rules.specs.Calls.{Entry, extractCall}
-use Rattle.entries.specs.Entries.{pairs}
-use Rattle.entries.specs.declared.CutEntry.{CutEntry}
-use Rattle.ending.specs.Ending.{Extracts}
-use Rattle.extractor.specs.declared.Extractor.{Extractor}
-use Rattle.extractor.proofs.Extractor.new.Reads as new
-use Rattle.extractor.proofs.Extractor.extract as extract
+use Rattle.proof_draft.specs.Entries.{pairs}
+use Rattle.proof_draft.specs.declared.entry.CutEntry.{CutEntry}
+use Rattle.extract.specs.Ending.{Extracts}
+use Rattle.extract.specs.declared.extractor.Extractor.{Extractor}
+use Rattle.extract.proofs.extractor.Extractor.new.Reads as new
+use Rattle.extract.proofs.extractor.Extractor.extract as extract
 use Rattle.promises.proofs.One.{One, _&_, both, agree}
 
 same-extractor : {x y : Extractor} → x .counter ≡ y .counter → x ≡ y

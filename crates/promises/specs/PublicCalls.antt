@@ -14,7 +14,7 @@ use Rattle.rules.specs.Buffers.{Wrote, Worked, filled}
 use Rattle.rules.specs.Calls.{checkTermCall, checkFormulaCall, checkProofCall, isNormalCall, isStraightCall, Places, locateCall, childCall, childFaultCall, textCall, formulaTextCall, freeVarsCall, storeCall, loadCall, substituteCall, StepAnswer, stepCall, ReduceCall, reduceCall, Entry, noEntry, Extracted, extractCall}
 use Rattle.rules.specs.Program.{patchrun}
 use Rattle.rules.specs.declared.Refusal.{Refusal}
-use Rattle.printed.specs.Printing.{termAfter, scratchAfter}
+use Rattle.program.specs.Printing.{termAfter, scratchAfter}
 
 pub data Call : Type 0 where
   checkTerm checkFormula checkProof : Call

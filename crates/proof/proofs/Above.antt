@@ -8,15 +8,15 @@ use Rattle.rules.specs.Basic.{Bytes}
 use Rattle.rules.specs.Limits.{limits}
 use Rattle.rules.specs.Proof.{proof, row}
 use Rattle.rules.specs.Reading.{many, proofAt}
-use Rattle.laws.specs.Holds.{told as holding}
-use Rattle.laws.specs.SteadyProof.{steady-proof}
-use Rattle.rule_bytes.specs.Seen.{metBy, seen, found, countSeen, within}
-use Rattle.rule_bytes.specs.Stages.{topOf, ownOf, linearOf, rowOf}
-use Rattle.conclusion.proofs.Answers.{Reached, Reading, Conclusion, To, Fault, Before, NoCount}
-use Rattle.conclusion.proofs.Views.{seen-made, seen-bad, Came, came, many-none, many-one, many-off, many-on}
-use Rattle.conclusion.proofs.Ways.{Few, top-few, proof-few, proof-onward}
-use Rattle.conclusion.proofs.Split.{split, Topped, topped, count-bad}
-use Rattle.conclusion.proofs.Faults.{top-fault}
+use Rattle.laws.specs.reading.Holds.{told as holding}
+use Rattle.laws.specs.reading.SteadyProof.{steady-proof}
+use Rattle.proof.specs.Seen.{metBy, seen, found, countSeen, within}
+use Rattle.proof.specs.Stages.{topOf, ownOf, linearOf, rowOf}
+use Rattle.proof.proofs.conclusion.Answers.{Reached, Reading, Conclusion, To, Fault, Before, NoCount}
+use Rattle.proof.proofs.conclusion.Views.{seen-made, seen-bad, Came, came, many-none, many-one, many-off, many-on}
+use Rattle.proof.proofs.conclusion.Ways.{Few, top-few, proof-few, proof-onward}
+use Rattle.proof.proofs.conclusion.Split.{split, Topped, topped, count-bad}
+use Rattle.proof.proofs.conclusion.Faults.{top-fault}
 use Rattle.proof.specs.OneNumber.{Far}
 
 -- What stands before a rule's premises, as `read_conclusion` tells it.

@@ -13,14 +13,14 @@ use Rattle.rules.specs.Proof.{Proof, rules}
 use Rattle.rules.specs.Reading.{Got, Met, proofAt, ended, whole, readProof}
 use Rattle.rules.specs.declared.Answer.{Answer}
 use Rattle.rules.specs.declared.Answer.the-variants.{Good}
-use Rattle.laws.specs.Holds.{told}
-use Rattle.laws.specs.Octets.{Octets}
-use Rattle.laws.specs.SteadyProof.{steady-proof}
-use Rattle.laws.specs.SoundProof.{proof-reads}
-use Rattle.rule_bytes.specs.Seen.{metBy, reachedAt, seen, found, endOf}
-use Rattle.rule_bytes.proofs.Places.{rest-in, rest-out}
-use Rattle.conclusion.proofs.Answers.{Reached, To, Fault}
-use Rattle.conclusion.proofs.Views.{seen-bad, Came, came}
+use Rattle.laws.specs.reading.Holds.{told}
+use Rattle.laws.specs.reading.Octets.{Octets}
+use Rattle.laws.specs.reading.SteadyProof.{steady-proof}
+use Rattle.laws.specs.reading.SoundProof.{proof-reads}
+use Rattle.proof.specs.Seen.{metBy, reachedAt, seen, found, endOf}
+use Rattle.proof.proofs.reached.Places.{rest-in, rest-out}
+use Rattle.proof.proofs.conclusion.Answers.{Reached, To, Fault}
+use Rattle.proof.proofs.conclusion.Views.{seen-bad, Came, came}
 
 module _ (i : ℕ) (s : Bytes) where
   abbrev answer : Answer

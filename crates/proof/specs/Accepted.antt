@@ -9,8 +9,8 @@ use Rattle.rules.specs.Refusal.{good, refused, mapped, answered}
 use Rattle.rules.specs.Reading.{readProof}
 use Rattle.rules.specs.declared.Refusal.{Refusal}
 use Rattle.rules.specs.declared.Answer.the-variants.{Good, Refused}
-use Rattle.laws.specs.Octets.{Octets}
-use Rattle.laws.specs.DecodingProof.{ProofIn, proof-sound}
+use Rattle.laws.specs.reading.Octets.{Octets}
+use Rattle.laws.specs.reading.DecodingProof.{ProofIn, proof-sound}
 use Rattle.reader.specs.Accepted.{accepts, refuses}
 
 -- s was read as a proof of n rules, whose bytes it is

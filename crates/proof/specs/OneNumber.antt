@@ -3,10 +3,10 @@ use Prim.Native.Nat.{ℕ, _-_, _/_, _%_, _≤_}
 use lib.ListN.{length}
 use Rattle.rules.specs.Basic.{Bytes, if_then_else_, _<?_}
 use Rattle.rules.specs.Limits.{limits}
-use Rattle.rule_bytes.specs.declared.Reached.{Reached}
-use Rattle.rule_bytes.specs.declared.Reading.{Reading}
-use Rattle.rule_bytes.specs.declared.Reading.the-variants.{To, Fault}
-use Rattle.rule_bytes.specs.Seen.{reachedAt}
+use Rattle.proof.specs.declared.reached.Reached.{Reached}
+use Rattle.proof.specs.declared.reached.Reading.{Reading}
+use Rattle.proof.specs.declared.reached.Reading.the-variants.{To, Fault}
+use Rattle.proof.specs.Seen.{reachedAt}
 
 -- from here on a number tells a fault
 abbrev pub faultFrom : ℕ

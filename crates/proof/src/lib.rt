@@ -5,18 +5,23 @@ ghost use Rattle.rules.specs.Refusal.{mapped, answered};
 ghost use Rattle.rules.specs.Proof.{rules as ruleCount};
 ghost use Rattle.rules.specs.Reading.{readProof};
 ghost use Rattle.rules.specs.Calls.{checkProofCall};
-use letters::Form;
-use letters::classes::table_of;
 use one_number::told;
 use premises::read_rule;
-use rule_bytes::Reading;
-use rule_bytes::at_end;
+use reached::Reading;
+use reached::at_end;
+use reader::class::Form;
+use reader::class::table_of;
 use rules::Answer;
 use rules::MOST_BYTES;
 use rules::Refusal;
 
+pub mod conclusion;
+pub mod count;
 mod one_number;
 mod premises;
+pub mod reached;
+pub mod rule;
+pub mod tag;
 
 // An input of a call with several: whether it is a proof, with its count of rules.
 pub fn proof_input(s: &[u8], input: u8) -> Answer

@@ -2,10 +2,10 @@
 ghost use mathlib.Core.Path.{_≡_};
 ghost use Prim.Native.Nat.{_<_};
 ghost use Rattle.proof.specs.OneNumber.{told as toldBy};
-ghost use Rattle.rule_bytes.specs.declared.Reading.the-variants.{To, Fault};
-ghost use Rattle.rule_bytes.specs.Seen.{reachedAt};
-use rule_bytes::Reached;
-use rule_bytes::Reading;
+ghost use Rattle.proof.specs.declared.reached.Reading.the-variants.{To, Fault};
+ghost use Rattle.proof.specs.Seen.{reachedAt};
+use crate::reached::Reached;
+use crate::reached::Reading;
 
 // From here on a number is a fault: its place, and below that its number.
 const FAULT: usize = 9223372036854775808;

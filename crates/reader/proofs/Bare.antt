@@ -14,12 +14,12 @@ use Rattle.rules.specs.Name.{nameMost, leads, follows}
 use Rattle.rules.specs.Reading.{Got, got, bad, Reader, andThen, many, byte, byteFor, letters, ended, readName}
 use Rattle.rules.specs.declared.Answer.{Answer}
 use Rattle.rules.specs.declared.Answer.the-variants.{Good}
-use Rattle.laws.specs.Holds.{told}
-use Rattle.laws.specs.Names.{Item, letters-sound}
-use Rattle.letters.specs.declared.Read.{Read}
-use Rattle.letters.specs.declared.Read.the-variants.{Whole, Bad}
-use Rattle.letters.specs.View.{view}
-use Rattle.letters.specs.Viewed.{view-got, view-bad}
+use Rattle.laws.specs.reading.Holds.{told}
+use Rattle.laws.specs.reading.Names.{Item, letters-sound}
+use Rattle.reader.specs.declared.class.Read.{Read}
+use Rattle.reader.specs.declared.class.Read.the-variants.{Whole, Bad}
+use Rattle.reader.specs.View.{view}
+use Rattle.reader.specs.Viewed.{view-got, view-bad}
 
 -- Letters are read alike whatever is counted beside them.
 abbrev strip : {A : Type 0} → Got ℕ A → Got (Unit {0}) A

@@ -14,18 +14,18 @@ use Rattle.rules.specs.Formula.{formulas, encodeFormula, formulaNodes}
 use Rattle.rules.specs.Legal.{Legal, LegalFormula}
 use Rattle.rules.specs.declared.Answer.{Answer}
 use Rattle.rules.specs.declared.Answer.the-variants.{Good}
-use Rattle.laws.specs.Holds.{told}
-use Rattle.laws.specs.WrittenTerm.{written-terms}
-use Rattle.laws.specs.WrittenFormula.{written-formulas}
-use Rattle.laws.specs.Sound.{node-sound}
-use Rattle.laws.specs.Steady.{steady-node}
-use Rattle.letters.specs.declared.Form.{Form}
-use Rattle.letters.specs.declared.Form.the-variants.{Term, Formula}
-use Rattle.letters.specs.Form.{ItemOf, layoutOf, countOf, mostOf, readOf}
-use Rattle.letters.specs.declared.Read.the-variants.{Whole, Bad}
-use Rattle.letters.specs.View.{view}
-use Rattle.letters.specs.Viewed.{view-bad, Passed, passed}
-use Rattle.letters.proofs.Views.{rest-in, rest-out}
+use Rattle.laws.specs.reading.Holds.{told}
+use Rattle.laws.specs.reading.WrittenTerm.{written-terms}
+use Rattle.laws.specs.reading.WrittenFormula.{written-formulas}
+use Rattle.laws.specs.reading.Sound.{node-sound}
+use Rattle.laws.specs.reading.Steady.{steady-node}
+use Rattle.reader.specs.declared.class.Form.{Form}
+use Rattle.reader.specs.declared.class.Form.the-variants.{Term, Formula}
+use Rattle.reader.specs.Form.{ItemOf, layoutOf, countOf, mostOf, readOf}
+use Rattle.reader.specs.declared.class.Read.the-variants.{Whole, Bad}
+use Rattle.reader.specs.View.{view}
+use Rattle.reader.specs.Viewed.{view-bad, Passed, passed}
+use Rattle.reader.proofs.class.Views.{rest-in, rest-out}
 
 -- the count of nodes is that of what was read
 node-met : (f : Form) (most depth u at : ℕ) (r : Bytes) {x : ItemOf f} {v p : ℕ} {q : Bytes} → node (layoutOf f) most depth u at r ≡ got x v p q → v ≡ u + countOf f x

@@ -1,1 +1,9 @@
+pub mod Form
+pub mod View
+pub mod Viewed
+pub mod Classes
+pub mod Tables
+pub mod Letters
+pub mod Count
+pub mod Passed
 pub mod Accepted

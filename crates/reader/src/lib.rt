@@ -8,20 +8,27 @@ ghost use Rattle.rules.specs.Term.{nodes as nodeCount};
 ghost use Rattle.rules.specs.Formula.{formulaNodes};
 ghost use Rattle.rules.specs.Reading.{readTerm, readFormula, readName};
 ghost use Rattle.rules.specs.Calls.{checkTermCall, checkFormulaCall};
-ghost use Rattle.letters.specs.Form.{countOf, mostOf, readOf};
+ghost use Rattle.reader.specs.Form.{countOf, mostOf, readOf};
 use ahead::read_from;
-use letters::Form;
-use letters::Read;
-use letters::classes::letter_table;
-use letters::classes::table_of;
-use letters::names::Skip;
-use letters::names::skip_letters;
-use nodes::longest_name;
+use class::Form;
+use class::Read;
+use class::letter_table;
+use class::table_of;
+use name::Skip;
+use name::skip_letters;
+use node::longest_name;
 use rules::Answer;
 use rules::MOST_BYTES;
 use rules::MOST_FORMULA_NODES;
 use rules::MOST_NODES;
 use rules::Refusal;
+
+pub mod ahead;
+pub mod class;
+pub mod going;
+pub mod letters;
+pub mod name;
+pub mod node;
 
 fn refused(number: u8, place: usize, input: u8) -> Answer
     ensures { λ r. ⌜ r ≡ answered (refuse number place input) ⌝ }

@@ -14,11 +14,11 @@ use Rattle.rules.specs.Reading.{readTerm}
 use Rattle.rules.specs.Reduction as rules
 use Rattle.rules.specs.Buffers.{cleared}
 use Rattle.rules.specs.Calls.{workRoom, reduceEnding, reduceCall}
-use Rattle.laws.specs.Decoding.{term-sound}
-use Rattle.laws.specs.Fits.{accepted-fits}
-use Rattle.laws.specs.Numbers.{term-spares}
+use Rattle.laws.specs.reading.Decoding.{term-sound}
+use Rattle.laws.specs.reading.Fits.{accepted-fits}
+use Rattle.laws.specs.reading.Numbers.{term-spares}
 use Rattle.reader.specs.Accepted.{Accepts, accepts, refuses}
-use Rattle.spans.specs.Given.{Reads}
+use Rattle.term.specs.Given.{Reads}
 use Rattle.reduction.specs.Answers.{reducedBy, Reducing}
 use Rattle.reduction.specs.declared.Reduced.{Reduced}
 use Rattle.reduction.specs.declared.Reduced.the-variants.{Refused as IsRefused}

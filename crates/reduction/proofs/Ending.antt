@@ -10,12 +10,12 @@ use Rattle.rules.specs.Basic.{Bytes}
 use Rattle.rules.specs.Term.{encode, size}
 use Rattle.rules.specs.declared.Counts.{Counts}
 use Rattle.rules.specs.Reduction.{Reduced, stopped, outgrew}
-use Rattle.places.proofs.Writes.{zeros}
-use Rattle.gap.proofs.Buffers.{fits-few}
-use Rattle.repeating.specs.Turning.{last, Repeats}
-use Rattle.course.specs.Told.{repeatedOf}
-use Rattle.course.specs.declared.Repeated.{Repeated}
-use Rattle.course.specs.declared.Repeated.the-variants.{Stopped, Outgrown}
+use Rattle.substitution.proofs.place.Writes.{zeros}
+use Rattle.reduction.proofs.moves.Buffers.{fits-few}
+use Rattle.reduction.specs.Turning.{last, Repeats}
+use Rattle.reduction.specs.Told.{repeatedOf}
+use Rattle.reduction.specs.declared.course.Repeated.{Repeated}
+use Rattle.reduction.specs.declared.course.Repeated.the-variants.{Stopped, Outgrown}
 use Rattle.reduction.specs.Answers.{Reducing}
 use Rattle.reduction.specs.declared.Reduced.the-variants.{Stopped as IsStopped, Refused as IsRefused}
 

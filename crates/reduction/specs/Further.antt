@@ -16,13 +16,13 @@ use Rattle.rules.specs.declared.Counts.{Counts}
 use Rattle.rules.specs.Step.{Stepped, normal, step, isNormal, halfFits}
 use Rattle.rules.specs.Reduction.{noCounts, plus, Reduced, stopped, outgrew, reduceFrom, reduce}
 use Rattle.rules.specs.Calls.{workRoom, reduceEnding, reduceWith, reduceCall}
-use Rattle.laws.specs.Same.{both-true}
-use Rattle.laws.specs.Decoding.{term-sound, term-complete}
-use Rattle.laws.specs.Fits.{fits-accepted, accepted-fits}
-use Rattle.laws.specs.StepLegal.{step-legal}
-use Rattle.course.specs.Counted.{total, one-more}
-use Rattle.repeating.specs.Turning.{last}
-use Rattle.repeating.specs.Carried.{at-limit, at-normal, at-found, at-over, Turn, rests, goes, outgrows, turn}
+use Rattle.laws.specs.free.Same.{both-true}
+use Rattle.laws.specs.reading.Decoding.{term-sound, term-complete}
+use Rattle.laws.specs.reading.Fits.{fits-accepted, accepted-fits}
+use Rattle.laws.specs.step.StepLegal.{step-legal}
+use Rattle.reduction.specs.Counted.{total, one-more}
+use Rattle.reduction.specs.Turning.{last}
+use Rattle.reduction.specs.Carried.{at-limit, at-normal, at-found, at-over, Turn, rests, goes, outgrows, turn}
 
 -- ---- added
 

@@ -1,2 +1,11 @@
+pub mod Hole
+pub mod Quiet
+pub mod Seen
+pub mod Standing
+pub mod Fired
+pub mod Counted
+pub mod Told
+pub mod Turning
+pub mod Carried
 pub mod Answers
 pub mod Further

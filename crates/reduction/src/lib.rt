@@ -7,15 +7,24 @@ ghost use Rattle.rules.specs.Refusal.{refuse};
 ghost use Rattle.rules.specs.Term.{Term};
 ghost use Rattle.rules.specs.Reduction.{reduce};
 ghost use Rattle.rules.specs.Calls.{reduceCall};
-ghost use Rattle.spans.specs.Given.{Reads};
+ghost use Rattle.term.specs.Given.{Reads};
 ghost use Rattle.reduction.specs.Answers.{reducedBy, Reducing};
-use buffers::leave;
-use buffers::short;
+use buffer::room::leave;
+use buffer::room::short;
 use course::Repeated;
-use repeating::repeat_steps;
+use repeat::repeat_steps;
 use rules::Answer;
 use rules::Counts;
 use rules::Refusal;
+
+pub mod counting;
+pub mod course;
+pub mod land;
+pub mod moves;
+pub mod place;
+pub mod repeat;
+pub mod sight;
+mod turn;
 
 // The steps taken, one count for each rule, whether no step remains, and the length of the term in the output.
 pub struct Reduction {

@@ -10,10 +10,10 @@ use Rattle.rules.specs.Limits.{limits, outputRoom}
 use Rattle.rules.specs.Term.{Term, encode, nodes, size, fits}
 use Rattle.rules.specs.declared.Rule.{Rule}
 use Rattle.rules.specs.Step.{by, contract, Stepped, normal, found, stepFits}
-use Rattle.search.specs.Around.{Frame}
-use Rattle.search.specs.Spot.{placed}
-use Rattle.step.specs.declared.Taken.{Taken}
-use Rattle.step.specs.declared.Taken.the-variants.{Normal, Found, Outgrown}
+use Rattle.redex.specs.Around.{Frame}
+use Rattle.redex.specs.Spot.{placed}
+use Rattle.step.specs.declared.take.Taken.{Taken}
+use Rattle.step.specs.declared.take.Taken.the-variants.{Normal, Found, Outgrown}
 
 -- the redex t, contracted where it stands
 unfoldable pub contracted : (place : ℕ) → (Term → Term) → Term → Stepped

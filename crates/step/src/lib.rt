@@ -1,62 +1,108 @@
-// One step of a term that was read: the first redex is found and contracted, and what it becomes goes between what stands around it.
+// One step of a term, and whether there is one: the public calls.
+ghost use mathlib.Core.Path.{_≡_};
 ghost use Prim.Native.Nat.{_≤_};
 ghost use lib.ListN.{length};
-ghost use Rattle.rules.specs.Limits.{limits, outputRoom};
+ghost use Rattle.rules.specs.Limits.{limits, scratchRoom};
+ghost use Rattle.rules.specs.Refusal.{refuse};
 ghost use Rattle.rules.specs.Term.{Term};
-ghost use Rattle.rules.specs.Step.{step};
-ghost use Rattle.spans.specs.Given.{Reads};
-ghost use Rattle.step.specs.Taken.{Contracting, contracted, Takes};
-use contracting::contract;
-use parts::Contracted;
-use rules::MOST_NODES;
+ghost use Rattle.rules.specs.Step.{step as stepOf};
+ghost use Rattle.rules.specs.Calls.{stepCall, isNormalCall};
+ghost use Rattle.term.specs.Given.{Reads};
+ghost use Rattle.step.specs.Answers.{stepAnswered, normalAnswered, Stepping};
+use buffer::run;
+use redex::read::Reading;
+use redex::read::none_left;
+use redex::read::read_resting;
+use rules::Answer;
+use rules::OUTPUT_ROOM;
+use rules::Refusal;
 use rules::Rule;
-use search::Sought;
-use search::find;
+use rules::SCRATCH_ROOM;
+use take::Taken;
+use take::take_step;
 
-// No redex; or the rule, its place, and the length of the term that was written; or it would outgrow the limits.
-pub enum Taken {
-    Normal,
-    Found {
-        rule: Rule,
-        place: usize,
-        length: usize,
-    },
-    Outgrown,
+pub mod take;
+
+// The rule, its place (the offset of the contracted node's tag in the given term), and the length of the next term.
+pub struct Found {
+    pub rule: Rule,
+    pub place: usize,
+    pub length: usize,
 }
 
-// Contracts the redex at `place`; `work` is room to work in.
-fn contract_at(src: &[u8], nodes: usize, place: usize, out: &mut [u8], work: &mut [u8]) -> Taken
-    requires { ⌜ ((f : Term → Term) × (t : Term) × Contracting (now src) nodes place (now out) f t) × (outputRoom limits ≤ length (now work)) ⌝ }
-    ensures { λ r. ⌜ ((f : Term → Term) → (t : Term) → Contracting (now (src .entry)) nodes place (now (out .entry)) f t → Takes (contracted place f t) (now (out .entry)) (now (out .exit)) r) ⌝ }
+pub enum Stepped {
+    Normal,
+    Found(Found),
+    Refused(Refusal),
+}
+
+// Whether a term is normal.
+pub enum Normality {
+    Known(bool),
+    Refused(Refusal),
+}
+
+// A refusal that is about no one input: 1 or 8.
+fn refused(number: u8) -> Stepped
+    ensures { λ r. ⌜ r ≡ stepAnswered (refuse number 0 0) ⌝ }
 {
-    let mut places = [0u16; MOST_NODES];
-    match contract(src, place, nodes, src.len(), &mut places, work) {
-        Contracted::Outgrown => Taken::Outgrown,
-        Contracted::Made {
+    Stepped::Refused(Refusal {
+        number,
+        place: 0,
+        input: 0,
+    })
+}
+
+// A step of a term that was read: zeros behind the next term, and in the scratch.
+fn step_read(term: &[u8], nodes: usize, out: &mut [u8], scratch: &mut [u8]) -> Stepped
+    requires { ⌜ ((t : Term) × Reads (now term) nodes (now out) t) × (scratchRoom limits ≤ length (now scratch)) ⌝ }
+    ensures { λ r. ⌜ ((t : Term) → Reads (now (term .entry)) nodes (now (out .entry)) t → Stepping (stepOf t) (now (out .entry)) (now (scratch .entry)) r (now (out .exit)) (now (scratch .exit))) ⌝ }
+{
+    let taken = take_step(term, nodes, out, scratch);
+    run::clear(scratch, 0);
+    match taken {
+        Taken::Normal => Stepped::Normal,
+        Taken::Outgrown => refused(8),
+        Taken::Found {
             rule,
-            size,
-            end,
-            nodes: _,
+            place,
+            length,
         } => {
-            let before = runs::copy(src, 0, place, out, 0);
-            let middle = runs::copy(work, 0, size, out, before);
-            let length = runs::copy(src, end, src.len(), out, middle);
-            Taken::Found {
+            run::clear(out, length);
+            Stepped::Found(Found {
                 rule,
                 place,
                 length,
-            }
+            })
         }
     }
 }
 
-// One step of the term src, which has so many nodes; out is written only where a redex is found and the result fits.
-pub fn take_step(src: &[u8], nodes: usize, out: &mut [u8], work: &mut [u8]) -> Taken
-    requires { ⌜ ((t : Term) × Reads (now src) nodes (now out) t) × (outputRoom limits ≤ length (now work)) ⌝ }
-    ensures { λ r. ⌜ ((t : Term) → Reads (now (src .entry)) nodes (now (out .entry)) t → Takes (step t) (now (out .entry)) (now (out .exit)) r) ⌝ }
+// The next term, written to out, with zeros behind it; or Normal, and out untouched.
+pub fn step(term: &[u8], out: &mut [u8], scratch: &mut [u8]) -> Stepped
+    ensures { λ r. ⌜ r ≡ stepAnswered (stepCall limits (now (term .entry)) (now (out .entry)) (now (scratch .entry)) .answer) ⌝ }
+    ensures { λ _. ⌜ now (out .exit) ≡ stepCall limits (now (term .entry)) (now (out .entry)) (now (scratch .entry)) .output ⌝ }
+    ensures { λ _. ⌜ now (scratch .exit) ≡ stepCall limits (now (term .entry)) (now (out .entry)) (now (scratch .entry)) .scratch ⌝ }
 {
-    match find(src, 0) {
-        Sought::After(_) => Taken::Normal,
-        Sought::Redex(place) => contract_at(src, nodes, place, out, work),
+    if out.len() < OUTPUT_ROOM {
+        return refused(1);
+    }
+    if scratch.len() < SCRATCH_ROOM {
+        return refused(1);
+    }
+    match reader::term_input(term, 1) {
+        Answer::Refused(r) => Stepped::Refused(r),
+        Answer::Good(nodes) => step_read(term, nodes, out, scratch),
+    }
+}
+
+// Whether step finds nothing.
+pub fn is_normal(term: &[u8]) -> Normality
+    ensures { λ r. ⌜ r ≡ normalAnswered (isNormalCall limits (now (term .entry))) ⌝ }
+{
+    match read_resting(term, 1) {
+        Reading::Refused(r) => Normality::Refused(r),
+        Reading::Unsure(_) => Normality::Known(none_left(term)),
+        Reading::Calm(_) => Normality::Known(true),
     }
 }

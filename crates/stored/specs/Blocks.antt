@@ -13,9 +13,9 @@ use Rattle.rules.specs.Basic.{Bytes, if_then_else_, low-high}
 use Rattle.rules.specs.Limits.{blocksFor}
 use Rattle.rules.specs.declared.Kind.{Kind}
 use Rattle.rules.specs.Stored.{kindByte, usedIn, padded, allZero, check, blockBody, block, blocks, stored}
-use Rattle.runs.specs.Writing.{sets-app}
-use Rattle.block_sums.specs.Weights.{are-zeros}
-use Rattle.block.specs.Opening.{used-le}
+use Rattle.buffer.specs.Writing.{sets-app}
+use Rattle.stored.specs.Weights.{are-zeros}
+use Rattle.stored.specs.Opening.{used-le}
 use Rattle.stored.specs.Writing.{PutBody}
 
 -- all of a list is written

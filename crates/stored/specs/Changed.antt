@@ -14,7 +14,7 @@ use Rattle.rules.specs.Limits.{Limits}
 use Rattle.rules.specs.Refusal.{Outcome, good, refuse}
 use Rattle.rules.specs.declared.Kind.{Kind}
 use Rattle.rules.specs.Stored.{check, blockAt, two-bytes, lengthIn, openBlock, openBlocks, opened, stored, readKind}
-use Rattle.block.specs.Opening.{opens-11}
+use Rattle.stored.specs.Opening.{opens-11}
 use Rattle.stored.specs.Storing.{read-short, right-size}
 use Rattle.stored.specs.Gathering.{joined, openBlocks-suc}
 use Rattle.stored.specs.Inverse.{block-right, blocks-right, opens}

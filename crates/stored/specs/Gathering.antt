@@ -14,8 +14,8 @@ use Rattle.rules.specs.declared.Answer.{Answer}
 use Rattle.rules.specs.declared.Answer.the-variants.{Good, Refused}
 use Rattle.rules.specs.declared.Kind.{Kind}
 use Rattle.rules.specs.Stored.{blockAt, openBlock, openBlocks}
-use Rattle.runs.specs.Wrote.{Wrote}
-use Rattle.block.specs.Opening.{taken, OpenedBlock}
+use Rattle.buffer.specs.Wrote.{Wrote}
+use Rattle.stored.specs.Opening.{taken, OpenedBlock}
 use Rattle.stored.specs.Blocks.{slice-part}
 
 -- an outcome with bytes in front

@@ -14,8 +14,8 @@ use Rattle.rules.specs.Refusal.{Outcome, good, refused, _>>=_}
 use Rattle.rules.specs.declared.Refusal.{Refusal}
 use Rattle.rules.specs.declared.Kind.{Kind}
 use Rattle.rules.specs.Stored.{check, blockAt, two-bytes, lengthIn, usedIn, allZero, headWrong, openBlock, openBlocks, opened, readKind}
-use Rattle.block.specs.Heads.{HeadRight, head-right}
-use Rattle.block.specs.Opening.{contentIn, used-le}
+use Rattle.stored.specs.Heads.{HeadRight, head-right}
+use Rattle.stored.specs.Opening.{contentIn, used-le}
 use Rattle.stored.specs.Storing.{SizeRight, sizeWrong, size-right}
 use Rattle.stored.specs.Gathering.{joined, openBlocks-suc}
 

@@ -1,3 +1,6 @@
+pub mod Weights
+pub mod Heads
+pub mod Opening
 pub mod Writing
 pub mod Blocks
 pub mod Gathering

@@ -15,8 +15,8 @@ use Rattle.rules.specs.Refusal.{good}
 use Rattle.rules.specs.declared.Kind.{Kind}
 use Rattle.rules.specs.Stored.{kindByte, check, blockBody, block, blocks, stored, blockAt, lengthIn, usedIn, padded, allZero, openBlock, openBlocks, opened}
 use Rattle.stored.specs.Octets.{Octets}
-use Rattle.block_sums.specs.Weights.{zeros-are}
-use Rattle.block.specs.Opening.{used-le}
+use Rattle.stored.specs.Weights.{zeros-are}
+use Rattle.stored.specs.Opening.{used-le}
 use Rattle.stored.specs.Blocks.{padded-used}
 use Rattle.stored.specs.Inverse.{BlockRight, block-right, length-content, Joined, blocks-right, blocks-none, opens}
 

@@ -17,7 +17,7 @@ use Rattle.rules.specs.declared.Kind.the-variants.{Term, Proof}
 use Rattle.rules.specs.Reading.{whole, readTerm, readProof}
 use Rattle.rules.specs.Stored.{stored, readKind, openBlocks, opened}
 use Rattle.rules.specs.Buffers.{Wrote, filled, bytesOr, wrote}
-use Rattle.block.specs.Heads.{or-left, or-right}
+use Rattle.stored.specs.Heads.{or-left, or-right}
 use Rattle.rules.specs.Calls.{storeCall, loadCall}
 
 -- what is refused leaves the output; what is written is followed by zeros

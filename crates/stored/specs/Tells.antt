@@ -11,7 +11,7 @@ use lib.ListN.{length, getD, set}
 use borrow.Author.Tests.{ltb-true, ltb-false, leb-true, leb-false, le-ltb, eq-eqb, eqb-true, eqb-false}
 use Rattle.rules.specs.Basic.{Bytes}
 use Rattle.rules.specs.Stored.{weighed, check}
-use Rattle.block_sums.specs.Weights.{and-left, and-right}
+use Rattle.stored.specs.Weights.{and-left, and-right}
 
 -- a changed byte changes the sum by its weight times the change
 pub weighed-set : (i : ℕ) (s : Bytes) (p v : ℕ) → p < length s → weighed i (set s p v) + (i + p + 1) * getD s p 0 ≡ weighed i s + (i + p + 1) * v

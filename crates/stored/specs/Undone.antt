@@ -19,9 +19,9 @@ use Rattle.rules.specs.declared.Kind.the-variants.{Term, Proof}
 use Rattle.rules.specs.Buffers.{Wrote}
 use Rattle.rules.specs.Calls.{storeCall, loadCall}
 use Rattle.rules.specs.Stored.{kindByte, check, blockBody, block, blocks, stored, blockAt, two-bytes, lengthIn, usedIn, allZero, headWrong, openBlock, openBlocks, opened, readKind}
-use Rattle.block_sums.specs.Weights.{are-zeros}
-use Rattle.block.specs.Heads.{right-head}
-use Rattle.block.specs.Opening.{contentIn, opens-good}
+use Rattle.stored.specs.Weights.{are-zeros}
+use Rattle.stored.specs.Heads.{right-head}
+use Rattle.stored.specs.Opening.{contentIn, opens-good}
 use Rattle.stored.specs.Blocks.{used-in, take-used, padded-used, length-block, length-blockBody, length-stored}
 use Rattle.stored.specs.Storing.{put, sizeWrong, right-size, read-short, store-good, load-good}
 use Rattle.stored.specs.Gathering.{joined, openBlocks-suc}

@@ -1,17 +1,17 @@
 // All blocks of a file, one after the other: written, and opened.
+use crate::block::BLOCK_BYTES;
+use crate::block::blocks_for;
+use crate::block::open_block;
 use crate::writing::put_block;
-use block::BLOCK_BYTES;
-use block::blocks_for;
-use block::open_block;
+use buffer::run::copy;
 use rules::Answer;
 use rules::Kind;
-use runs::copy;
 ghost use Prim.Native.Nat.{_+_, _*_, _/_, _≤_, _<_};
 ghost use lib.ListN.{length};
 ghost use Rattle.rules.specs.Limits.{limits};
 ghost use Rattle.rules.specs.Stored.{stored};
-ghost use Rattle.runs.specs.Wrote.{Wrote};
-ghost use Rattle.block.specs.Opening.{OpenedBlocks};
+ghost use Rattle.buffer.specs.Wrote.{Wrote};
+ghost use Rattle.stored.specs.Opening.{OpenedBlocks};
 
 // Writes the stored form of content, and returns the place after it.
 pub fn put_blocks(kind: Kind, content: &[u8], out: &mut [u8]) -> usize

@@ -2,6 +2,8 @@
 use block::refused;
 use blocks::open_blocks;
 use blocks::put_blocks;
+use buffer::run::clear;
+use buffer::run::copy;
 use proof::proof_input;
 use reader::term_input;
 use rules::Answer;
@@ -9,8 +11,6 @@ use rules::Kind;
 use rules::OUTPUT_ROOM;
 use rules::Refusal;
 use rules::STORED_ROOM;
-use runs::clear;
-use runs::copy;
 ghost use mathlib.Core.Path.{_≡_};
 ghost use Prim.Native.Nat.{_≤_};
 ghost use lib.ListN.{length, take};
@@ -21,7 +21,9 @@ ghost use Rattle.rules.specs.Calls.{storeCall, loadCall};
 ghost use Rattle.stored.specs.Storing.{sizeWrong};
 ghost use Rattle.stored.specs.Answers.{Filled, accepted};
 
+pub mod block;
 mod blocks;
+pub mod check;
 mod writing;
 
 // Refusal 10: stored length 0, no multiple of 512, or over 4,608.

@@ -1,11 +1,11 @@
 // One block, written: its head, its content and zeros, then the check of these.
-use block::BLOCK_CONTENT;
-use block::kind_byte;
-use block::used_in;
-use block_sums::check_of;
+use crate::block::BLOCK_CONTENT;
+use crate::block::kind_byte;
+use crate::block::used_in;
+use crate::check::check_of;
+use buffer::run::clear;
+use buffer::run::copy;
 use rules::Kind;
-use runs::clear;
-use runs::copy;
 ghost use mathlib.Core.Path.{_≡_};
 ghost use Prim.Native.Nat.{_≤_, _<_};
 ghost use mathlib.Core.Bool.{true};

@@ -17,8 +17,8 @@ use Rattle.rules.specs.Substitution.{subst}
 use Rattle.rules.specs.Reading.{readTerm, readName}
 use Rattle.rules.specs.Buffers.{bytesOr, cleared}
 use Rattle.rules.specs.Calls.{grown, substituted, substituteCall}
-use Rattle.laws.specs.Decoding.{term-sound, bare-name-sound}
-use Rattle.laws.specs.Numbers.{term-spares, name-spares}
+use Rattle.laws.specs.reading.Decoding.{term-sound, bare-name-sound}
+use Rattle.laws.specs.reading.Numbers.{term-spares, name-spares}
 use Rattle.substitution.specs.declared.Inputs.the-variants.{Read, Refused as Bad}
 use Rattle.substitution.specs.Work.{inputs, Job, Done}
 

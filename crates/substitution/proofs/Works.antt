@@ -15,17 +15,17 @@ use Rattle.rules.specs.declared.Answer.{Answer}
 use Rattle.rules.specs.declared.Answer.the-variants.{Good}
 use Rattle.rules.specs.Term.{Term, encode, nodes, size, fits}
 use Rattle.rules.specs.Substitution.{subst}
-use Rattle.laws.specs.Same.{both-true}
-use Rattle.runs.specs.Wrote.{Wrote}
-use Rattle.runs.specs.Writing.{wrote-length, filled-up}
-use Rattle.places.specs.Places.{places, Row, Held}
-use Rattle.splice.specs.Spliced.{spliced, Left}
-use Rattle.splice.specs.Sizes.{Growth}
+use Rattle.laws.specs.free.Same.{both-true}
+use Rattle.buffer.specs.Wrote.{Wrote}
+use Rattle.buffer.specs.Writing.{wrote-length, filled-up}
+use Rattle.substitution.specs.Places.{places, Row, Held}
+use Rattle.substitution.specs.Spliced.{spliced, Left}
+use Rattle.substitution.specs.Sizes.{Growth}
 use Rattle.substitution.specs.Work.{Job, Done}
-use Rattle.places.proofs.Writes.{held, from-start, zeros}
-use Rattle.places.proofs.Shapes.{places-many}
-use Rattle.splice.proofs.Splices.{spliced-term, spaced-term}
-use Rattle.places.proofs.Finds.{count-within}
+use Rattle.substitution.proofs.place.Writes.{held, from-start, zeros}
+use Rattle.substitution.proofs.place.Shapes.{places-many}
+use Rattle.substitution.proofs.splice.Splices.{spliced-term, spaced-term}
+use Rattle.substitution.proofs.place.Finds.{count-within}
 
 -- what fits has at most 4,096 bytes
 fits-bytes : (t : Term) → fits limits t ≡ true → size t ≤ 4096

@@ -11,7 +11,7 @@ use Rattle.rules.specs.Term.{Term, nodes}
 use Rattle.rules.specs.Substitution.{subst}
 use Rattle.rules.specs.Buffers.{bytesOr, filled}
 use Rattle.rules.specs.Calls.{grown}
-use Rattle.laws.specs.Decoding.{TermIn}
+use Rattle.laws.specs.reading.Decoding.{TermIn}
 use Rattle.substitution.specs.declared.Inputs.{Inputs}
 use Rattle.substitution.specs.declared.Inputs.the-variants.{Read, Refused}
 

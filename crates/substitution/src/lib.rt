@@ -6,12 +6,17 @@ ghost use Rattle.rules.specs.Term.{Term};
 ghost use Rattle.rules.specs.Reading.{readTerm, readName};
 ghost use Rattle.rules.specs.Calls.{substituteCall};
 ghost use Rattle.substitution.specs.Work.{inputs, Job, Done};
+use buffer::run;
 use rules::Answer;
 use rules::MOST_NODES;
 use rules::OUTPUT_ROOM;
 use rules::Refusal;
 use rules::SCRATCH_ROOM;
-use splice::sizes;
+
+pub mod place;
+pub mod put;
+pub mod size;
+pub mod splice;
 
 // The inputs of a substitution: how many nodes the term has, and the value; or a refusal.
 enum Inputs {
@@ -59,14 +64,14 @@ fn replace(
     requires { ⌜ ((t : Term) × (v : Term) × Job (now term) (now name) (now value) (now out) nodes added t v) ⌝ }
     ensures { λ r. ⌜ ((t : Term) → (v : Term) → Job (now (term .entry)) (now (name .entry)) (now (value .entry)) (now (out .entry)) nodes added t v → Done (now (name .entry)) t v (now (out .entry)) (now (scratch .entry)) r (now (out .exit)) (now (scratch .exit))) ⌝ }
 {
-    runs::clear(scratch, 0);
+    run::clear(scratch, 0);
     let mut row = [0u16; MOST_NODES];
-    let found = places::find_places(term, name, &mut row);
+    let found = place::find_places(term, name, &mut row);
     let count = found.count;
     let gap = 2 + name.len();
-    if sizes::stays(term.len(), nodes, count, gap, value.len(), added) {
+    if size::stays(term.len(), nodes, count, gap, value.len(), added) {
         let end = splice::splice(term, &row[0..count], gap, value, out, 0);
-        runs::clear(out, end);
+        run::clear(out, end);
         return Answer::Good(end);
     }
     refused(8)

@@ -13,12 +13,12 @@ use Rattle.rules.specs.Term.{Term, encode, nodes}
 use Rattle.rules.specs.Reading.{readTerm}
 use Rattle.rules.specs.Text.{text}
 use Rattle.rules.specs.Calls.{checkTermCall, textCall}
-use Rattle.laws.specs.Decoding.{TermIn, term-sound}
-use Rattle.laws.specs.TextSize.{term-text-size}
+use Rattle.laws.specs.reading.Decoding.{TermIn, term-sound}
+use Rattle.laws.specs.size.TextSize.{term-text-size}
 use Rattle.reader.specs.Accepted.{Accepts, accepts, refuses}
 use Rattle.words.specs.Call.{Ends, start}
 use Rattle.words.specs.Call as call
-use Rattle.phrases.specs.Task.{TermTask}
+use Rattle.term_text.specs.Task.{TermTask}
 
 module _ (s o : List ℕ) where
   pub short : length o < 20480 → Ends (Refused (record { number = 1; place = 0; input = 0 })) o (textCall limits s o)

@@ -3,10 +3,14 @@ ghost use mathlib.Core.Path.{_≡_};
 ghost use Rattle.rules.specs.Limits.{limits};
 ghost use Rattle.rules.specs.Refusal.{answered};
 ghost use Rattle.rules.specs.Calls.{textCall};
+use buffer::run;
 use rules::Answer;
 use rules::Refusal;
 use rules::TEXT_ROOM;
-use term_walk::walk;
+use walk::walk;
+
+pub mod phrase;
+pub mod walk;
 
 // The term's text, then zeros.
 pub fn pretty(term: &[u8], out: &mut [u8]) -> Answer
@@ -23,7 +27,7 @@ pub fn pretty(term: &[u8], out: &mut [u8]) -> Answer
     match reader::check_term(term) {
         Answer::Good(_) => {
             let past = walk(term, 0, out, 0) / 65536;
-            runs::clear(out, past);
+            run::clear(out, past);
             Answer::Good(past)
         }
         Answer::Refused(r) => Answer::Refused(r),

@@ -21,9 +21,9 @@ use denote.Ref.{RefT, MutRef}
 use denote.Lend.{lends-ref, ref-back}
 use denote.Steps.{owned, peeks}
 use denote.Struct.Laws as LL
-use Rattle.extractor.specs.declared.Extractor.{Extractor}
-use Rattle.extractor.proofs.Extractor as X
-use Rattle.extractor.proofs.Extractor.Laws as X′
+use Rattle.extract.specs.declared.extractor.Extractor.{Extractor}
+use Rattle.extract.proofs.extractor.Extractor as X
+use Rattle.extract.proofs.extractor.Extractor.Laws as X′
 
 abbrev mach : Extractor → Val
 mach h = vstruct (vcons (vint w32 (h .counter)) vnil)

@@ -29,13 +29,13 @@ use Rattle.rules.specs.Limits.{limits}
 use Rattle.rules.specs.Calls.{extractCall}
 use Rattle.rules.specs.declared.Answer.{Answer}
 use Rattle.rules.proofs.Answer as B
-use Rattle.entries.specs.declared.CutEntry.{CutEntry}
-use Rattle.entries.specs.Entries.{pairs}
-use Rattle.entries.proofs.Row.{R}
-use Rattle.entries.proofs.Lent.{KeptRow, lend-row, row-back}
-use Rattle.ending.specs.Ending.{Extracts}
-use Rattle.extractor.specs.declared.Extractor.{Extractor}
-use Rattle.extractor.proofs.Extractor.extract as extract-of
+use Rattle.proof_draft.specs.declared.entry.CutEntry.{CutEntry}
+use Rattle.proof_draft.specs.Entries.{pairs}
+use Rattle.proof_draft.proofs.entry.Row.{R}
+use Rattle.proof_draft.proofs.entry.Lent.{KeptRow, lend-row, row-back}
+use Rattle.extract.specs.Ending.{Extracts}
+use Rattle.extract.specs.declared.extractor.Extractor.{Extractor}
+use Rattle.extract.proofs.extractor.Extractor.extract as extract-of
 use Rattle.vectors.proofs.Cell.{ref-at, MutEx, Out, Cell, lend-cell, cell-back}
 
 -- the lifetimes and names of what is lent for a call: of the extractor, the row, the output and the scratch

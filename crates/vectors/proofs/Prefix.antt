@@ -27,7 +27,7 @@ use denote.Slice.{sliceVal, MutSlice, heres, Room, finally, codedHoleys, res-fin
 use denote.Lend.{Held, lends-slice, slice-back}
 use denote.Index.{row, whole-out, whole-in}
 use denote.Steps.{only, nothing, peeks}
-use Rattle.entries.proofs.Local.{local-out}
+use Rattle.proof_draft.proofs.entry.Local.{local-out}
 
 module _ (R : RattleType) where
   -- where what stands behind k elements lies

@@ -1,5 +1,7 @@
 // The calls by number, as the list has them, in the order of their shapes; and by name, as they are printed. Number 0 stands for all of them.
+use extract::extractor;
 use libc::STDOUT_FILENO;
+use term::child;
 
 pub const CHECK_TERM: u8 = 1;
 
@@ -61,8 +63,8 @@ fn print_without_output(call: u8) {
         1 => print(b"reader::check_term"),
         2 => print(b"reader::check_formula"),
         3 => print(b"proof::check_proof"),
-        4 => print(b"stepping::is_normal"),
-        5 => print(b"straightness::is_straight"),
+        4 => print(b"step::is_normal"),
+        5 => print(b"straight::is_straight"),
         6 => print(b"child::child_fault"),
         _ => print(b"child::child"),
     }
@@ -83,7 +85,7 @@ fn print_with_output(call: u8) {
 fn print_with_scratch(call: u8) {
     match call {
         15 => print(b"substitution::substitute"),
-        16 => print(b"stepping::step"),
+        16 => print(b"step::step"),
         17 => print(b"reduction::normalize_bounded"),
         18 => print(b"extract::extract"),
         _ => print(b"extractor::Extractor::extract, two by each Extractor"),

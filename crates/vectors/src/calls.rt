@@ -17,15 +17,16 @@ use crate::list::SECOND;
 use crate::list::THIRD;
 use crate::list::field;
 use crate::list::number;
-use child::Fault;
+use entry::tell::tell;
+use entry::tell::tell_extraction;
+use entry::tell::tell_refusal;
+use entry::tell::tell_verdict;
+use entry::tell_steps::tell_normal;
+use entry::tell_steps::tell_reduced;
+use entry::tell_steps::tell_step;
 use rules::Kind;
-use told::tell;
-use told::tell_refusal;
-use told_results::steps::tell_normal;
-use told_results::steps::tell_reduced;
-use told_results::steps::tell_step;
-use told_results::tell_extraction;
-use told_results::tell_verdict;
+use term::child;
+use term::child::Fault;
 
 // An input, and nothing else.
 pub fn alone(call: u8, list: &[u8], told: &mut [u64; 16]) {
@@ -43,10 +44,10 @@ pub fn alone(call: u8, list: &[u8], told: &mut [u64; 16]) {
         return;
     }
     if call == IS_NORMAL {
-        tell_normal(stepping::is_normal(input), told);
+        tell_normal(step::is_normal(input), told);
         return;
     }
-    tell_verdict(straightness::is_straight(input), told);
+    tell_verdict(straight::is_straight(input), told);
 }
 
 // A term, and which child is asked for.
@@ -124,7 +125,7 @@ pub fn with_scratch(
 ) {
     let input = field(list, FIRST);
     if call == STEP {
-        tell_step(stepping::step(input, out, scratch), told);
+        tell_step(step::step(input, out, scratch), told);
         return;
     }
     let n = number(field(list, NUMBERS), 0) as u32;

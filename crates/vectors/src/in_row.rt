@@ -2,8 +2,8 @@
 ghost use mathlib.Core.Path.{_≡_};
 ghost use Prim.Native.Nat.{_≤_};
 ghost use lib.ListN.{length};
-use entries::CutEntry;
-use extractor::Extractor;
+use extract::extractor::Extractor;
+use proof_draft::entry::CutEntry;
 use rules::Answer;
 
 // What two extractions answered, one after the other, the counter after each, and the row after both.

@@ -1,4 +1,5 @@
 // What a call is lent: buffers that are filled before it, and what it leaves in them.
+use buffer::run;
 
 // No zero, so that what is left as it was can be told from what is set to zero.
 const FILLED: u8 = 170;
@@ -38,7 +39,7 @@ pub fn left(buffer: &[u8], wanted: &[u8]) -> u64 {
     if buffer.len() < n {
         return OTHER;
     }
-    if !runs::same(&buffer[..n], wanted) {
+    if !run::same(&buffer[..n], wanted) {
         return OTHER;
     }
     if !all_are(&buffer[n..], 0) {

@@ -6,8 +6,8 @@ use crate::list::NUMBERS;
 use crate::list::SECOND;
 use crate::list::field;
 use crate::list::number;
-use entries::CutEntry;
-use told::tell;
+use entry::tell::tell;
+use proof_draft::entry::CutEntry;
 
 // What the lent entries of the row are, as the list has it; 3 for what is neither, or not all alike.
 const AS_THEY_WERE: u64 = 1;

@@ -1,3 +1,4 @@
+pub mod Digits
 pub mod Prints
 pub mod Task
 pub mod Steps

@@ -7,7 +7,7 @@ use native.Mathlib.Nat.{add-zero, zero-add}
 use native.Mathlib.Omega.{arith}
 use lib.ListN.{length, getD, take, drop, set, length-append, length-drop, length-replicate}
 use lib.Seq.{sets, sets-eq, length-sets, length-take-le, take-append-add, take-append-le, take-add, take-take, take-length, drop-cons, drop-drop, drop-at, slice, length-slice}
-use Rattle.runs.specs.Wrote.{Wrote}
+use Rattle.buffer.specs.Wrote.{Wrote}
 use Rattle.words.specs.Steps.{chain}
 use Rattle.words.specs.Prints.{Prints, eight, brackets}
 

@@ -5,11 +5,11 @@ use borrow.Author.Needs.{needs}
 use Rattle.rules.specs.Basic.{Bytes}
 use Rattle.rules.specs.Limits.{limits}
 use Rattle.rules.specs.Calls.{locateCall}
-use Rattle.child.specs.Child.{pieceOf}
-use Rattle.child.specs.declared.Piece.{Piece}
-use Rattle.child.specs.declared.Piece.the-variants.{Part, Missing}
-use Rattle.child.proofs.Children.{part-ordered}
-use Rattle.told.specs.Child.{ordered, toldPiece}
+use Rattle.term.specs.Child.{pieceOf}
+use Rattle.term.specs.declared.child.Piece.{Piece}
+use Rattle.term.specs.declared.child.Piece.the-variants.{Part, Missing}
+use Rattle.term.proofs.child.Children.{part-ordered}
+use Rattle.entry.specs.Child.{ordered, toldPiece}
 use Rattle.entry.proofs.patch_child.Statement.{statement}
 use Rattle.entry.proofs.patch_child.Tie as tie
 

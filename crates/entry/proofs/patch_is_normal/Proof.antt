@@ -1,7 +1,7 @@
 -- `entry::patch_is_normal` meets its contract: what it tells is the public call's answer. Assumes nothing.
 use mathlib.Core.Path.{ap, _∙_}
 use borrow.Author.Needs.{needs}
-use Rattle.told_results.specs.Steps.{toldNormal}
+use Rattle.entry.specs.Steps.{toldNormal}
 use Rattle.entry.proofs.patch_is_normal.Statement.{statement}
 use Rattle.entry.proofs.patch_is_normal.Tie as tie
 

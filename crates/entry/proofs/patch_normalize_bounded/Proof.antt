@@ -1,7 +1,7 @@
 -- `entry::patch_normalize_bounded` meets its contract: what it tells is the public call's answer, and the buffers are the call's. Assumes nothing.
 use mathlib.Core.Path.{ap, _∙_}
 use borrow.Author.Needs.{needs}
-use Rattle.told_results.specs.Steps.{toldReduced}
+use Rattle.entry.specs.Steps.{toldReduced}
 use Rattle.entry.proofs.patch_normalize_bounded.Statement.{statement}
 use Rattle.entry.proofs.patch_normalize_bounded.Tie as tie
 

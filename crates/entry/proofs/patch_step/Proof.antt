@@ -1,7 +1,7 @@
 -- `entry::patch_step` meets its contract: what it tells is the public call's answer, and the buffers are the call's. Assumes nothing.
 use mathlib.Core.Path.{ap, _∙_}
 use borrow.Author.Needs.{needs}
-use Rattle.told_results.specs.Steps.{toldStep}
+use Rattle.entry.specs.Steps.{toldStep}
 use Rattle.entry.proofs.patch_step.Statement.{statement}
 use Rattle.entry.proofs.patch_step.Tie as tie
 

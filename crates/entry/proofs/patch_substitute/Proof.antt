@@ -1,7 +1,7 @@
 -- `entry::patch_substitute` meets its contract: what it tells is the public call's answer, and the buffers are the call's. Assumes nothing.
 use mathlib.Core.Path.{ap, _∙_}
 use borrow.Author.Needs.{needs}
-use Rattle.told.specs.Told.{toldAnswer}
+use Rattle.entry.specs.Told.{toldAnswer}
 use Rattle.entry.proofs.patch_substitute.Statement.{statement}
 use Rattle.entry.proofs.patch_substitute.Tie as tie
 

@@ -1,6 +1,6 @@
 -- `extract::extract` meets its contract: the reader's answer says which proof it is, and its term is extracted. Assumes nothing.
 use mathlib.Core.Path.{sym, _∙_}
-use Rattle.laws.specs.Octets.{octets}
+use Rattle.laws.specs.reading.Octets.{octets}
 use Rattle.extract.proofs.Calling.{short-output, short-scratch, bad-proof, read, good-proof}
 use borrow.Author.Needs.{needs}
 use Rattle.extract.proofs.extract.Statement.{statement}

@@ -5,7 +5,7 @@ use denote.Ref.{now}
 use Rattle.rules.specs.declared.Answer.the-variants.{Good}
 use Rattle.words.specs.Ends.{from-start, whole-long, whole-room, whole}
 use Rattle.formula_text.proofs.Whole.{short, not-read, was-read, read}
-use Rattle.formula_walk.specs.Read.{few, size, task}
+use Rattle.formula_text.specs.Read.{few, size, task}
 use borrow.Author.Needs.{needs}
 use Rattle.formula_text.proofs.pretty.Statement.{statement}
 use Rattle.formula_text.proofs.pretty.Tie as tie

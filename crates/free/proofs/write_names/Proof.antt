@@ -3,7 +3,7 @@ use Prim.Native.Nat.{_≤_, _-_}
 use mathlib.Core.Path.{_≡_, refl, _∙_}
 use native.Mathlib.Omega.{arith}
 use lib.ListN.{length, getD}
-use Rattle.walk.proofs.Names.{name-room}
+use Rattle.term.proofs.node.Names.{name-room}
 use Rattle.free.proofs.Listing.{Listed, listed-none, entry-name, entry-room, listed-more, listed-all}
 use Rattle.free.proofs.write_names.Statement.{statement}
 use Rattle.free.proofs.write_names.Tie as tie

@@ -24,7 +24,7 @@ use Rattle.rules.specs.Calls.{workRoom, stepEnding, readEnding, reduceEnding, r
 use Rattle.rules.specs.Program as Program
 use Rattle.rules.specs.declared.Kind.the-variants.{Term as aTerm}
 use Rattle.rules.specs.declared.Counts.{Counts}
-use Rattle.printed.specs.Printing.{termAfter, scratchAfter}
+use Rattle.program.specs.Printing.{termAfter, scratchAfter}
 use Rattle.promises.specs.Wrong.{nothing}
 use Rattle.promises.specs.Wrong.Step.{contractBy, stepBy, insteadFound, stepped}
 use Rattle.promises.specs.Wrong.Reduction.{reduceFromBy, told, reduced, reduceEndingBy}

@@ -22,7 +22,7 @@ use Rattle.rules.specs.Stored.{weighed, blocks, stored, openBlock, openBlocks, 
 use Rattle.rules.specs.Calls.{checkTermCall, checkFormulaCall, checkProofCall, freeVarsCall, textCall, formulaTextCall, substituted, substituteCall, stepCall, reduceCall, isNormalCall, isStraightCall, locateCall, childCall, childFaultCall, storeCall, loadCall, extractCall}
 use Rattle.rules.specs.Program as Program
 use Rattle.rules.specs.Straight.{binders, variables, count, plain, once, straight, Each}
-use Rattle.printed.specs.Printing.{termAfter, scratchAfter}
+use Rattle.program.specs.Printing.{termAfter, scratchAfter}
 use Rattle.rules.proofs.Notation.{wrongFrom, wrong}
 use Rattle.rules.proofs.Called.{numbers, single, boolNumber, faultNumbers, stepNumbers, wroteNumbers, workedNumbers, reduceCallNumbers, extractedNumbers}
 use Rattle.promises.specs.PublicCalls.{Call, Input, Answer, Meets, definition, checkTerm, checkFormula, checkProof, isNormal, isStraight, locate, child, childFault, termText, formulaText, freeNames, store, load, substitute, step, reduce, extract, extractor, printed}

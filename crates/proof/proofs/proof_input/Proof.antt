@@ -2,7 +2,7 @@
 use native.Mathlib.Omega.{arith}
 use mathlib.Core.Path.{sym, _∙_}
 use Rattle.rules.specs.Limits.{limits}
-use Rattle.laws.specs.Octets.{octets}
+use Rattle.laws.specs.reading.Octets.{octets}
 use Rattle.proof.proofs.Whole.{whole-long, whole-bad, whole-end}
 use borrow.Author.Needs.{needs}
 use Rattle.proof.proofs.proof_input.Statement.{statement}

@@ -1,8 +1,8 @@
 -- `name_input` meets its contract: each return is a case of what a bare name is. Assumes nothing.
 use native.Mathlib.Omega.{arith}
 use mathlib.Core.Path.{sym, ap, _∙_}
-use Rattle.letters.specs.View.{skipped}
-use Rattle.letters.specs.Tables.{letter-classes}
+use Rattle.reader.specs.View.{skipped}
+use Rattle.reader.specs.Tables.{letter-classes}
 use Rattle.reader.proofs.Bare.{bare-empty, bare-long, bare-good, bare-bad}
 use borrow.Author.Needs.{needs}
 use Rattle.reader.proofs.name_input.Statement.{statement}

@@ -9,7 +9,7 @@ use Rattle.rules.specs.Limits.{limits}
 use Rattle.rules.specs.Refusal.{refused}
 use Rattle.rules.specs.declared.Answer.{Answer}
 use Rattle.stored.specs.Answers.{accepted}
-use Rattle.block.specs.Opening.{taken, amount}
+use Rattle.stored.specs.Opening.{taken, amount}
 use Rattle.stored.specs.Storing.{read-short, load-short, load-size, load-blocks, load-content, load-good, size-right, ends}
 use borrow.Author.Needs.{needs}
 use Rattle.stored.proofs.load.Statement.{statement}

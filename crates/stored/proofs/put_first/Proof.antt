@@ -5,7 +5,7 @@ use native.Mathlib.Omega.{arith}
 use lib.Seq.{length-take-le}
 use denote.Ref.{now}
 use Rattle.rules.specs.declared.Answer.the-variants.{Good}
-use Rattle.runs.specs.Writing.{filled-up}
+use Rattle.buffer.specs.Writing.{filled-up}
 use borrow.Author.Needs.{needs}
 use Rattle.stored.proofs.put_first.Statement.{statement}
 use Rattle.stored.proofs.put_first.Tie as tie

@@ -5,7 +5,7 @@ use native.Mathlib.Omega.{arith}
 use denote.Ref.{now}
 use Rattle.rules.specs.declared.Answer.the-variants.{Good}
 use Rattle.stored.specs.Blocks.{length-stored}
-use Rattle.runs.specs.Writing.{filled-up}
+use Rattle.buffer.specs.Writing.{filled-up}
 use borrow.Author.Needs.{needs}
 use Rattle.stored.proofs.put_stored.Statement.{statement}
 use Rattle.stored.proofs.put_stored.Tie as tie

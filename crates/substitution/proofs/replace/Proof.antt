@@ -1,6 +1,6 @@
 -- `substitution::replace` meets its contract: the sizes are those of the result, and the splice is the result. Assumes nothing.
 use mathlib.Core.Path.{refl}
-use Rattle.places.proofs.Finds.{whole}
+use Rattle.substitution.proofs.place.Finds.{whole}
 use Rattle.substitution.proofs.Works.{growth, part-within, splice-left, end-within, done, outgrown}
 use borrow.Author.Needs.{needs}
 use Rattle.substitution.proofs.replace.Statement.{statement}

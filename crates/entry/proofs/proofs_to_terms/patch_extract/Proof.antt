@@ -1,7 +1,7 @@
--- `entry::proofs_to_terms::patch_extract` meets its contract: what it tells is the public call's answer, and the buffers are the call's. Assumes nothing.
+-- `proofs_to_terms::patch_extract` meets its contract: what it tells is the public call's answer, and the buffers are the call's. Assumes nothing.
 use mathlib.Core.Path.{ap, _∙_}
 use borrow.Author.Needs.{needs}
-use Rattle.told_results.specs.Extraction.{toldExtraction}
+use Rattle.entry.specs.Extraction.{toldExtraction}
 use Rattle.entry.proofs.proofs_to_terms.patch_extract.Statement.{statement}
 use Rattle.entry.proofs.proofs_to_terms.patch_extract.Tie as tie
 

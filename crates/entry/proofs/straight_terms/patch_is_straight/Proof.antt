@@ -1,7 +1,7 @@
--- `entry::straight_terms::patch_is_straight` meets its contract: what it tells is the public call's answer. Assumes nothing.
+-- `straight_terms::patch_is_straight` meets its contract: what it tells is the public call's answer. Assumes nothing.
 use mathlib.Core.Path.{ap, _∙_}
 use borrow.Author.Needs.{needs}
-use Rattle.told_results.specs.Straight.{toldVerdict}
+use Rattle.entry.specs.Straight.{toldVerdict}
 use Rattle.entry.proofs.straight_terms.patch_is_straight.Statement.{statement}
 use Rattle.entry.proofs.straight_terms.patch_is_straight.Tie as tie
 

@@ -5,7 +5,7 @@ use native.Mathlib.Omega.{arith}
 use borrow.Author.Needs.{needs}
 use mathlib.Core.Path.{sym, _∙_}
 use lib.ListN.{length}
-use Rattle.rule_bytes.specs.Seen.{reachedAt}
+use Rattle.proof.specs.Seen.{reachedAt}
 use Rattle.proof.specs.OneNumber.{told}
 use Rattle.proof.proofs.Above.{fault-near, rule-off, rule-further, rule-far, rule-on, Going, going-none, going-start, going-last, going-off, going-on}
 use Prim.Native.Nat.{ℕ, _<_}
@@ -17,7 +17,7 @@ use Rattle.proof.proofs.premises.+read_premises+read_rule.Lts-read_prem
 use Rattle.proof.proofs.premises.read_rule.Reads as read-rule
 use Rattle.proof.proofs.premises.read_rule.Kinds as read-rule-kinds
 use Rattle.proof.proofs.premises.+read_premises+read_rule.Lts-read_rule as read-rule-lts
-use Rattle.conclusion.proofs.read_conclusion.Reads as read-conclusion-reads
+use Rattle.proof.proofs.conclusion.read_conclusion.Reads as read-conclusion-reads
 use Rattle.proof.proofs.one_number.come_to.Reads as come-to-reads
 use Rattle.proof.proofs.one_number.fault.Reads as fault-reads
 use Rattle.proof.proofs.one_number.told.Reads as told-reads

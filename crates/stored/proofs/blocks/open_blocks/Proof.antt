@@ -1,4 +1,4 @@
--- `stored::blocks::open_blocks` meets its contract: what is gathered and what is left make up the whole. Assumes nothing.
+-- `blocks::open_blocks` meets its contract: what is gathered and what is left make up the whole. Assumes nothing.
 use Prim.Native.Nat.{ℕ, _+_, _-_, _*_, _/_, _≤_}
 use mathlib.Core.Path.{_≡_, refl, sym, ap, _∙_}
 use mathlib.Core.List.{[], _++_, append-nil}
@@ -11,7 +11,7 @@ use Rattle.rules.specs.Refusal.{good}
 use Rattle.rules.specs.Limits.{limits}
 use Rattle.rules.specs.Stored.{openBlocks}
 use Rattle.stored.specs.Gathering.{behind, behind-nil, block-at, length-block-at, copied, wrote-take, stops, goes-on}
-use Rattle.block.specs.Opening.{amount}
+use Rattle.stored.specs.Opening.{amount}
 use Rattle.stored.proofs.blocks.open_blocks.Statement.{statement}
 use Rattle.stored.proofs.blocks.open_blocks.Tie as tie
 

@@ -1,4 +1,4 @@
--- `stored::blocks::put_blocks` meets its contract: what is left to write makes up the whole. Assumes nothing.
+-- `blocks::put_blocks` meets its contract: what is left to write makes up the whole. Assumes nothing.
 use Prim.Native.Nat.{ℕ, _+_, _-_, _*_, _≤_}
 use mathlib.Core.Path.{_≡_, refl, sym, ap, _∙_}
 use native.Mathlib.Omega.{arith}

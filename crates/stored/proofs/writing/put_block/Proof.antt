@@ -1,4 +1,4 @@
--- `stored::writing::put_block` meets its contract: the body, then the check. Assumes nothing.
+-- `writing::put_block` meets its contract: the body, then the check. Assumes nothing.
 use mathlib.Core.Path.{_∙_, ap}
 use mathlib.Core.List.{_++_}
 use Rattle.rules.specs.Basic.{Bytes, low-high}

@@ -1,10 +1,10 @@
--- `stored::writing::put_body` meets its contract: three writes, one after the other. Assumes nothing.
+-- `writing::put_body` meets its contract: three writes, one after the other. Assumes nothing.
 use Prim.Native.Nat.{_+_, _*_}
 use native.Mathlib.Omega.{arith}
 use lib.ListN.{length}
 use lib.Seq.{length-slice}
 use denote.Ref.{now}
-use Rattle.block.specs.Opening.{used-le}
+use Rattle.stored.specs.Opening.{used-le}
 use Rattle.stored.specs.Blocks.{used-in, put-body}
 use borrow.Author.Needs.{needs}
 use Rattle.stored.proofs.writing.put_body.Statement.{statement}

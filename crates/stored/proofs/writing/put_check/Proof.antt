@@ -1,4 +1,4 @@
--- `stored::writing::put_check` meets its contract: two bytes behind the first 510. Assumes nothing.
+-- `writing::put_check` meets its contract: two bytes behind the first 510. Assumes nothing.
 use mathlib.Core.Path.{sym}
 use denote.Ref.{now}
 use Rattle.stored.specs.Blocks.{put-last}

@@ -1,4 +1,4 @@
--- `vectors::in_row::extract_in_row` meets its contract: a walk of its MIR, by hand. The first entries of the row are lent for both calls; the Extractor is lent for each call, and read after it; then the row is whole again.
+-- `in_row::extract_in_row` meets its contract: a walk of its MIR, by hand. The first entries of the row are lent for both calls; the Extractor is lent for each call, and read after it; then the row is whole again.
 -- Assumes nothing.
 use mathlib.Core.Path.{_≡_, refl, sym, ap, _∙_}
 use Prim.Native.Nat.{ℕ, _<_, _≤_, _^_, _-_}
@@ -45,22 +45,22 @@ use denote.Struct.Laws as LL
 use Rattle.rules.specs.Calls.{startCall}
 use Rattle.rules.proofs.Answer as B
 use Rattle.rules.proofs.Answer.Laws as B′
-use Rattle.entries.specs.declared.CutEntry.{CutEntry}
-use Rattle.entries.proofs.CutEntry as T
-use Rattle.entries.proofs.CutEntry.Laws as T′
-use Rattle.entries.proofs.Row.{R, mach as entry-mach}
-use Rattle.entries.proofs.Rules.{free-at, free-four, free-eight}
-use Rattle.entries.proofs.Local.{repeat-is}
-use Rattle.extractor.specs.declared.Extractor.{Extractor}
-use Rattle.extractor.proofs.Extractor as X
-use Rattle.extractor.proofs.Extractor.Laws as X′
-use Rattle.extractor.proofs.Extractor.new as new-of
-use Rattle.extractor.proofs.Extractor.new.Symbol as new-def
-use Rattle.extractor.proofs.Extractor.new.Symbol.{name as #new}
-use Rattle.extractor.proofs.Extractor.new.Met as new-thm
-use Rattle.extractor.proofs.Extractor.extract.Symbol as extract-def
-use Rattle.extractor.proofs.Extractor.extract.Symbol.{name as #extract}
-use Rattle.extractor.proofs.Extractor.extract.Met as extract-thm
+use Rattle.proof_draft.specs.declared.entry.CutEntry.{CutEntry}
+use Rattle.proof_draft.proofs.entry.CutEntry as T
+use Rattle.proof_draft.proofs.entry.CutEntry.Laws as T′
+use Rattle.proof_draft.proofs.entry.Row.{R, mach as entry-mach}
+use Rattle.proof_draft.proofs.entry.Rules.{free-at, free-four, free-eight}
+use Rattle.proof_draft.proofs.entry.Local.{repeat-is}
+use Rattle.extract.specs.declared.extractor.Extractor.{Extractor}
+use Rattle.extract.proofs.extractor.Extractor as X
+use Rattle.extract.proofs.extractor.Extractor.Laws as X′
+use Rattle.extract.proofs.extractor.Extractor.new as new-of
+use Rattle.extract.proofs.extractor.Extractor.new.Symbol as new-def
+use Rattle.extract.proofs.extractor.Extractor.new.Symbol.{name as #new}
+use Rattle.extract.proofs.extractor.Extractor.new.Met as new-thm
+use Rattle.extract.proofs.extractor.Extractor.extract.Symbol as extract-def
+use Rattle.extract.proofs.extractor.Extractor.extract.Symbol.{name as #extract}
+use Rattle.extract.proofs.extractor.Extractor.extract.Met as extract-thm
 use Rattle.vectors.specs.declared.in_row.Twice.{Twice}
 use Rattle.vectors.proofs.in_row.Twice as W2
 use Rattle.vectors.proofs.in_row.Twice.Laws as W2′
@@ -373,5 +373,5 @@ extract-in-row-spec 𝓤 H 𝓜 𝓖 𝓡 =
     entered 𝓤 H (tripleOf 𝓤 H (𝓖 .A) f.signature (f.spec 𝓤 H (𝓖 .A) (𝓜 .mem) (𝓡 .run)))
     (tables 𝓤 H 𝓜 𝓡 code.env .C) (tables 𝓤 H 𝓜 𝓡 code.env .Λ) #f code.function (code.unfolded 𝓤 H 𝓜 𝓡)
     (f-meets 𝓤 H (𝓖 .A) (givenOf 𝓤 H 𝓜 𝓖) (𝓜 .mem) (𝓡 .run) (tablesOf 𝓤 H 𝓜 (tables 𝓤 H 𝓜 𝓡 code.env))
-    (cited 𝓤 H (NewC 𝓤 H (𝓖 .A) (𝓜 .mem) (𝓡 .run)) 𝓜 𝓡 code.env #new new-def.routine code.calls-extractor·Extractor·new (new-thm.met 𝓤 H 𝓜 𝓖 𝓡))
-    (cited 𝓤 H (ExtractC 𝓤 H (𝓖 .A) (𝓜 .mem) (𝓡 .run)) 𝓜 𝓡 code.env #extract extract-def.routine code.calls-extractor·Extractor·extract (extract-thm.met 𝓤 H 𝓜 𝓖 𝓡)))
+    (cited 𝓤 H (NewC 𝓤 H (𝓖 .A) (𝓜 .mem) (𝓡 .run)) 𝓜 𝓡 code.env #new new-def.routine code.calls-extract·extractor·Extractor·new (new-thm.met 𝓤 H 𝓜 𝓖 𝓡))
+    (cited 𝓤 H (ExtractC 𝓤 H (𝓖 .A) (𝓜 .mem) (𝓡 .run)) 𝓜 𝓡 code.env #extract extract-def.routine code.calls-extract·extractor·Extractor·extract (extract-thm.met 𝓤 H 𝓜 𝓖 𝓡)))

@@ -1,4 +1,4 @@
--- `vectors::lent::all_are` is safe and ends: it counts up to the length. Assumes nothing.
+-- `lent::all_are` is safe and ends: it counts up to the length. Assumes nothing.
 use Prim.Native.Nat.{_-_, _≤_}
 use lib.ListN.{length}
 use native.Mathlib.Omega.{arith}

@@ -1,4 +1,4 @@
--- `vectors::lent::fill` is safe and ends: it counts up to the length, which stays. Assumes nothing.
+-- `lent::fill` is safe and ends: it counts up to the length, which stays. Assumes nothing.
 use Prim.Native.Nat.{_-_, _≤_}
 use mathlib.Core.Path.{_≡_, refl}
 use lib.ListN.{length, length-set}

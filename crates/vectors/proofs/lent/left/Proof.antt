@@ -1,4 +1,4 @@
--- `vectors::lent::left` is safe: the wanted bytes are no more than the buffer has. Assumes nothing.
+-- `lent::left` is safe: the wanted bytes are no more than the buffer has. Assumes nothing.
 use mathlib.Core.Path.{sym}
 use lib.Seq.{length-take-le}
 use native.Mathlib.Omega.{arith}

@@ -1,4 +1,4 @@
--- `vectors::list::place_of` is safe and ends: it counts up to k, and each field lies within the list. Assumes nothing.
+-- `list::place_of` is safe and ends: it counts up to k, and each field lies within the list. Assumes nothing.
 use Prim.Native.Nat.{_-_, _≤_}
 use lib.ListN.{length}
 use native.Mathlib.Omega.{arith}

@@ -1,4 +1,4 @@
--- `vectors::replay::told_right` is safe and ends: it counts up to 16. Assumes nothing.
+-- `replay::told_right` is safe and ends: it counts up to 16. Assumes nothing.
 use Prim.Native.Nat.{_-_, _≤_}
 use native.Mathlib.Omega.{arith}
 use borrow.Author.Needs.{needs}

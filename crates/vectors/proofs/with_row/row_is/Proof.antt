@@ -1,4 +1,4 @@
--- `vectors::with_row::row_is` is safe and ends: it counts up to the length of the row. Assumes nothing.
+-- `with_row::row_is` is safe and ends: it counts up to the length of the row. Assumes nothing.
 use Prim.Native.Nat.{_-_, _≤_}
 use native.Mathlib.Omega.{arith}
 use borrow.Author.Needs.{needs}

@@ -1,0 +1,3 @@
+pub mod Wrote
+pub mod Writing
+pub mod Rooms

@@ -1,0 +1,54 @@
+-- A redex where it stands, with any bytes behind it: its end, and what is told of what was put for it. Assumes nothing.
+use Prim.Native.Nat.{ℕ, _+_, _-_, _≤_}
+use mathlib.Core.Path.{_≡_, refl, ap, _∙_}
+use mathlib.Core.Bool.{Bool, true, false, _&&_}
+use mathlib.Core.Option.{Option}
+use mathlib.Core.List.{_++_, append-nil}
+use native.Mathlib.Omega.{arith}
+use lib.ListN.{length}
+use lib.Seq.{sets, length-sets, slice, slice-empty}
+use Rattle.rules.specs.Basic.{Bytes, if_then_else_}
+use Rattle.rules.specs.Limits.{limits}
+use Rattle.rules.specs.Term.{Term, encode, nodes, size}
+use Rattle.rules.specs.declared.Rule.{Rule}
+use Rattle.rules.specs.Step.{halfFits}
+use Rattle.laws.specs.free.Same.{both-true}
+use Rattle.buffer.specs.Wrote.{Wrote}
+use Rattle.term.proofs.node.Terms.{at-end}
+use Rattle.substitution.proofs.place.Writes.{wrote-part}
+use Rattle.substitution.specs.Put.{Puts}
+use Rattle.substitution.specs.declared.put.Put.{Put}
+use Rattle.substitution.specs.declared.put.Put.the-variants.{Written, Outgrown as Outgrew}
+use Rattle.substitution.proofs.put.Puts.{beside-within}
+use Rattle.contraction.specs.Beside.{fitsAround}
+use Rattle.contraction.specs.Contracts.{Redex, Replaced, Contracts, becomes, outgrows, told}
+use Rattle.contraction.specs.declared.part.Contracted.{Contracted}
+
+module _ {s : Bytes} {at n l : ℕ} {t : Term} (j : Redex s at n l t) where
+  pub inside : at + size t ≤ length s
+  inside = at-end s at t (j .stands)
+
+  -- the whole of it was written
+  pub all-written : (u : Term) {made made′ : Bytes} {k end : ℕ} → Wrote made 0 (encode u) made′ k → k ≤ length made → end ≡ at + size t → Replaced s at t u made′ k end
+  all-written u {made} {made′} {k} {end} w h ee =
+      record {
+        inside = omega arith;
+        written = omega (arith, ap (λ (z : Bytes). length z) (w .holds), length-sets made 0 (encode u));
+        bytes =
+            ap (λ (z : Bytes). slice 0 k made′ ++ z) (ap (λ (i : ℕ). slice i (at + size t) s) ee ∙ slice-empty (at + size t) s)
+            ∙ append-nil (slice 0 k made′)
+            ∙ wrote-part w h;
+      }
+
+  pub put-contracts : {rule : Rule} {end others rest : ℕ} → end ≡ at + size t → others ≡ n - nodes t → rest ≡ l - size t
+      → {h : Option Term} {u : Term} {made made′ : Bytes} {p : Put} {c : Contracted} → 4096 ≤ length made
+      → Puts others rest h u made made′ p → c ≡ told rule end p → Contracts s at n l t rule h u made′ c
+  put-contracts {rule} {end} {others} {rest} ee eo er {h} {u} {made} {made′} {p} {c} room d is =
+      go (halfFits limits h && fitsAround n l t u) refl (d .says ∙ rw (eo, er)) (d .leaves ∙ rw (eo, er))
+    where
+      go : (b : Bool) → (halfFits limits h && fitsAround n l t u) ≡ b → p ≡ (if b then Written (size u) (n - nodes t + nodes u) else Outgrew)
+          → made′ ≡ (if b then sets made 0 (encode u) else made) → Contracts s at n l t rule h u made′ c
+      go true y q m =
+          let f = beside-within (n - nodes t) (l - size t) u (both-true (halfFits limits h) (fitsAround n l t u) y .1) in
+          becomes (size u) end y (is ∙ ap (λ (z : Put). told rule end z) q) (all-written u (record { holds = m; ends = omega arith }) (omega (arith, f)) ee)
+      go false y q m = outgrows y (is ∙ ap (λ (z : Put). told rule end z) q)

@@ -1,0 +1,4 @@
+pub mod Beside
+pub mod Contracts
+pub mod Parts
+pub mod Contracting

@@ -1,0 +1,5 @@
+pub mod Told
+pub mod Child
+pub mod Steps
+pub mod Straight
+pub mod Extraction

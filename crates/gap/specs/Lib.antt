@@ -1,4 +1,0 @@
-pub mod Hole
-pub mod Quiet
-pub mod Seen
-pub mod Standing

@@ -1,0 +1,4 @@
+pub mod TextSize
+pub mod FreeSize
+pub mod SubstSize
+pub mod Parts

@@ -1,0 +1,14 @@
+pub mod Promise
+pub mod Weights
+pub mod FreeAfter
+pub mod Counted
+pub mod Agree
+pub mod Put
+pub mod Contraction
+pub mod OneStep
+pub mod StepKept
+pub mod Reducing
+pub mod Decides
+pub mod Substituted
+pub mod Calling
+pub mod Needed

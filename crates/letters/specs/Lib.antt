@@ -1,5 +1,0 @@
-pub mod Form
-pub mod View
-pub mod Viewed
-pub mod Classes
-pub mod Tables

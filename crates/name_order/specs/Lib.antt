@@ -1,2 +1,0 @@
-pub mod Ordered
-pub mod Order

@@ -1,3 +1,0 @@
-pub mod Members
-pub mod Search
-pub mod Rows

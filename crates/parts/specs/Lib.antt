@@ -1,3 +1,0 @@
-pub mod Beside
-pub mod Contracts
-pub mod Parts

@@ -1,2 +1,0 @@
-pub mod Stopping
-pub mod Files

@@ -1,2 +1,0 @@
-pub mod Reduct
-pub mod Printing

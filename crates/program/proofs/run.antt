@@ -1,0 +1,4 @@
+pub mod Stopping
+pub mod Files
+pub mod Starting
+mod Texts

@@ -1,0 +1,4 @@
+pub mod Field
+pub mod Reduct
+pub mod Printing
+pub mod Starts

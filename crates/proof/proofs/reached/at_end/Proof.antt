@@ -1,0 +1,13 @@
+-- `reached::at_end` meets its contract, by the test that it makes. Assumes nothing.
+use borrow.Author.Tests.{lt-ltb, le-ltb}
+use Rattle.proof.proofs.reached.at_end.Statement.{statement}
+use Rattle.proof.proofs.reached.at_end.Tie as tie
+
+returns : tie.Need-returns
+returns c = let a = c .before .before .args in rw (lt-ltb (a .end .next) (a .length) (c .if1 .taken))
+
+returns-2 : tie.Need-returns-2
+returns-2 c = let a = c .before .before .args in rw (le-ltb (a .end .next) (a .length) (c .if1 .left))
+
+pub at-end-spec : {M : Type 1} → statement M
+at-end-spec = tie.close (tie.spec returns returns-2)

@@ -1,0 +1,7 @@
+-- What the proofs of several functions use.
+pub mod Pushing
+pub mod Premised
+pub mod Ruled
+pub mod Planned
+pub mod Naming
+pub mod Acting

@@ -1,0 +1,88 @@
+-- `put::put_join` meets its contract: by the tag of the formula. Assumes nothing.
+use native.Mathlib.Omega.{arith}
+use Rattle.proof.proofs.rule.Formulas.{formula-inside}
+use Rattle.proof_draft.proofs.put.Putting.{put-tensor, put-plus, put-app}
+use borrow.Author.Needs.{needs}
+use Rattle.proof_draft.proofs.put.put_join.Statement.{statement}
+use Rattle.proof_draft.proofs.put.put_join.Tie as tie
+
+shared-slice-read-tag : tie.Need-shared-slice-read-tag
+shared-slice-read-tag c = formula-inside _ _ (c .before .before .before .pre .0 .0) (c .before .before .before .pre .0 .1)
+
+cast-tag : tie.Need-cast-tag
+cast-tag c = omega (arith, c .shared-slice-known2 .given (c .before .before .before .args .own))
+
+put-row-requires : tie.Need-put-row-requires
+put-row-requires c κs = search needs
+
+add-t15 : tie.Need-add-t15
+add-t15 c = search needs
+
+add-t16 : tie.Need-add-t16
+add-t16 c = search needs
+
+add-t17 : tie.Need-add-t17
+add-t17 c = search needs
+
+same-length : tie.Need-same-length
+same-length c = search needs
+
+returns : tie.Need-returns
+returns c = put-tensor _ _ _ (c .before .before .before .before .before .before .before .before .pre .1 .0) (c .before .before .before .before .before .before .before .before .pre .1 .1) (c .before .before .before .before .if1 .taken) (c .before .before .put-row .ensures)
+
+put-row-requires-2 : tie.Need-put-row-requires-2
+put-row-requires-2 c κs = search needs
+
+add-t21 : tie.Need-add-t21
+add-t21 c = search needs
+
+add-t22 : tie.Need-add-t22
+add-t22 c = search needs
+
+add-t23 : tie.Need-add-t23
+add-t23 c = search needs
+
+same-length-2 : tie.Need-same-length-2
+same-length-2 c = search needs
+
+returns-2 : tie.Need-returns-2
+returns-2 c = put-plus _ _ _ (c .before .before .before .before .before .before .before .before .before .pre .1 .0) (c .before .before .before .before .before .before .before .before .before .pre .1 .1) (c .before .before .before .before .if2 .taken) (c .before .before .put-row2 .ensures)
+
+put-row-requires-3 : tie.Need-put-row-requires-3
+put-row-requires-3 c κs = search needs
+
+add-t27 : tie.Need-add-t27
+add-t27 c = search needs
+
+add-t28 : tie.Need-add-t28
+add-t28 c = search needs
+
+same-length-3 : tie.Need-same-length-3
+same-length-3 c = search needs
+
+returns-3 : tie.Need-returns-3
+returns-3 c = put-app _ _ _ (c .before .before .before .before .before .before .before .before .before .pre .1 .0) (c .before .before .before .before .before .before .before .before .before .pre .1 .1) (c .before .before .before .before .before .if1 .left) (c .before .before .before .before .if2 .left) (c .before .before .put-row3 .ensures)
+
+pub put-join-spec : {M : Type 1} → statement M
+put-join-spec =
+    tie.close
+    (tie.spec
+    shared-slice-read-tag
+    cast-tag
+    put-row-requires
+    add-t15
+    add-t16
+    add-t17
+    same-length
+    returns
+    put-row-requires-2
+    add-t21
+    add-t22
+    add-t23
+    same-length-2
+    returns-2
+    put-row-requires-3
+    add-t27
+    add-t28
+    same-length-3
+    returns-3)

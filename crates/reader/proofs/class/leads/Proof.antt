@@ -1,0 +1,14 @@
+-- `classes::leads` meets its contract: the table says so. Assumes nothing.
+use native.Mathlib.Omega.{arith}
+use borrow.Author.Needs.{needs}
+use Rattle.reader.proofs.class.leads.Statement.{statement}
+use Rattle.reader.proofs.class.leads.Tie as tie
+
+element-copy-out-result : tie.Need-element-copy-out-result
+element-copy-out-result c = search needs
+
+returns : tie.Need-returns
+returns c = c .before .pre .leading (c .before .args .b) (omega arith)
+
+pub leads-spec : {M : Type 1} → statement M
+leads-spec = tie.close (tie.spec element-copy-out-result returns)

@@ -1,0 +1,15 @@
+-- `classes::letter_table` meets its contract: letters put into zeros. Assumes nothing.
+use Rattle.reader.specs.Tables.{letterTable}
+use borrow.Author.Needs.{needs}
+use Rattle.reader.proofs.class.letter_table.Statement.{statement}
+use Rattle.reader.proofs.class.letter_table.Tie as tie
+
+put-letters-requires : tie.Need-put-letters-requires
+put-letters-requires c κs = search needs
+
+returns : tie.Need-returns
+unfolding letterTable
+returns c = c .put-letters .ensures
+
+pub letter-table-spec : {M : Type 1} → statement M
+letter-table-spec = tie.close (tie.spec put-letters-requires returns)

@@ -1,0 +1,53 @@
+-- The two buffers and the stack as lists: what a run of bytes leaves on the left and on the right of where it was written, and what a
+-- mark leaves of the marks below it. Assumes nothing.
+use Prim.Native.Nat.{ℕ, _+_, _-_, _≤_, _<_}
+use mathlib.Core.Path.{_≡_, sym, ap, _∙_}
+use mathlib.Core.Bool.{true}
+use mathlib.Core.List.{List, [], _∷_, _++_, append-assoc}
+use native.Mathlib.Omega.{arith}
+use lib.ListN.{length, take, drop, set, getD, length-append}
+use lib.Seq.{sets-eq, length-take-le, take-at, drop-at, getD-set-same, getD-set-other}
+use borrow.Author.Tests.{leb-true}
+use Rattle.rules.specs.Basic.{Bytes, _≤?_}
+use Rattle.rules.specs.Limits.{limits}
+use Rattle.rules.specs.Term.{Term, nodes, size, fits}
+use Rattle.laws.specs.free.Same.{both-true}
+use Rattle.buffer.specs.Wrote.{Wrote}
+use Rattle.reduction.specs.Hole.{Hole, Above, passed, lefts}
+use Rattle.reduction.specs.Standing.{mark, Held}
+
+module _ {l xs l′ : Bytes} {i p : ℕ} (w : Wrote l i xs l′ p) (h : i + length xs ≤ length l) where
+  split : l′ ≡ take i l ++ xs ++ drop (i + length xs) l
+  split = w .holds ∙ sets-eq xs l i h
+
+  front : length (take i l) ≡ i
+  front = length-take-le i l (omega (arith, h))
+
+  pub wrote-left : take p l′ ≡ take i l ++ xs
+  wrote-left =
+      ap (λ (z : Bytes). take p z) split
+      ∙ take-at (take i l ++ xs) (drop (i + length xs) l) p (length-append (take i l) xs ∙ omega (arith, front, w .ends))
+
+  pub wrote-right : drop i l′ ≡ xs ++ drop p l
+  wrote-right =
+      ap (λ (z : Bytes). drop i z) (split ∙ append-assoc (take i l) xs (drop (i + length xs) l))
+      ∙ drop-at (take i l) (xs ++ drop (i + length xs) l) i front
+      ∙ ap (λ (k : ℕ). xs ++ drop k l) (sym (w .ends))
+
+-- what fits has at most 512 nodes and 4,096 bytes
+pub fits-few : (t : Term) → fits limits t ≡ true → (nodes t ≤ 512) × (size t ≤ 4096)
+unfolding fits
+fits-few t e =
+    let b = both-true (nodes t ≤? 512) (size t ≤? 4096) e in
+    (leb-true (nodes t) 512 (b .0), leb-true (size t) 4096 (b .1))
+
+-- ---- marks
+
+pub held-below : (s : List ℕ) (c : Above) (k v : ℕ) → length c ≤ k → Held s c → Held (set s k v) c
+held-below s [] k v h d = tt
+held-below s (f ∷ c) k v h d =
+    (getD-set-other s k (length c) v 0 (λ e. omega (arith, h, e)) ∙ d .0, held-below s c k v (omega arith) (d .1))
+
+pub held-set : (s : List ℕ) (f : Hole) (c : Above) (k v : ℕ) → k ≡ length c → k < length s → v ≡ mark (length (passed f)) (length (lefts c)) → Held s c → Held (set s k v) (f ∷ c)
+held-set s f c k v e h m d =
+    (ap (λ (j : ℕ). getD (set s k v) j 0) (sym e) ∙ getD-set-same s k v 0 h ∙ m, held-below s c k v (omega (arith, e)) d)

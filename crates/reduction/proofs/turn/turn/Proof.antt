@@ -1,0 +1,87 @@
+-- `turn::turn` meets its contract: the search has come to the end, to the limit, or to a redex. Assumes nothing.
+use native.Mathlib.Omega.{arith}
+use Rattle.reduction.proofs.repeat.Turns.{not-going, rests, found, rest-room, at-end}
+use borrow.Author.Needs.{needs}
+use Rattle.reduction.proofs.turn.turn.Statement.{statement}
+use Rattle.reduction.proofs.turn.turn.Tie as tie
+
+seek-requires : tie.Need-seek-requires
+seek-requires c κs = let a = c .before .before .before .before .before .before .before .before .before .pre .0 .1 in (a .whole, a .stands)
+
+at-rest-requires : tie.Need-at-rest-requires
+at-rest-requires c κs = search needs
+
+same-length : tie.Need-same-length
+same-length c = search needs
+
+same-length-2 : tie.Need-same-length-2
+same-length-2 c = search needs
+
+same-length-3 : tie.Need-same-length-3
+same-length-3 c = search needs
+
+returns : tie.Need-returns
+returns c = (λ t b. rests (b .carried) (c .before .before .before .before .before .before .before .seek .ensures (b .whole) (b .stands) .ends (not-going _ (c .before .if1 .taken))) (c .at-rest .ensures), c .before .before .before .before .before .before .before .before .before .before .before .before .before .before .before .before .before .pre .1 .row)
+
+at-limit-requires : tie.Need-at-limit-requires
+at-limit-requires c κs = c .before .before .before .before .before .before .before .before .before .before .before .before .before .before .before .before .pre .0 .1 .carried .within
+
+copy-requires : tie.Need-copy-requires
+copy-requires c κs = let a = c .before .before .before .before .before .before .before .before .before .before .before .before .before .before .before .before .before .before .before .before .pre .0 .1 in rest-room a (c .before .before .before .before .before .before .before .before .before .before .seek .ensures (a .whole) (a .stands)) (c .before .before .before .before .if1 .left)
+
+cut-short-requires : tie.Need-cut-short-requires
+cut-short-requires c κs = search needs
+
+same-length-4 : tie.Need-same-length-4
+same-length-4 c = search needs
+
+same-length-5 : tie.Need-same-length-5
+same-length-5 c = search needs
+
+same-length-6 : tie.Need-same-length-6
+same-length-6 c = search needs
+
+returns-2 : tie.Need-returns-2
+returns-2 c = (λ t b. at-end b (c .before .before .before .before .before .before .before .before .before .before .before .before .before .before .seek .ensures (b .whole) (b .stands)) (c .before .before .before .before .before .before .before .before .if1 .left) (c .before .before .before .before .before .before .before .at-limit .ensures .reached (c .before .before .before .before .before .before .if2 .taken)) (c .before .before .before .copy .ensures) (c .cut-short .ensures), c .before .before .before .before .before .before .before .before .before .before .before .before .before .before .before .before .before .before .before .before .before .before .before .before .pre .1 .row)
+
+contract-requires : tie.Need-contract-requires
+contract-requires c κs = let a = c .before .before .before .before .before .before .before .before .before .before .before .before .before .before .before .before .before .before .before .before .before .before .before .pre in let b = a .0 .1 in ((c .before .before .before .before .before .before .before .before .before .before .before .before .before .before .before .before .before .before .before .before .before .before .before .args .limit, a .0 .0, found b (c .before .before .before .before .before .before .before .before .before .before .before .before .before .seek .ensures (b .whole) (b .stands)) (c .before .before .before .before .before .before .before .if1 .left) (c .before .before .before .before .before .before .at-limit .ensures .left (c .before .before .before .before .before .if2 .left)) (omega (arith, c .before .before .before .before .before .before .before .before .before .before .before .before .before .before .before .before .before .before .before .before .before .before .before .fits .limit .fits))), a .1)
+
+same-length-7 : tie.Need-same-length-7
+same-length-7 c = search needs
+
+same-length-8 : tie.Need-same-length-8
+same-length-8 c = search needs
+
+same-length-9 : tie.Need-same-length-9
+same-length-9 c = search needs
+
+same-length-10 : tie.Need-same-length-10
+same-length-10 c = search needs
+
+returns-3 : tie.Need-returns-3
+returns-3 c = (λ t b. c .before .before .before .before .before .before .contract .ensures .0 (c .before .before .before .before .before .before .before .before .before .before .before .before .before .before .before .before .before .before .before .before .before .before .before .before .before .before .before .before .before .before .args .limit) t (found b (c .before .before .before .before .before .before .before .before .before .before .before .before .before .before .before .before .before .before .before .before .seek .ensures (b .whole) (b .stands)) (c .before .before .before .before .before .before .before .before .before .before .before .before .before .before .if1 .left) (c .before .before .before .before .before .before .before .before .before .before .before .before .before .at-limit .ensures .left (c .before .before .before .before .before .before .before .before .before .before .before .before .if2 .left)) (omega (arith, c .before .before .before .before .before .before .before .before .before .before .before .before .before .before .before .before .before .before .before .before .before .before .before .before .before .before .before .before .before .before .fits .limit .fits))), c .before .before .before .before .before .before .contract .ensures .1)
+
+pub turn-spec : {M : Type 1} → statement M
+turn-spec =
+    tie.close
+    (tie.spec
+    seek-requires
+    at-rest-requires
+    same-length
+    same-length-2
+    same-length-3
+    returns
+    at-limit-requires
+    copy-requires
+    cut-short-requires
+    same-length-4
+    same-length-5
+    same-length-6
+    returns-2
+    contract-requires
+    same-length-7
+    same-length-8
+    same-length-9
+    same-length-10
+    returns-3)

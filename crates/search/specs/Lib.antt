@@ -1,4 +1,0 @@
-pub mod Spot
-pub mod Around
-pub mod Searched
-pub mod Side

@@ -1,2 +1,0 @@
-pub mod Entry
-pub mod Searching

@@ -1,2 +1,0 @@
-pub mod Spliced
-pub mod Sizes

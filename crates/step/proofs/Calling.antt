@@ -1,0 +1,153 @@
+-- The calls by their tests: short buffers, the reader, then the step. Assumes nothing.
+use Prim.Native.Nat.{ℕ, _-_, _≤_, _<_}
+use mathlib.Core.Path.{_≡_, refl, sym, ap, _∙_}
+use mathlib.Core.Bool.{Bool, true, false}
+use native.Mathlib.Omega.{arith}
+use lib.ListN.{length, replicate}
+use lib.Seq.{sets, length-sets}
+use borrow.Author.Tests.{le-leb, lt-leb}
+use Rattle.rules.specs.Basic.{Bytes}
+use Rattle.rules.specs.Limits.{limits}
+use Rattle.rules.specs.declared.Rule.{Rule}
+use Rattle.rules.specs.declared.Refusal.{Refusal}
+use Rattle.rules.specs.Refusal.{good, refuse, mapped, answered}
+use Rattle.rules.specs.declared.Answer.the-variants.{Good, Refused}
+use Rattle.rules.specs.Term.{Term, encode, nodes}
+use Rattle.rules.specs.Reading.{readTerm}
+use Rattle.rules.specs.Step as rules
+use Rattle.rules.specs.Buffers.{cleared}
+use Rattle.rules.specs.Calls.{stepEnding, stepCall, isNormalCall}
+use Rattle.laws.specs.reading.Decoding.{term-sound}
+use Rattle.laws.specs.reading.Fits.{accepted-fits}
+use Rattle.laws.specs.reading.Numbers.{term-spares}
+use Rattle.reader.specs.Accepted.{Accepts, accepts, refuses}
+use Rattle.buffer.specs.Wrote.{Wrote}
+use Rattle.buffer.specs.Writing.{filled-up}
+use Rattle.substitution.proofs.place.Writes.{zeros}
+use Rattle.term.specs.Given.{Reads}
+use Rattle.step.specs.Taken.{Takes}
+use Rattle.step.specs.declared.take.Taken.{Taken}
+use Rattle.step.specs.declared.take.Taken.the-variants.{Normal, Found, Outgrown}
+use Rattle.step.specs.Answers.{stepAnswered, normalAnswered, Stepping}
+use Rattle.step.specs.declared.Stepped.{Stepped}
+use Rattle.step.specs.declared.Stepped.the-variants.{Normal as IsNormal, Found as IsFound, Refused as IsRefused}
+use Rattle.step.specs.declared.Normality.the-variants.{Known, Refused as NotRead}
+use Rattle.step.proofs.Taking.{fits-bytes, Fitted, Over, took, took-over, took-nothing, writes, writes-nothing}
+
+-- ---- a step of a term that was read, by what was taken
+
+module _ {s : rules.Stepped} {out out₁ : Bytes} {k : Taken} (d : Takes s out out₁ k) where
+  module _ {r : Rule} {p l : ℕ} (e : k ≡ Found r p l) (h : 4096 ≤ length out) where
+    fitted : Fitted s r p l
+    fitted = took s (sym (d .says) ∙ e)
+
+    written : out₁ ≡ sets out 0 (encode (fitted .result))
+    written = d .leaves ∙ writes fitted out
+
+    pub room : l ≤ length out₁
+    room =
+        let f = fitted in
+        omega (arith, ap (λ (z : Bytes). length z) written, length-sets out 0 (encode (f .result)), fits-bytes (f .result) (f .fits), f .long)
+
+  -- the scratch was worked in, and then cleared
+  module _ (scratch scratch₀ scratch₁ : Bytes) (same : length scratch₀ ≡ length scratch) (q : scratch₁ ≡ sets scratch₀ 0 (replicate (length scratch₀ - 0) 0)) where
+    cleared-up : scratch₁ ≡ replicate (length scratch) 0
+    cleared-up = q ∙ zeros scratch₀ (length scratch) same
+
+    pub stays : k ≡ Normal → Stepping s out scratch IsNormal out₁ scratch₁
+    stays e =
+        let n : s ≡ rules.normal = took-nothing s (sym (d .says) ∙ e) in
+        record { says = rw n; leaves = d .leaves ∙ rw n; clears = cleared-up }
+
+    pub outgrows : k ≡ Outgrown → (r : Stepped) → r ≡ stepAnswered (refuse 8 0 0) → Stepping s out scratch r out₁ scratch₁
+    outgrows e r h =
+        let o : Over s = took-over s (sym (d .says) ∙ e) in
+        record {
+          says = rw (o .is) (rw (o .tested) h);
+          leaves = d .leaves ∙ writes-nothing o out ∙ rw (o .is) (rw (o .tested));
+          clears = cleared-up;
+        }
+
+    module _ {r : Rule} {p l : ℕ} (e : k ≡ Found r p l) (h : 4096 ≤ length out) (out₂ : Bytes) where
+      pub goes : out₂ ≡ sets out₁ l (replicate (length out₁ - l) 0) → Stepping s out scratch (IsFound (record { rule = r; place = p; length = l })) out₂ scratch₁
+      goes z =
+          let f = fitted e h in
+          let w : Wrote out 0 (encode (f .result)) out₁ l = record { holds = written e h; ends = omega (arith, f .long) } in
+          record {
+            says = rw (f .is) (rw (f .tested) (ap (λ (x : ℕ). IsFound (record { rule = r; place = p; length = x })) (f .long)));
+            leaves = rw (f .is) (rw (f .tested) (filled-up w z (omega (arith, fits-bytes (f .result) (f .fits)))));
+            clears = cleared-up;
+          }
+
+-- ---- the call
+
+module _ (term out scratch : Bytes) where
+  -- what the call ensures of its answer, its output and its scratch
+  abbrev pub Is : Stepped → Bytes → Bytes → Type 0
+  Is a out′ scratch′ =
+      (a ≡ stepAnswered (stepCall limits term out scratch .answer))
+      × ((out′ ≡ stepCall limits term out scratch .output)
+      × (scratch′ ≡ stepCall limits term out scratch .scratch))
+
+  pub short-out : (a : Stepped) → length out < 4096 → a ≡ stepAnswered (refuse 1 0 0) → Is a out scratch
+  unfolding stepCall
+  short-out a h e = (rw (lt-leb 4096 (length out) h) e, (rw (lt-leb 4096 (length out) h), rw (lt-leb 4096 (length out) h)))
+
+  module _ (h : 4096 ≤ length out) where
+    pub short-scratch : (a : Stepped) → length scratch < 8192 → a ≡ stepAnswered (refuse 1 0 0) → Is a out scratch
+    unfolding stepCall
+    short-scratch a k e =
+        let p = le-leb 4096 (length out) h in
+        let q = lt-leb 8192 (length scratch) k in
+        (rw (p, q) e, (rw (p, q), rw (p, q)))
+
+    module _ (k : 8192 ≤ length scratch) where
+      pub not-read : (r : Refusal) → answered (mapped nodes (readTerm limits 1 term)) ≡ Refused r → Is (IsRefused r) out scratch
+      unfolding stepCall
+      not-read r e =
+          let p = le-leb 4096 (length out) h in
+          let q = le-leb 8192 (length scratch) k in
+          let f = refuses nodes (readTerm limits 1 term) e in
+          (rw (p, q, f), (rw (p, q, f), rw (p, q, f, term-spares limits 1 term r f)))
+
+      module _ (n : ℕ) (e : answered (mapped nodes (readTerm limits 1 term)) ≡ Good n) where
+        a : Accepts nodes (readTerm limits 1 term) n
+        a = accepts nodes (readTerm limits 1 term) e
+
+        pub read : (t : Term) × Reads term n out t
+        read =
+            let w = term-sound limits 1 term (a .value) (a .is) in
+            (a .value, record { whole = w .bytes; count = sym (a .counts); fits = accepted-fits limits term (a .value) w; room = h })
+
+        pub stepped : (r : Stepped) (out′ scratch′ : Bytes) → Stepping (rules.step (read .0)) out scratch r out′ scratch′ → Is r out′ scratch′
+        unfolding stepCall a read
+        stepped r out′ scratch′ w =
+            let p = le-leb 4096 (length out) h in
+            let q = le-leb 8192 (length scratch) k in
+            (rw (p, q, a .is) (w .says), (rw (p, q, a .is) (w .leaves), rw (p, q, a .is) (w .clears ∙ either (rules.step (a .value)))))
+          where
+            either : (s : rules.Stepped) → replicate (length scratch) 0 ≡ cleared 0 scratch (stepEnding limits s .says)
+            either rules.normal = refl
+            either (rules.found x y z v) = go (rules.stepFits limits z v) refl
+              where
+                go : (b : Bool) → rules.stepFits limits z v ≡ b → replicate (length scratch) 0 ≡ cleared 0 scratch (stepEnding limits (rules.found x y z v) .says)
+                go true i = rw i
+                go false i = rw i
+
+-- ---- is_normal
+
+module _ (term : Bytes) where
+  pub untold : (r : Refusal) → answered (mapped nodes (readTerm limits 1 term)) ≡ Refused r → NotRead r ≡ normalAnswered (isNormalCall limits term)
+  unfolding isNormalCall
+  untold r e = rw (refuses nodes (readTerm limits 1 term) e)
+
+  module _ (n : ℕ) (e : answered (mapped nodes (readTerm limits 1 term)) ≡ Good n) where
+    pub is-term : (t : Term) × (readTerm limits 1 term ≡ good t) × (term ≡ encode t)
+    is-term =
+        let a = accepts nodes (readTerm limits 1 term) e in
+        let w = term-sound limits 1 term (a .value) (a .is) in
+        (a .value, a .is, w .bytes)
+
+  pub told : (t : Term) → readTerm limits 1 term ≡ good t → (b : Bool) → b ≡ rules.isNormal (rules.step t) → Known b ≡ normalAnswered (isNormalCall limits term)
+  unfolding isNormalCall
+  told t e b d = rw (e, d)

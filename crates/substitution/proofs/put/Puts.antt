@@ -1,0 +1,132 @@
+-- A body with a value for a name: its sizes follow from those of the body and the value, and the runs that are spliced are its bytes.
+-- Assumes nothing.
+use Prim.Native.Nat.{ℕ, _+_, _-_, _*_, _<_, _≤_}
+use mathlib.Core.Path.{_≡_, refl, sym, ap, _∙_}
+use mathlib.Core.Bool.{true, false}
+use mathlib.Core.Option.{none}
+use mathlib.Core.List.{List}
+use native.Mathlib.Omega.{arith}
+use lib.ListN.{length, take}
+use lib.Seq.{length-take-le}
+use borrow.Author.Tests.{leb-true, le-leb, lt-leb}
+use Rattle.rules.specs.Basic.{Bytes, _≤?_}
+use Rattle.rules.specs.Limits.{limits}
+use Rattle.rules.specs.Name.{Name}
+use Rattle.rules.specs.Term.{Term, encode, nodes, size, fits}
+use Rattle.rules.specs.Free.{occurrences}
+use Rattle.rules.specs.Substitution.{subst}
+use Rattle.laws.specs.free.Same.{both-true}
+use Rattle.buffer.specs.Wrote.{Wrote}
+use Rattle.substitution.specs.Places.{places}
+use Rattle.substitution.specs.Spliced.{spliced, Left}
+use Rattle.substitution.specs.Sizes.{Growth}
+use Rattle.substitution.proofs.place.Shapes.{places-many}
+use Rattle.substitution.proofs.splice.Splices.{spliced-term, spaced-term}
+use Rattle.substitution.proofs.place.Writes.{from-start}
+use Rattle.substitution.proofs.splice.Growths.{nodes-go, bytes-go, count-small, nodes-after, bytes-after}
+use Rattle.substitution.specs.Beside.{fitsBeside}
+use Rattle.substitution.specs.Put.{Putting, Puts}
+use Rattle.substitution.specs.declared.put.Put.the-variants.{Written, Outgrown}
+
+-- ---- what breaks no limit
+
+pub within : (t : Term) → fits limits t ≡ true → (nodes t ≤ 512) × (size t ≤ 4096)
+unfolding fits
+within t e = let h = both-true (nodes t ≤? 512) (size t ≤? 4096) e in (leb-true (nodes t) 512 (h .0), leb-true (size t) 4096 (h .1))
+
+pub fits-yes : (t : Term) → nodes t ≤ 512 → size t ≤ 4096 → fits limits t ≡ true
+unfolding fits
+fits-yes t h k = rw (le-leb (nodes t) 512 h) (le-leb (size t) 4096 k)
+
+module _ (others rest : ℕ) (u : Term) where
+  pub beside-yes : others + nodes u ≤ 512 → rest + size u ≤ 4096 → fitsBeside others rest u ≡ true
+  unfolding fitsBeside
+  beside-yes h k = rw (le-leb (others + nodes u) 512 h) (le-leb (rest + size u) 4096 k)
+
+  pub beside-within : fitsBeside others rest u ≡ true → (others + nodes u ≤ 512) × (rest + size u ≤ 4096)
+  unfolding fitsBeside
+  beside-within e =
+      let h = both-true (others + nodes u ≤? 512) (rest + size u ≤? 4096) e in
+      (leb-true (others + nodes u) 512 (h .0), leb-true (rest + size u) 4096 (h .1))
+
+  pub beside-many : 512 < others + nodes u → fitsBeside others rest u ≡ false
+  unfolding fitsBeside
+  beside-many h = rw (lt-leb (others + nodes u) 512 h)
+
+  beside-long : others + nodes u ≤ 512 → 4096 < rest + size u → fitsBeside others rest u ≡ false
+  unfolding fitsBeside
+  beside-long h k = rw (le-leb (others + nodes u) 512 h) (lt-leb (rest + size u) 4096 k)
+
+  outgrown : (out : Bytes) → fitsBeside others rest u ≡ false → Puts others rest none u out out Outgrown
+  outgrown out n = record { says = rw n; leaves = rw n }
+
+-- ---- a body with a value for a name
+
+module _ {body : Bytes} {row : List ℕ} {count gap : ℕ} {value : Bytes} {m n l : ℕ} {x : Name} {e v : Term} (j : Putting body row count gap value m n l x e v) where
+  abbrev others : ℕ
+  others = n - nodes e
+
+  abbrev rest : ℕ
+  rest = l - size e
+
+  body-long : length body ≡ size e
+  body-long = ap (λ (z : Bytes). length z) (j .body-is)
+
+  many : count ≡ occurrences x e
+  many = sym (length-take-le count row (j .held .inside)) ∙ ap (λ (z : List ℕ). length z) (j .held .are) ∙ places-many x e 0
+
+  growth : Growth (length body) (nodes e) (count) gap (length value) m x e v
+  growth =
+      let c = within v (j .value-is .fits) in
+      let d : length value ≡ size v = ap (λ (z : Bytes). length z) (j .value-is .bytes) in
+      record {
+        bytes-are = body-long;
+        nodes-are = refl;
+        count-is = many;
+        gap-is = j .gap-is;
+        value-is = d;
+        added-is = j .value-is .count;
+        small = (omega (arith, body-long, j .bytes-in, j .short), omega (arith, j .nodes-in, j .few), omega (arith, c, d), omega (arith, c, j .value-is .count));
+      }
+
+  pub nodes-room : (count * 1 ≤ n) × (n ≤ 65536) × (count ≤ 65536) × (m ≤ 65536)
+  nodes-room = (omega (arith, nodes-go growth, j .nodes-in), omega (arith, j .few), count-small growth, growth .small .3)
+
+  pub bytes-room : (count * gap ≤ l) × (l ≤ 65536) × (count ≤ 65536) × (length value ≤ 65536)
+  bytes-room = (omega (arith, bytes-go growth, body-long, j .bytes-in), omega (arith, j .short), count-small growth, growth .small .2)
+
+  part-is : take (count - 0) row ≡ places x e 0
+  part-is = from-start count row ∙ j .held .are
+
+  result : spliced body value gap 0 (take (count - 0) row) (length body) ≡ encode (subst x v e)
+  result = rw (part-is, j .value-is .bytes, j .gap-is) (spliced-term x v e body (j .body-is))
+
+  module _ {p : ℕ} (ep : p ≡ n - count * 1 + count * m) where
+    total : p ≡ others + nodes (subst x v e)
+    total = omega (arith, ep, nodes-after growth, nodes-go growth, j .nodes-in)
+
+    pub too-many : {out : Bytes} → 512 < p → Puts others rest none (subst x v e) out out Outgrown
+    too-many {out} h = outgrown others rest (subst x v e) out (beside-many others rest (subst x v e) (omega (arith, total)))
+
+    module _ (few-enough : p ≤ 512) {q : ℕ} (eq : q ≡ l - count * gap + count * length value) where
+      long : q ≡ rest + size (subst x v e)
+      long = omega (arith, eq, bytes-after growth, bytes-go growth, body-long, j .bytes-in)
+
+      pub too-long : {out : Bytes} → 4096 < q → Puts others rest none (subst x v e) out out Outgrown
+      too-long {out} h = outgrown others rest (subst x v e) out (beside-long others rest (subst x v e) (omega (arith, total)) (omega (arith, long)))
+
+      module _ (short-enough : q ≤ 4096) {out : Bytes} (room : 4096 ≤ length out) where
+        pub splice-left : Left body (take (count - 0) row) gap value 0 out 0
+        splice-left =
+            record {
+              spaced = rw (part-is, j .gap-is) (spaced-term x v e body (j .body-is));
+              room = omega (arith, ap (λ (z : Bytes). length z) result, long);
+            }
+
+        pub put-whole : {out₁ : Bytes} {o₁ : ℕ} → Wrote out 0 (spliced body value gap 0 (take (count - 0) row) (length body)) out₁ o₁
+            → Puts others rest none (subst x v e) out out₁ (Written o₁ p)
+        put-whole {out₁} {o₁} g =
+            let w : Wrote out 0 (encode (subst x v e)) out₁ o₁ = rw result at g in
+            let y = beside-yes others rest (subst x v e) (omega (arith, total)) (omega (arith, long)) in
+            let s : o₁ ≡ size (subst x v e) = omega (arith, w .ends) in
+            record { says = rw (y, s, total); leaves = rw y (w .holds) }

@@ -1,0 +1,153 @@
+-- Two substitutions in turn: the first makes a term by itself, and the second goes on from there. A substitution takes no nodes away, so
+-- where the first has too many in the whole, the second has. Assumes nothing.
+use Prim.Native.Nat.{ℕ, _+_, _-_, _*_, _<_, _≤_}
+use mathlib.Core.Path.{_≡_, refl, ap, _∙_}
+use mathlib.Core.Bool.{Bool, true, false, _&&_}
+use mathlib.Core.Option.{none, some}
+use mathlib.Core.List.{List}
+use native.Mathlib.Nat.{mul-le-mul-left}
+use native.Mathlib.Omega.{arith}
+use lib.ListN.{length, take}
+use lib.Seq.{sets}
+use borrow.Author.Tests.{lt-leb, leb-true, leb-false}
+use Rattle.rules.specs.Basic.{Bytes, if_then_else_, _≤?_}
+use Rattle.rules.specs.Limits.{limits}
+use Rattle.rules.specs.Name.{Name}
+use Rattle.rules.specs.Term.{Term, var, leaf, one, two, abs, both, branch, encode, nodes, size, fits}
+use Rattle.rules.specs.Free.{occurrences}
+use Rattle.rules.specs.Substitution.{subst}
+use Rattle.laws.specs.size.SubstSize.{subst-nodes}
+use Rattle.buffer.specs.Wrote.{Wrote}
+use Rattle.substitution.specs.Places.{places, Row}
+use Rattle.substitution.proofs.place.Writes.{wrote-part, held, from-start}
+use Rattle.substitution.proofs.place.Finds.{count-within}
+use Rattle.substitution.specs.Beside.{fitsBeside}
+use Rattle.substitution.specs.Put.{Putting, Turns, Puts}
+use Rattle.substitution.specs.declared.put.Put.{Put}
+use Rattle.substitution.specs.declared.put.Put.the-variants.{Written, Outgrown}
+use Rattle.substitution.proofs.put.Puts.{fits-yes, beside-yes, beside-within, beside-many}
+
+some-node : (t : Term) → 1 ≤ nodes t
+unfolding nodes
+some-node (var x) = omega arith
+some-node (leaf k) = omega arith
+some-node (one k e) = omega arith
+some-node (two k a b) = omega arith
+some-node (abs x e) = omega arith
+some-node (both k x y e b) = omega arith
+some-node (branch x y e l r) = omega arith
+
+no-fewer : (y : Name) (w u : Term) → nodes u ≤ nodes (subst y w u)
+no-fewer y w u =
+    let h : occurrences y u * 1 ≤ occurrences y u * nodes w = mul-le-mul-left (occurrences y u) (some-node w) in
+    omega (arith, subst-nodes y w u)
+
+not-both : (a : Bool) {b : Bool} → b ≡ false → (a && b) ≡ false
+not-both true e = e
+not-both false e = refl
+
+fits-long : (u : Term) → 4096 < size u → fits limits u ≡ false
+unfolding fits
+fits-long u h = not-both (nodes u ≤? 512) (lt-leb (size u) 4096 h)
+
+-- what is too large halfway is too large in the end
+too-large : (others rest : ℕ) (u z : Term) → fitsBeside others 0 u ≡ false → nodes u ≤ nodes z → (fits limits u && fitsBeside others rest z) ≡ false
+too-large others rest u z e h = go (others + nodes u ≤? 512) refl (size u ≤? 4096) refl
+  where
+    go : (b : Bool) → (others + nodes u ≤? 512) ≡ b → (d : Bool) → (size u ≤? 4096) ≡ d → (fits limits u && fitsBeside others rest z) ≡ false
+    go false q d r = not-both (fits limits u) (beside-many others rest z (omega (arith, leb-false (others + nodes u) 512 q)))
+    go true q false r = rw (fits-long u (leb-false (size u) 4096 r))
+    go true q true r =
+        let y = beside-yes others 0 u (leb-true (others + nodes u) 512 q) (omega (arith, leb-true (size u) 4096 r)) in
+        absurd (let f : false ≡ true = cc in let k : _≡_ {A = ℕ} 0 1 = cc in omega arith)
+
+-- what is known once the answer tells which way the first went
+record Went (others : ℕ) (u : Term) (half₀ half₁ : Bytes) (l c : ℕ) : Type 0 where
+  fit : (others + nodes u ≤ 512) × (0 + size u ≤ 4096)
+  long : l ≡ size u
+  count : c ≡ others + nodes u
+  leaves : half₁ ≡ sets half₀ 0 (encode u)
+
+went : (others : ℕ) (u : Term) (half₀ half₁ : Bytes) (r : Put) (l c : ℕ) → Puts others 0 none u half₀ half₁ r → r ≡ Written l c → Went others u half₀ half₁ l c
+went others u half₀ half₁ r l c d is = go (fitsBeside others 0 u) refl (d .says) (d .leaves)
+  where
+    go : (b : Bool) → fitsBeside others 0 u ≡ b → r ≡ (if b then Written (size u) (others + nodes u) else Outgrown) → half₁ ≡ (if b then sets half₀ 0 (encode u) else half₀) → Went others u half₀ half₁ l c
+    go true y s h = record { fit = beside-within others 0 u y; long = cc; count = cc; leaves = h }
+    go false y s h = absurd (let z : _≡_ {A = ℕ} 0 1 = cc in omega arith)
+
+stuck : (others : ℕ) (u : Term) (half₀ half₁ : Bytes) (r : Put) → Puts others 0 none u half₀ half₁ r → r ≡ Outgrown → fitsBeside others 0 u ≡ false
+stuck others u half₀ half₁ r d is = go (fitsBeside others 0 u) refl (d .says)
+  where
+    go : (b : Bool) → fitsBeside others 0 u ≡ b → r ≡ (if b then Written (size u) (others + nodes u) else Outgrown) → fitsBeside others 0 u ≡ false
+    go true y s = absurd (let z : _≡_ {A = ℕ} 0 1 = cc in omega arith)
+    go false y s = y
+
+module _ {body : Bytes} {row : List ℕ} {many gap : ℕ} {a : Bytes} {k : ℕ} {b : Bytes} {m n rest : ℕ} {x : Name} {e v w : Term} (j : Turns body row many gap a k b m n rest x e v w) where
+  abbrev others : ℕ
+  others = n - nodes e
+
+  abbrev u : Term
+  u = subst x v e
+
+  body-long : length body ≡ size e
+  body-long = ap (λ (z : Bytes). length z) (j .body-is)
+
+  pub first-job : Putting body row many gap a k n (length body) x e v
+  first-job =
+      record {
+        body-is = j .body-is;
+        held = j .held;
+        gap-is = j .gap-is;
+        value-is = j .first;
+        nodes-in = j .nodes-in;
+        bytes-in = omega (arith, body-long);
+        few = j .few;
+        short = omega (arith, body-long, j .short);
+      }
+
+  module _ {half₀ half₁ : Bytes} {r : Put} (p : Puts (n - nodes e) (length body - size e) none (subst x v e) half₀ half₁ r) where
+    half-made : Puts others 0 none u half₀ half₁ r
+    half-made = let z : length body - size e ≡ 0 = omega (arith, body-long) in rw z at p
+
+    pub half-outgrown : (y : Name) (out : Bytes) → r ≡ Outgrown → Puts others rest (some u) (subst y w u) out out Outgrown
+    half-outgrown y out is =
+        let q = too-large others rest u (subst y w u) (stuck others u half₀ half₁ r half-made is) (no-fewer y w u) in
+        record { says = rw q; leaves = rw q }
+
+    module _ {l c : ℕ} (is : r ≡ Written l c) where
+      half : Went others u half₀ half₁ l c
+      half = went others u half₀ half₁ r l c half-made is
+
+      fit : fits limits u ≡ true
+      fit = fits-yes u (omega (arith, half .fit)) (omega (arith, half .fit))
+
+      pub half-short : l ≤ 4096
+      half-short = omega (arith, half .long, half .fit)
+
+      module _ (h : 4096 ≤ length half₀) where
+        pub half-is : take (l - 0) half₁ ≡ encode u
+        half-is = from-start l half₁ ∙ wrote-part (record { holds = half .leaves; ends = half .long ∙ omega arith }) (omega (arith, half-short))
+
+        pub half-within : (nodes u ≤ 512) × (length (take (l - 0) half₁) ≤ 4096)
+        half-within = (omega (arith, half .fit), omega (arith, ap (λ (z : Bytes). length z) half-is, half .fit))
+
+        pub second-job : (y : Name) {row₁ row₂ : List ℕ} {count : ℕ} → Row row₁ → Wrote row₁ 0 (places y u 0) row₂ count
+            → Putting (take (l - 0) half₁) row₂ count (2 + length y) b m c (rest + l) y u w
+        second-job y long found =
+            record {
+              body-is = half-is;
+              held = held found (count-within y u (omega (arith, half .fit)) long found);
+              gap-is = refl;
+              value-is = j .second;
+              nodes-in = omega (arith, half .count);
+              bytes-in = omega (arith, half .long);
+              few = omega (arith, half .count, half .fit);
+              short = omega (arith, half .long, half .fit, j .short);
+            }
+
+      pub finished : (y : Name) {out out′ : Bytes} {q : Put} → Puts (c - nodes u) (rest + l - size u) none (subst y w u) out out′ q → Puts others rest (some u) (subst y w u) out out′ q
+      finished y d =
+          let eo : c - nodes u ≡ others = omega (arith, half .count) in
+          let er : rest + l - size u ≡ rest = omega (arith, half .long) in
+          let d′ = rw (eo, er) at d in
+          record { says = rw fit (d′ .says); leaves = rw fit (d′ .leaves) }

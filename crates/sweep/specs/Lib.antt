@@ -1,2 +1,0 @@
-pub mod Calm
-pub mod Swept

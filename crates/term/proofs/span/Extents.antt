@@ -1,0 +1,121 @@
+-- Nodes of terms in a row: a node counts one, and then its parts take its place. Assumes nothing.
+use Prim.Native.Nat.{ℕ, _+_, _-_, _<_, _≤_}
+use mathlib.Core.Path.{_≡_, refl, ap, _∙_}
+use mathlib.Core.List.{List, [], _∷_, _++_, append-nil}
+use native.Mathlib.Omega.{arith}
+use lib.ListN.{length, getD, length-append}
+use Rattle.rules.specs.Name.{Name}
+use Rattle.rules.specs.Term.{Term, var, leaf, one, two, abs, both, branch, encode, nodes, parts}
+use Rattle.term.specs.Node.{encodeAll, namesAfter, partsAfter}
+use Rattle.term.specs.Place.{TermAt, TermsAt, NameAt, NamesAt}
+use Rattle.term.proofs.node.Names.{AfterIs, first-name, other-names, name-end}
+use Rattle.term.proofs.node.Terms.{Some, apart-size, encodeAll-append, at-count-parts, first, others, unrolled, starts, alone}
+use Rattle.term.specs.declared.span.Extent.{Extent}
+use Rattle.term.specs.Measured.{Measured, MeasuredTwo, Named}
+
+abbrev nodesAll : List Term → ℕ
+nodesAll [] = 0
+nodesAll (t ∷ ts) = nodes t + nodesAll ts
+
+nodes-parts : (t : Term) → nodes t ≡ 1 + nodesAll (parts t)
+unfolding nodes
+nodes-parts (var x) = refl
+nodes-parts (leaf k) = refl
+nodes-parts (one k e) = omega arith
+nodes-parts (two k a b) = omega arith
+nodes-parts (abs x e) = omega arith
+nodes-parts (both k x y e b) = omega arith
+nodes-parts (branch x y e l r) = omega arith
+
+nodes-append : (xs ys : List Term) → nodesAll (xs ++ ys) ≡ nodesAll xs + nodesAll ys
+nodes-append [] ys = omega arith
+nodes-append (x ∷ xs) ys = omega (arith, nodes-append xs ys)
+
+-- the n terms at i end at r, and have m nodes
+abbrev pub SpanIs : List ℕ → ℕ → ℕ → ℕ → ℕ → Type 0
+SpanIs s i n r m = (ts : List Term) → TermsAt s i n ts → (r ≡ i + length (encodeAll ts)) × (m ≡ nodesAll ts)
+
+-- `count` nodes were met up to i; whatever the rest has, the whole has that and them
+pub record Going (s : List ℕ) (at i left count : ℕ) : Type 0 where
+  pub some : Some s i left
+  pub past : at + count ≤ i
+  pub rest : (r m : ℕ) → SpanIs s i left r m → SpanIs s at 1 r (count + m)
+
+pub begin : (s : List ℕ) (at : ℕ) → ((t : Term) × TermAt s at t) → Going s at at 1 0
+begin s at (t, w) = record { some = (t ∷ [], alone s at t w); past = omega arith; rest = λ r m f ts w. let e = f ts w in (e .0, omega (arith, e .1)) }
+
+pub done : (s : List ℕ) (at i left count : ℕ) → Going s at i left count → left ≡ 0 → (t : Term) → TermAt s at t → Measured at t (record { next = i; nodes = count })
+done s at i left count g z t w =
+    let e = g .rest i 0 none (t ∷ []) (alone s at t w) in
+    record { next = omega (arith, e .0, ap (λ (z : List ℕ). length z) (append-nil (encode t))); nodes = omega (arith, e .1) }
+  where
+    none : SpanIs s i left i 0
+    none [] u = (omega arith, refl)
+    none (x ∷ ts) u = absurd (omega (arith, u .many))
+
+module _ (s : List ℕ) (at i n count q p h : ℕ) (g : Going s at i n count) (l : 0 < n) (eq : q ≡ namesAfter (getD s i 0)) (ep : p ≡ partsAfter (getD s i 0)) (eh : AfterIs s (i + 1) q h) where
+  turned : (t : Term) (ts : List Term) → TermsAt s i n (t ∷ ts) → TermsAt s h (n - 1 + p) (parts t ++ ts)
+  turned t ts w =
+      let a = first s i n t ts w in
+      unrolled s i n t ts w h (n - 1 + p) (starts s i q h eq eh t a) (ap (λ (k : ℕ). n - 1 + k) (ep ∙ at-count-parts s i t a))
+
+  some-next : Some s i n → Some s h (n - 1 + p)
+  some-next ([], w) = absurd (omega (arith, w .many))
+  some-next (t ∷ ts, w) = (parts t ++ ts, turned t ts w)
+
+  ahead : Some s i n → i < h
+  ahead ([], w) = absurd (omega (arith, w .many))
+  ahead (t ∷ ts, w) = omega (arith, starts s i q h eq eh t (first s i n t ts w))
+
+  so-rest : (r m : ℕ) → SpanIs s h (n - 1 + p) r m → SpanIs s i n r (1 + m)
+  so-rest r m f [] w = absurd (omega (arith, w .many))
+  so-rest r m f (t ∷ ts) w =
+      let e = f (parts t ++ ts) (turned t ts w) in (
+        omega (
+          arith,
+          e .0,
+          starts s i q h eq eh t (first s i n t ts w),
+          length-append (encode t) (encodeAll ts),
+          apart-size t,
+          ap (λ (z : List ℕ). length z) (encodeAll-append (parts t) ts),
+          length-append (encodeAll (parts t)) (encodeAll ts),
+        ),
+        omega (arith, e .1, nodes-parts t, nodes-append (parts t) ts),
+      )
+
+  pub turn : Going s at h (n - 1 + p) (count + 1)
+  turn =
+      record {
+        some = some-next (g .some);
+        past = omega (arith, g .past, ahead (g .some));
+        rest = λ r m f ts w. let e = g .rest r (1 + m) (so-rest r m f) ts w in (e .0, omega (arith, e .1));
+      }
+
+-- ---- two terms in a row
+
+-- what `span` ensures
+abbrev pub ExtentIs : List ℕ → ℕ → Extent → Type 0
+ExtentIs s i r = (t : Term) → TermAt s i t → Measured i t r
+
+module _ (s : List ℕ) (i : ℕ) (ra : Extent) (fa : ExtentIs s i ra) where
+  pub row-later : (n : ℕ) (a : Term) (ts : List Term) → TermsAt s i n (a ∷ ts) → TermsAt s (ra .next) (n - 1) ts
+  row-later n a ts w = others s i n a ts w (ra .next) (fa a (first s i n a ts w) .next)
+
+  pub row-second : (n : ℕ) (a b : Term) (ts : List Term) → TermsAt s i n (a ∷ b ∷ ts) → TermAt s (ra .next) b
+  row-second n a b ts w = first s (ra .next) (n - 1) b ts (row-later n a (b ∷ ts) w)
+
+  module _ (rb : Extent) (fb : ExtentIs s (ra .next) rb) where
+    pub both-measured : (a b : Term) → TermsAt s i 2 (a ∷ b ∷ []) → MeasuredTwo i a b (record { second = ra .next; end = rb .next; a = ra .nodes; b = rb .nodes })
+    both-measured a b w =
+        let e = fa a (first s i 2 a (b ∷ []) w) in
+        let f = fb b (row-second 2 a b [] w) in
+        record { second = e .next; end = f .next; a-nodes = e .nodes; b-nodes = f .nodes }
+
+-- ---- two names in a row
+
+module _ (s : List ℕ) (i j : ℕ) (f : AfterIs s i 1 j) where
+  pub second-name : (x y : Name) → NamesAt s i 2 (x ∷ y ∷ []) → NameAt s j y
+  second-name x y w = first-name s j 1 y [] (other-names s i 2 x (y ∷ []) w j (name-end s i j f x (first-name s i 2 x (y ∷ []) w)))
+
+  pub named : (h : ℕ) → AfterIs s j 1 h → (x y : Name) → NamesAt s i 2 (x ∷ y ∷ []) → Named i x y (record { second = j; end = h })
+  named h g x y w = record { second = name-end s i j f x (first-name s i 2 x (y ∷ []) w); end = name-end s j h g y (second-name x y w) }

@@ -1,0 +1,7 @@
+pub mod Node
+pub mod OnePart
+pub mod Place
+pub mod Seen
+pub mod Measured
+pub mod Given
+pub mod Child

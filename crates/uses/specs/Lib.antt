@@ -1,2 +1,0 @@
-pub mod Node
-pub mod Counts

@@ -1,4 +1,0 @@
-pub mod Node
-pub mod OnePart
-pub mod Place
-pub mod Seen

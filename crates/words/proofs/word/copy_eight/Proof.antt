@@ -1,0 +1,84 @@
+-- `word::copy_eight` meets its contract. Assumes nothing.
+use mathlib.Core.Path.{ap, _∙_}
+use lib.Seq.{sets}
+use Rattle.words.specs.Written.{run}
+use borrow.Author.Needs.{needs}
+use Rattle.words.proofs.word.copy_eight.Statement.{statement}
+use Rattle.words.proofs.word.copy_eight.Tie as tie
+
+shared-slice-read-a : tie.Need-shared-slice-read-a
+shared-slice-read-a c = search needs
+
+add-b : tie.Need-add-b
+add-b c = search needs
+
+shared-slice-read-b : tie.Need-shared-slice-read-b
+shared-slice-read-b c = search needs
+
+add-c : tie.Need-add-c
+add-c c = search needs
+
+shared-slice-read-c : tie.Need-shared-slice-read-c
+shared-slice-read-c c = search needs
+
+add-d : tie.Need-add-d
+add-d c = search needs
+
+shared-slice-read-d : tie.Need-shared-slice-read-d
+shared-slice-read-d c = search needs
+
+add-e : tie.Need-add-e
+add-e c = search needs
+
+shared-slice-read-e : tie.Need-shared-slice-read-e
+shared-slice-read-e c = search needs
+
+add-f : tie.Need-add-f
+add-f c = search needs
+
+shared-slice-read-f : tie.Need-shared-slice-read-f
+shared-slice-read-f c = search needs
+
+add-g : tie.Need-add-g
+add-g c = search needs
+
+shared-slice-read-g : tie.Need-shared-slice-read-g
+shared-slice-read-g c = search needs
+
+add-h : tie.Need-add-h
+add-h c = search needs
+
+shared-slice-read-h : tie.Need-shared-slice-read-h
+shared-slice-read-h c = search needs
+
+store-requires : tie.Need-store-requires
+store-requires c κs = search needs
+
+same-length : tie.Need-same-length
+same-length c = search needs
+
+returns : tie.Need-returns
+returns c = c .before .before .store .ensures ∙ ap (sets (c .before .before .before .before .before .before .before .before .before .before .before .before .before .before .args .out .now) (c .before .before .before .before .before .before .before .before .before .before .before .before .before .before .args .to)) (run (c .before .before .before .before .before .before .before .before .before .before .before .before .before .before .args .src .now) (c .before .before .before .before .before .before .before .before .before .before .before .before .before .before .args .from) (c .before .before .before .before .before .before .before .before .before .before .before .before .before .before .pre .0))
+
+pub copy-eight-spec : {M : Type 1} → statement M
+copy-eight-spec =
+    tie.close
+    (tie.spec
+    shared-slice-read-a
+    add-b
+    shared-slice-read-b
+    add-c
+    shared-slice-read-c
+    add-d
+    shared-slice-read-d
+    add-e
+    shared-slice-read-e
+    add-f
+    shared-slice-read-f
+    add-g
+    shared-slice-read-g
+    add-h
+    shared-slice-read-h
+    store-requires
+    same-length
+    returns)
