@@ -22,20 +22,12 @@ pub fn short(out: usize, scratch: usize) -> bool
     false
 }
 
-// Zeros behind the first bytes of the output.
-pub fn behind(out: &mut [u8], many: usize)
-    requires { ⌜ many ≤ length (now out) ⌝ }
-    ensures { λ _. ⌜ now (out .exit) ≡ sets (now (out .entry)) many (replicate (length (now (out .entry)) - many) 0) ⌝ }
-{
-    run::clear(out, many);
-}
-
-// The same, and zeros in all of the scratch.
+// Zeros behind the first bytes of the output, and in all of the scratch.
 pub fn leave(out: &mut [u8], many: usize, scratch: &mut [u8])
     requires { ⌜ (many ≤ length (now out)) × (scratchRoom limits ≤ length (now scratch)) ⌝ }
     ensures { λ _. ⌜ now (out .exit) ≡ sets (now (out .entry)) many (replicate (length (now (out .entry)) - many) 0) ⌝ }
     ensures { λ _. ⌜ now (scratch .exit) ≡ sets (now (scratch .entry)) 0 (replicate (length (now (scratch .entry)) - 0) 0) ⌝ }
 {
-    behind(out, many);
+    run::clear(out, many);
     run::clear(scratch, 0);
 }

@@ -9,7 +9,6 @@ ghost use Rattle.rules.specs.Calls.{freeVarsCall};
 ghost use Rattle.buffer.specs.Wrote.{Wrote};
 ghost use Rattle.free.specs.Rows.{Writes};
 ghost use Rattle.free.specs.Whole.{Lists, Listed};
-use buffer::room;
 use buffer::run;
 use gather::gather;
 use rules::Answer;
@@ -46,7 +45,7 @@ fn list_names(term: &[u8], out: &mut [u8]) -> usize
     let mut row = [0u16; 1088];
     let found = gather(&term, 0, &mut row, BINDERS, 0);
     let end = write_names(term, &row, found / 131072, out);
-    room::behind(out, end);
+    run::clear(out, end);
     end
 }
 

@@ -6,12 +6,13 @@ use mathlib.Core.List.{_++_, append-nil}
 use native.Mathlib.Omega.{arith}
 use lib.ListN.{length, take, drop, replicate, length-replicate}
 use lib.Seq.{sets, sets-eq, drop-length}
+use Rattle.rules.specs.Limits.{limits}
 use Rattle.rules.specs.Basic.{Bytes}
 use Rattle.rules.specs.Term.{encode, size}
+use Rattle.laws.specs.reading.Fits.{within}
 use Rattle.rules.specs.declared.Counts.{Counts}
 use Rattle.rules.specs.Reduction.{Reduced, stopped, outgrew}
 use Rattle.substitution.proofs.place.Writes.{zeros}
-use Rattle.reduction.proofs.moves.Buffers.{fits-few}
 use Rattle.reduction.specs.Turning.{last, Repeats}
 use Rattle.reduction.specs.Told.{repeatedOf}
 use Rattle.reduction.specs.declared.course.Repeated.{Repeated}
@@ -41,7 +42,7 @@ over (outgrew n t) e = (cc, cc)
 module _ {d : Reduced} {out₁ : Bytes} {r : Repeated} (w : Repeats d out₁ r) (out : Bytes) (same : length out₁ ≡ length out) (h : 4096 ≤ length out) where
   behind : (l : ℕ) → l ≡ size (last d) → {out₂ : Bytes} → out₂ ≡ sets out₁ l (replicate (length out₁ - l) 0) → out₂ ≡ encode (last d) ++ replicate (length out - size (last d)) 0
   behind l e {out₂} z =
-      z ∙ zeros-behind out₁ (encode (last d)) l (rw e (w .bytes)) e (omega (arith, fits-few (last d) (w .fits)))
+      z ∙ zeros-behind out₁ (encode (last d)) l (rw e (w .bytes)) e (omega (arith, within limits (last d) (w .fits)))
       ∙ ap (λ (k : ℕ). encode (last d) ++ replicate (k - size (last d)) 0) same
 
   module _ {n : ℕ} {c : Counts} {b : Bool} {l : ℕ} (e : r ≡ Stopped n c b l) where
@@ -49,7 +50,7 @@ module _ {d : Reduced} {out₁ : Bytes} {r : Repeated} (w : Repeats d out₁ r) 
     at-stop = stops d (sym e ∙ w .says)
 
     pub stop-room : l ≤ length out₁
-    stop-room = omega (arith, at-stop .1, fits-few (last d) (w .fits))
+    stop-room = omega (arith, at-stop .1, within limits (last d) (w .fits))
 
     module _ (scratch scratch₁ : Bytes) {scratch₂ out₂ : Bytes} (p : length scratch₁ ≡ length scratch) (q : scratch₂ ≡ sets scratch₁ 0 (replicate (length scratch₁ - 0) 0)) (z : out₂ ≡ sets out₁ l (replicate (length out₁ - l) 0)) where
       pub stop : Reducing d out scratch (IsStopped (record { steps = n; counts = c; normal = b; length = l })) out₂ scratch₂
@@ -66,7 +67,7 @@ module _ {d : Reduced} {out₁ : Bytes} {r : Repeated} (w : Repeats d out₁ r) 
     at-over = over d (sym e ∙ w .says)
 
     pub over-room : l ≤ length out₁
-    over-room = omega (arith, at-over .1, fits-few (last d) (w .fits))
+    over-room = omega (arith, at-over .1, within limits (last d) (w .fits))
 
     module _ (scratch scratch₁ : Bytes) {scratch₂ out₂ : Bytes} (p : length scratch₁ ≡ length scratch) (q : scratch₂ ≡ sets scratch₁ 0 (replicate (length scratch₁ - 0) 0)) (z : out₂ ≡ sets out₁ l (replicate (length out₁ - l) 0)) where
       pub outgrow : Reducing d out scratch (IsRefused (record { number = 8; place = n; input = 0 }) l) out₂ scratch₂

@@ -1,4 +1,6 @@
 // What every room shares: the few types in which public calls answer. The rules themselves are definitions, in specs/.
+ghost use mathlib.Core.Path.{_≡_};
+ghost use Rattle.rules.specs.Stored.{kindByte};
 
 // The limits of document 01, and the room that a call must be lent (specs/Limits.antt has the same numbers).
 pub const MOST_BYTES: usize = 4096;
@@ -21,11 +23,40 @@ pub const SCRATCH_ROOM: usize = 8192;
 
 pub const ENTRY_ROOM: usize = 512;
 
+// A block of a stored file, and how much of it is content.
+pub const BLOCK_BYTES: usize = 512;
+
+pub const BLOCK_CONTENT: usize = 506;
+
+// How many bytes a name and an atom may have.
+pub const LONGEST_NAME: usize = 24;
+
+pub const LONGEST_ATOM: usize = 16;
+
+// An extraction may not leave the counter over this.
+pub const MOST_COUNTER: usize = 100_000_000;
+
+// The limit on steps of the programs.
+pub const PROGRAM_STEPS: u32 = 1000;
+
 // A refusal: its number and place as document 01's table has them, and the input that it is about: 1, 2 or 3, or 0 for none.
 pub struct Refusal {
     pub number: u8,
     pub place: usize,
     pub input: u8,
+}
+
+impl Refusal {
+    // One that is about no place of an input: 1, 8, 9 or 14.
+    pub fn of_no_input(number: u8) -> Refusal
+        ensures { λ r. ⌜ r ≡ record { number = number; place = 0; input = 0 } ⌝ }
+    {
+        Refusal {
+            number,
+            place: 0,
+            input: 0,
+        }
+    }
 }
 
 // A count (the bytes written, or the nodes of what was read), or a refusal.
@@ -38,6 +69,18 @@ pub enum Answer {
 pub enum Kind {
     Term,
     Proof,
+}
+
+impl Kind {
+    // The first byte of each of its blocks.
+    pub fn byte(self) -> u8
+        ensures { λ r. ⌜ r ≡ kindByte self ⌝ }
+    {
+        match self {
+            Kind::Term => 1,
+            Kind::Proof => 2,
+        }
+    }
 }
 
 // The rules of reduction, in the order of their counts.

@@ -18,7 +18,7 @@ use Rattle.rules.specs.Step as rules
 use Rattle.rules.specs.Buffers.{cleared}
 use Rattle.rules.specs.Calls.{stepEnding, stepCall, isNormalCall}
 use Rattle.laws.specs.reading.Decoding.{term-sound}
-use Rattle.laws.specs.reading.Fits.{accepted-fits}
+use Rattle.laws.specs.reading.Fits.{within, accepted-fits}
 use Rattle.laws.specs.reading.Numbers.{term-spares}
 use Rattle.reader.specs.Accepted.{Accepts, accepts, refuses}
 use Rattle.buffer.specs.Wrote.{Wrote}
@@ -32,7 +32,7 @@ use Rattle.step.specs.Answers.{stepAnswered, normalAnswered, Stepping}
 use Rattle.step.specs.declared.Stepped.{Stepped}
 use Rattle.step.specs.declared.Stepped.the-variants.{Normal as IsNormal, Found as IsFound, Refused as IsRefused}
 use Rattle.step.specs.declared.Normality.the-variants.{Known, Refused as NotRead}
-use Rattle.step.proofs.Taking.{fits-bytes, Fitted, Over, took, took-over, took-nothing, writes, writes-nothing}
+use Rattle.step.proofs.Taking.{Fitted, Over, took, took-over, took-nothing, writes, writes-nothing}
 
 -- ---- a step of a term that was read, by what was taken
 
@@ -47,7 +47,7 @@ module _ {s : rules.Stepped} {out out₁ : Bytes} {k : Taken} (d : Takes s out o
     pub room : l ≤ length out₁
     room =
         let f = fitted in
-        omega (arith, ap (λ (z : Bytes). length z) written, length-sets out 0 (encode (f .result)), fits-bytes (f .result) (f .fits), f .long)
+        omega (arith, ap (λ (z : Bytes). length z) written, length-sets out 0 (encode (f .result)), within limits (f .result) (f .fits), f .long)
 
   -- the scratch was worked in, and then cleared
   module _ (scratch scratch₀ scratch₁ : Bytes) (same : length scratch₀ ≡ length scratch) (q : scratch₁ ≡ sets scratch₀ 0 (replicate (length scratch₀ - 0) 0)) where
@@ -75,7 +75,7 @@ module _ {s : rules.Stepped} {out out₁ : Bytes} {k : Taken} (d : Takes s out o
           let w : Wrote out 0 (encode (f .result)) out₁ l = record { holds = written e h; ends = omega (arith, f .long) } in
           record {
             says = rw (f .is) (rw (f .tested) (ap (λ (x : ℕ). IsFound (record { rule = r; place = p; length = x })) (f .long)));
-            leaves = rw (f .is) (rw (f .tested) (filled-up w z (omega (arith, fits-bytes (f .result) (f .fits)))));
+            leaves = rw (f .is) (rw (f .tested) (filled-up w z (omega (arith, within limits (f .result) (f .fits)))));
             clears = cleared-up;
           }
 

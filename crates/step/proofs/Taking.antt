@@ -1,24 +1,18 @@
 -- What the answer of a step says of the step: by cases on it. Assumes nothing.
-use Prim.Native.Nat.{ℕ, _≤_}
+use Prim.Native.Nat.{ℕ}
 use mathlib.Core.Path.{_≡_, refl, ap, _∙_}
 use mathlib.Core.Bool.{Bool, true, false}
 use mathlib.Core.Option.{Option}
 use native.Mathlib.Omega.{arith}
 use lib.Seq.{sets}
-use borrow.Author.Tests.{leb-true}
-use Rattle.rules.specs.Basic.{Bytes, _≤?_, if_then_else_}
+use Rattle.rules.specs.Basic.{Bytes, if_then_else_}
 use Rattle.rules.specs.Limits.{limits}
-use Rattle.rules.specs.Term.{Term, encode, nodes, size, fits}
+use Rattle.rules.specs.Term.{Term, encode, size, fits}
 use Rattle.rules.specs.declared.Rule.{Rule}
 use Rattle.rules.specs.Step.{Stepped, normal, found, halfFits, stepFits}
 use Rattle.laws.specs.free.Same.{both-true}
 use Rattle.step.specs.Taken.{takenOf, writtenOf}
 use Rattle.step.specs.declared.take.Taken.the-variants.{Normal, Found, Outgrown}
-
--- what fits has at most 4,096 bytes
-pub fits-bytes : (t : Term) → fits limits t ≡ true → size t ≤ 4096
-unfolding fits
-fits-bytes t e = leb-true (size t) 4096 (both-true (nodes t ≤? 512) (size t ≤? 4096) e .1)
 
 -- a step by the rule r at p, whose result has l bytes and fits
 pub record Fitted (s : Stepped) (r : Rule) (p l : ℕ) : Type 0 where

@@ -7,15 +7,14 @@ use mathlib.Core.List.{List}
 use native.Mathlib.Omega.{arith}
 use lib.ListN.{length, take, replicate}
 use lib.Seq.{sets}
-use borrow.Author.Tests.{leb-true}
-use Rattle.rules.specs.Basic.{Bytes, _≤?_}
+use Rattle.rules.specs.Basic.{Bytes}
 use Rattle.rules.specs.Limits.{limits}
 use Rattle.rules.specs.Refusal.{refuse, answered}
 use Rattle.rules.specs.declared.Answer.{Answer}
 use Rattle.rules.specs.declared.Answer.the-variants.{Good}
-use Rattle.rules.specs.Term.{Term, encode, nodes, size, fits}
+use Rattle.rules.specs.Term.{Term, encode, size, fits}
 use Rattle.rules.specs.Substitution.{subst}
-use Rattle.laws.specs.free.Same.{both-true}
+use Rattle.laws.specs.reading.Fits.{within}
 use Rattle.buffer.specs.Wrote.{Wrote}
 use Rattle.buffer.specs.Writing.{wrote-length, filled-up}
 use Rattle.substitution.specs.Places.{places, Row, Held}
@@ -26,11 +25,6 @@ use Rattle.substitution.proofs.place.Writes.{held, from-start, zeros}
 use Rattle.substitution.proofs.place.Shapes.{places-many}
 use Rattle.substitution.proofs.splice.Splices.{spliced-term, spaced-term}
 use Rattle.substitution.proofs.place.Finds.{count-within}
-
--- what fits has at most 4,096 bytes
-fits-bytes : (t : Term) → fits limits t ≡ true → size t ≤ 4096
-unfolding fits
-fits-bytes t e = leb-true (size t) 4096 (both-true (nodes t ≤? 512) (size t ≤? 4096) e .1)
 
 module _ {term name value out : Bytes} {n m : ℕ} {t v : Term} (j : Job term name value out n m t v)
     {row row₁ : List ℕ} (long : Row row) {count : ℕ} (are : Wrote row 0 (places name t 0) row₁ count) where
@@ -61,7 +55,7 @@ module _ {term name value out : Bytes} {n m : ℕ} {t v : Term} (j : Job term na
   module _ (b : Bool) (e : b ≡ fits limits (subst name v t)) where
     module _ (y : b ≡ true) where
       fit : size (subst name v t) ≤ 4096
-      fit = fits-bytes (subst name v t) (sym e ∙ y)
+      fit = within limits (subst name v t) (sym e ∙ y) .1
 
       pub splice-left : Left term (take (count - 0) row₁) (2 + length name) value 0 out 0
       splice-left =

@@ -2,11 +2,12 @@
 -- Assumes nothing: these are definitions.
 use Prim.Native.Nat.{ℕ, _+_, _*_, _/_, _%_, _^_}
 use mathlib.Core.Bool.{Bool, false, _||_}
-use mathlib.Core.List.{List, [], _∷_}
-use Rattle.rules.specs.Basic.{Bytes, if_then_else_, _‥_, _==_}
+use mathlib.Core.List.{_∷_}
+use Rattle.rules.specs.Basic.{Bytes, _==_, if_then_else_}
 use Rattle.rules.specs.Name.{Name, same, encodeNames}
-use Rattle.rules.specs.Term.{Term, var, leaf, one, two, abs, both, branch, leafTag, oneTag, twoTag, bothTag, encode}
+use Rattle.rules.specs.Term.{Term, var, leaf, one, two, abs, both, branch, leafTag, oneTag, twoTag, bothTag}
 pub use Rattle.rules.specs.Term.{names}
+pub use Rattle.laws.specs.size.Parts.{encodeAll}
 
 abbrev pub tag : Term → ℕ
 tag (var x) = 1
@@ -19,11 +20,6 @@ tag (branch x y e l r) = 9
 
 abbrev pub head : Term → Bytes
 head t = tag t ∷ encodeNames (names t)
-
--- terms in a row
-abbrev pub encodeAll : List Term → Bytes
-encodeAll [] = []
-encodeAll (t ∷ ts) = encode t ‥ encodeAll ts
 
 -- the term is the variable x
 abbrev pub isVar : Name → Term → Bool

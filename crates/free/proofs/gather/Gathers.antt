@@ -8,7 +8,8 @@ use lib.ListN.{length, getD, set, length-set}
 use types.Run.{OneOf}
 use Rattle.rules.specs.Basic.{Bytes}
 use Rattle.rules.specs.Name.{Name}
-use Rattle.rules.specs.Term.{Term, var, leaf, one, two, abs, both, branch, One, Two, Both}
+use Rattle.rules.specs.Term.{Term, var, one, two, abs, both, branch, One, Two, Both}
+use Rattle.laws.specs.size.Parts.{some-node}
 use Rattle.term.specs.Node.{onePart}
 use Rattle.term.specs.Place.{NameAt, NamesAt, TermAt}
 use Rattle.term.proofs.node.Names.{AfterIs, name-room, single}
@@ -17,7 +18,7 @@ use Rattle.free.specs.State.{State, Meets, Met}
 use Rattle.free.specs.Walk.{Task, Done}
 use Rattle.free.proofs.row.Meeting as meeting
 use Rattle.free.proofs.gather.Inverts.{Rest, twoTags, bothTags, is-var, is-leaf, is-one, is-two, is-abs, is-both, is-branch}
-use Rattle.free.proofs.gather.Moves.{some-nodes, leaf-done, var-meets, var-done, one-task, one-done, two-task, two-again, two-done, abs-room, abs-name, abs-task, abs-done, both-first, both-second, both-task, both-room, both-body, both-done, branch-first, branch-second, branch-task, branch-room, branch-left, branch-right, branch-done}
+use Rattle.free.proofs.gather.Moves.{leaf-done, var-meets, var-done, one-task, one-done, two-task, two-again, two-done, abs-room, abs-name, abs-task, abs-done, both-first, both-second, both-task, both-room, both-body, both-done, branch-first, branch-second, branch-task, branch-room, branch-left, branch-right, branch-done}
 
 abbrev Some : Bytes → ℕ → List ℕ → ℕ → ℕ → Type 0
 Some s p row low n = (t : Term) × (xs : List Name) × (l : List Name) × Task s p row low n t xs l
@@ -45,7 +46,7 @@ module _ {s : Bytes} {at : ℕ} {row : List ℕ} {low n : ℕ} (some : Some s at
   small = let (t, xs, l, w) = some in w .state .short
 
   few : n < 1088
-  few = let (t, xs, l, w) = some in omega (arith, w .room, some-nodes t, w .state .passed .many)
+  few = let (t, xs, l, w) = some in omega (arith, w .room, some-node t, w .state .passed .many)
 
   module _ (e : getD s at 0 ≡ 1) where
     var-is : (t : Term) → TermAt s at t → (x : Name) × (t ≡ var x)

@@ -8,6 +8,7 @@ use lib.ListN.{length, set, length-append}
 use Rattle.rules.specs.Basic.{Bytes}
 use Rattle.rules.specs.Name.{Name, encodeName, encodeNames}
 use Rattle.rules.specs.Term.{Term, var, leaf, one, two, abs, both, branch, Leaf, One, Two, Both, bothTag, nodes, size, encode}
+use Rattle.laws.specs.size.Parts.{some-node}
 use Rattle.term.specs.Node.{head, encodeAll}
 use Rattle.term.specs.Place.{NameAt, NamesAt, TermAt, TermsAt}
 use Rattle.term.proofs.node.Names.{AfterIs, first-name, other-names, name-end}
@@ -27,16 +28,6 @@ row-two e f = length-append (encode e) (encodeAll (f ∷ [])) ∙ ap (λ k. size
 
 row-three : (e f g : Term) → length (encodeAll (e ∷ f ∷ g ∷ [])) ≡ size e + (size f + size g)
 row-three e f g = length-append (encode e) (encodeAll (f ∷ g ∷ [])) ∙ ap (λ k. size e + k) (row-two f g)
-
-pub some-nodes : (t : Term) → 1 ≤ nodes t
-unfolding nodes
-some-nodes (var x) = omega arith
-some-nodes (leaf k) = omega arith
-some-nodes (one k e) = omega arith
-some-nodes (two k e f) = omega arith
-some-nodes (abs x e) = omega arith
-some-nodes (both k x y e f) = omega arith
-some-nodes (branch x y e f g) = omega arith
 
 -- the place of the second of two names, and the place after it
 module _ (s : Bytes) (p : ℕ) {x y : Name} (w : NamesAt s (p + 1) 2 (x ∷ y ∷ [])) (q : ℕ) (j : AfterIs s (p + 1) 1 q) where
@@ -108,7 +99,7 @@ module _ {s : Bytes} {p : ℕ} {row : List ℕ} {low n : ℕ} {xs l : List Name}
   module _ (x : Name) (e : Term) (w : Task s p row low n (abs x e) xs l) where
     pub abs-room : n + 2 < low
     unfolding nodes
-    abs-room = omega (arith, w .room, some-nodes e)
+    abs-room = omega (arith, w .room, some-node e)
 
     pub abs-name : NameAt s (p + 1) x
     abs-name = first-name s (p + 1) 1 x [] (at-names s p (abs x e) (w .term))
@@ -159,7 +150,7 @@ module _ {s : Bytes} {p : ℕ} {row : List ℕ} {low n : ℕ} {xs l : List Name}
         module _ {row₁ : List ℕ} {m c : ℕ} (z : Done s h row₁ low n e xs l m c) where
           pub both-room : c + 4 ≤ low
           unfolding nodes
-          both-room = omega (arith, w .room, z .few, some-nodes e, some-nodes f)
+          both-room = omega (arith, w .room, z .few, some-node e, some-node f)
 
           pub both-body : {row₂ : List ℕ} {low₂ : ℕ} → low₂ ≡ low - 1 - 1 → row₂ ≡ set (set row₁ (low - 1) (p + 1)) (low - 1 - 1) q → Task s m row₂ low₂ c f (y ∷ x ∷ xs) (gather xs e l)
           unfolding nodes
@@ -206,7 +197,7 @@ module _ {s : Bytes} {p : ℕ} {row : List ℕ} {low n : ℕ} {xs l : List Name}
 
           pub branch-room : c + 4 ≤ low
           unfolding nodes
-          branch-room = omega (arith, w .room, z .few, some-nodes f, some-nodes g)
+          branch-room = omega (arith, w .room, z .few, some-node f, some-node g)
 
           module _ {low₂ : ℕ} (d : low₂ ≡ low - 1) where
             pub branch-left : {row₂ : List ℕ} → row₂ ≡ set row₁ (low - 1) (p + 1) → Task s m row₂ low₂ c f (x ∷ xs) (gather xs e l)
@@ -225,7 +216,7 @@ module _ {s : Bytes} {p : ℕ} {row : List ℕ} {low n : ℕ} {xs l : List Name}
               branch-right d′ c =
                   record {
                     term = first s m′ 1 g [] (others s m 2 f (g ∷ []) others-at m′ (v .ends));
-                    state = rw (d′, c) (pushed (left-behind (v .state) low (omega (arith, branch-room))) y q branch-second (omega (arith, w .room, z .few, v .few, some-nodes g)));
+                    state = rw (d′, c) (pushed (left-behind (v .state) low (omega (arith, branch-room))) y q branch-second (omega (arith, w .room, z .few, v .few, some-node g)));
                     room = omega (arith, w .room, z .few, v .few);
                   }
 

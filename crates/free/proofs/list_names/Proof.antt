@@ -16,14 +16,14 @@ slice-aggregate-write-names c = let (t, w) = c .before .before .before .before .
 write-names-requires : tie.Need-write-names-requires
 write-names-requires c κs = let (t, w) = c .before .before .before .before .before .before .before .pre in (free t, gathered w (c .before .before .gather .ensures t [] [] (starts w refl)))
 
-behind-requires : tie.Need-behind-requires
-behind-requires c κs = let (t, w) = c .before .before .before .before .before .before .before .before .before .before .before .pre in within w (c .before .before .before .write-names .ensures (free t) (gathered w (c .before .before .before .before .before .before .gather .ensures t [] [] (starts w refl))))
+clear-requires : tie.Need-clear-requires
+clear-requires c κs = let (t, w) = c .before .before .before .before .before .before .before .before .before .before .before .pre in within w (c .before .before .before .write-names .ensures (free t) (gathered w (c .before .before .before .before .before .before .gather .ensures t [] [] (starts w refl))))
 
 same-length : tie.Need-same-length
 same-length c = search needs
 
 returns : tie.Need-returns
-returns c = λ t w. listed w (c .before .before .before .before .before .before .write-names .ensures (free t) (gathered w (c .before .before .before .before .before .before .before .before .before .gather .ensures t [] [] (starts w refl)))) (c .before .before .behind .ensures)
+returns c = λ t w. listed w (c .before .before .before .before .before .before .write-names .ensures (free t) (gathered w (c .before .before .before .before .before .before .before .before .before .gather .ensures t [] [] (starts w refl)))) (c .before .before .clear .ensures)
 
 pub list-names-spec : {M : Type 1} → statement M
 list-names-spec =
@@ -32,6 +32,6 @@ list-names-spec =
     gather-requires
     slice-aggregate-write-names
     write-names-requires
-    behind-requires
+    clear-requires
     same-length
     returns)

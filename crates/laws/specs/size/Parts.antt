@@ -66,6 +66,16 @@ parts-nodes (abs x e) = omega arith
 parts-nodes (both k x y e b) = omega arith
 parts-nodes (branch x y e l r) = omega arith
 
+pub some-node : (t : Term) → 1 ≤ nodes t
+unfolding nodes
+some-node (var x) = omega arith
+some-node (leaf k) = omega arith
+some-node (one k e) = omega arith
+some-node (two k a b) = omega arith
+some-node (abs x e) = omega arith
+some-node (both k x y e b) = omega arith
+some-node (branch x y e l r) = omega arith
+
 pub parts-legal : (t : Term) → Legal t → AllLegal (parts t)
 parts-legal (var x) p = tt
 parts-legal (leaf k) p = tt

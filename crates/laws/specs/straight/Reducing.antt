@@ -7,7 +7,7 @@ use mathlib.Core.Option.{Option}
 use native.Mathlib.Omega.{arith}
 use Rattle.rules.specs.Limits.{Limits}
 use Rattle.rules.specs.Name.{Name}
-use Rattle.rules.specs.Term.{Term, var, leaf, one, two, abs, both, branch, nodes, fits}
+use Rattle.rules.specs.Term.{Term, nodes, fits}
 use Rattle.rules.specs.Legal.{Legal}
 use Rattle.rules.specs.Free.{occurrences}
 use Rattle.rules.specs.declared.Rule.{Rule}
@@ -17,6 +17,7 @@ use Rattle.rules.specs.Step.{Stepped, normal, found, step, isNormal, halfFits, 
 use Rattle.rules.specs.Reduction.{plus, stopped, reduceFrom}
 use Rattle.rules.specs.Straight.{stands, Straight}
 use Rattle.laws.specs.free.Same.{both-true}
+use Rattle.laws.specs.size.Parts.{some-node}
 use Rattle.laws.specs.step.StepLegal.{step-legal}
 use Rattle.laws.specs.straight.Promise.{Loses, StraightStep, only, StraightReduction}
 use Rattle.laws.specs.straight.OneStep.{Meets}
@@ -43,16 +44,6 @@ record Rest (L : Limits) (limit : ℕ) (t : Term) (a l d : ℕ) : Type 0 where
   lost : nodes t + (3 * a + 4 * l + 2 * d) ≡ nodes result + (3 * app + 4 * lets + 2 * derelict)
   -- two nodes never make a step
   enough : nodes t ≤ 2 * limit + 2 → noneLeft ≡ true
-
-pub some-node : (t : Term) → 1 ≤ nodes t
-unfolding nodes
-some-node (var x) = omega arith
-some-node (leaf k) = omega arith
-some-node (one k e) = omega arith
-some-node (two k a b) = omega arith
-some-node (abs x e) = omega arith
-some-node (both k x y e b) = omega arith
-some-node (branch x y e l r) = omega arith
 
 least : (r : Rule) (n m : ℕ) → Loses r n m → m + 2 ≤ n
 least App n m h = omega arith

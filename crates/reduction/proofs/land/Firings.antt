@@ -10,6 +10,7 @@ use lib.Seq.{length-sets, slice, length-slice, length-take-le, drop-append-le}
 use Rattle.rules.specs.Basic.{Bytes}
 use Rattle.rules.specs.Limits.{limits}
 use Rattle.rules.specs.Term.{Term, encode, nodes, size, fits}
+use Rattle.laws.specs.reading.Fits.{within}
 use Rattle.rules.specs.declared.Rule.{Rule}
 use Rattle.rules.specs.Step.{halfFits, stepFits}
 use Rattle.laws.specs.free.Same.{both-true}
@@ -28,7 +29,7 @@ use Rattle.reduction.specs.Standing.{Standing, Nearly, Landed}
 use Rattle.reduction.specs.Fired.{Firing, Lands, Over}
 use Rattle.reduction.specs.declared.place.Place.{Place}
 use Rattle.reduction.proofs.moves.Contexts.{plug-frame, plug-size, only-nearest, first-same}
-use Rattle.reduction.proofs.moves.Buffers.{wrote-right, fits-few}
+use Rattle.reduction.proofs.moves.Buffers.{wrote-right}
 use Rattle.reduction.proofs.moves.Redexes.{redex-steps}
 use Rattle.reduction.proofs.moves.Entries.{sides-size, whole-short}
 use Rattle.reduction.proofs.moves.Seeking.{stands-at}
@@ -74,7 +75,7 @@ module _ {w : Term} {out scratch stack : List ℕ} {o i d n : ℕ} {places : Lis
               nodes-in = omega (arith, e .count, ap nodes (s .is), plug-frame (s .above) .count t);
               bytes-in = omega (arith, sides-size s, ap size (s .is), plug-size (s .above) t);
               behind = omega arith;
-              few = omega (arith, e .count, fits-few w (s .fits));
+              few = omega (arith, e .count, within limits w (s .fits));
               short = short;
             };
         contracts = x .is;
@@ -134,7 +135,7 @@ module _ {w : Term} {out scratch stack : List ℕ} {o i d n : ℕ} {places : Lis
       fits-before =
           omega (
             arith,
-            fits-few next fits-next,
+            within limits next fits-next,
             plug-size (s .above) u,
             s .sides .long,
             long scratch (encode t) (rights (s .above)) i (s .sides .right),

@@ -9,6 +9,7 @@ use lib.Seq.{length-sets, slice, take-at, take-take, drop-at}
 use Rattle.rules.specs.Basic.{Bytes}
 use Rattle.rules.specs.Limits.{limits}
 use Rattle.rules.specs.Term.{Term, encode, nodes, size, fits}
+use Rattle.laws.specs.reading.Fits.{within}
 use Rattle.buffer.specs.Wrote.{Wrote}
 use Rattle.term.specs.Node.{tag}
 use Rattle.term.specs.Place.{TermAt}
@@ -21,7 +22,7 @@ use Rattle.reduction.specs.Standing.{Sides, Standing, Nearly, Landed}
 use Rattle.reduction.proofs.moves.Holes.{fill-encode}
 use Rattle.reduction.proofs.moves.Contexts.{plug-size, depth-below}
 use Rattle.reduction.proofs.moves.Sights.{first-is}
-use Rattle.reduction.proofs.moves.Buffers.{wrote-right, fits-few}
+use Rattle.reduction.proofs.moves.Buffers.{wrote-right}
 use Rattle.reduction.proofs.moves.Marks.{Under, not-first, none-passed, started, start-before, tag-is}
 
 -- the nearest node above
@@ -80,11 +81,11 @@ module _ {w : Term} {out scratch stack : List ℕ} {o i d : ℕ} (k : Nearest w 
         long scratch (encode t) (behind f ++ rights c) i (k .sides .right),
         plug-size (f ∷ c) t,
         ap size (k .is),
-        fits-few w (k .fits),
+        within limits w (k .fits),
       )
 
   pub depth-few : d ≤ 512
-  depth-few = omega (arith, k .sides .depth, depth-below c (fill f t), ap nodes (k .is), fits-few w (k .fits))
+  depth-few = omega (arith, k .sides .depth, depth-below c (fill f t), ap nodes (k .is), within limits w (k .fits))
 
   pub in-stack : d - 1 < length stack
   in-stack = omega (arith, depth-few, k .sides .depth, k .sides .stack-room)

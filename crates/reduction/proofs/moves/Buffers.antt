@@ -2,16 +2,11 @@
 -- mark leaves of the marks below it. Assumes nothing.
 use Prim.Native.Nat.{ℕ, _+_, _-_, _≤_, _<_}
 use mathlib.Core.Path.{_≡_, sym, ap, _∙_}
-use mathlib.Core.Bool.{true}
 use mathlib.Core.List.{List, [], _∷_, _++_, append-assoc}
 use native.Mathlib.Omega.{arith}
 use lib.ListN.{length, take, drop, set, getD, length-append}
 use lib.Seq.{sets-eq, length-take-le, take-at, drop-at, getD-set-same, getD-set-other}
-use borrow.Author.Tests.{leb-true}
-use Rattle.rules.specs.Basic.{Bytes, _≤?_}
-use Rattle.rules.specs.Limits.{limits}
-use Rattle.rules.specs.Term.{Term, nodes, size, fits}
-use Rattle.laws.specs.free.Same.{both-true}
+use Rattle.rules.specs.Basic.{Bytes}
 use Rattle.buffer.specs.Wrote.{Wrote}
 use Rattle.reduction.specs.Hole.{Hole, Above, passed, lefts}
 use Rattle.reduction.specs.Standing.{mark, Held}
@@ -33,13 +28,6 @@ module _ {l xs l′ : Bytes} {i p : ℕ} (w : Wrote l i xs l′ p) (h : i + leng
       ap (λ (z : Bytes). drop i z) (split ∙ append-assoc (take i l) xs (drop (i + length xs) l))
       ∙ drop-at (take i l) (xs ++ drop (i + length xs) l) i front
       ∙ ap (λ (k : ℕ). xs ++ drop k l) (sym (w .ends))
-
--- what fits has at most 512 nodes and 4,096 bytes
-pub fits-few : (t : Term) → fits limits t ≡ true → (nodes t ≤ 512) × (size t ≤ 4096)
-unfolding fits
-fits-few t e =
-    let b = both-true (nodes t ≤? 512) (size t ≤? 4096) e in
-    (leb-true (nodes t) 512 (b .0), leb-true (size t) 4096 (b .1))
 
 -- ---- marks
 

@@ -7,7 +7,8 @@ use mathlib.Core.List.{[], _∷_, _++_, append-assoc, append-nil}
 use native.Mathlib.Omega.{arith}
 use lib.ListN.{length, length-append}
 use Rattle.rules.specs.Basic.{Bytes}
-use Rattle.rules.specs.Term.{Term, var, leaf, one, two, abs, both, branch, encode, size, nodes}
+use Rattle.rules.specs.Term.{Term, encode, size, nodes}
+use Rattle.laws.specs.size.Parts.{some-node}
 use Rattle.rules.specs.declared.Rule.{Rule}
 use Rattle.term.specs.Node.{tag}
 use Rattle.redex.specs.Searched.{reduces}
@@ -50,16 +51,6 @@ hole-counts (inAbs x) = omega arith
 hole-counts (inSource k x y b) = omega arith
 hole-counts (inBody x y e) = omega arith
 hole-counts (inScrutinee x y l r) = omega arith
-
-some-node : (t : Term) → 0 < nodes t
-unfolding nodes
-some-node (var x) = omega arith
-some-node (leaf k) = omega arith
-some-node (one k e) = omega arith
-some-node (two k a b) = omega arith
-some-node (abs x e) = omega arith
-some-node (both k x y e b) = omega arith
-some-node (branch x y e l r) = omega arith
 
 above-few : (c : Above) → length c < nodesAbove c + 1
 above-few [] = omega arith

@@ -6,8 +6,10 @@ use mathlib.Core.List.{List, _∷_, _++_, append-assoc}
 use native.Mathlib.Omega.{arith}
 use lib.ListN.{length, drop, set, length-append, length-set}
 use lib.Seq.{length-sets, slice}
+use Rattle.rules.specs.Limits.{limits}
 use Rattle.rules.specs.Basic.{Bytes}
 use Rattle.rules.specs.Term.{Term, encode, nodes, size}
+use Rattle.laws.specs.reading.Fits.{within}
 use Rattle.buffer.specs.Wrote.{Wrote}
 use Rattle.buffer.specs.Writing.{slice-is}
 use Rattle.term.proofs.node.Names.{drop-app, long}
@@ -16,7 +18,7 @@ use Rattle.reduction.specs.Quiet.{Quiet}
 use Rattle.reduction.specs.Standing.{Sides, Standing, Goes, Entering}
 use Rattle.reduction.proofs.moves.Holes.{fill-encode}
 use Rattle.reduction.proofs.moves.Contexts.{plug-size, depth-below}
-use Rattle.reduction.proofs.moves.Buffers.{wrote-left, fits-few, held-set}
+use Rattle.reduction.proofs.moves.Buffers.{wrote-left, held-set}
 
 module _ {w : Term} {out scratch stack : List ℕ} {o i d : ℕ} (s : Standing w out scratch stack o i d) where
   -- the two sides are the whole
@@ -32,10 +34,10 @@ module _ {w : Term} {out scratch stack : List ℕ} {o i d : ℕ} (s : Standing w
       )
 
   pub whole-short : o + (length scratch - i) ≤ 4096
-  whole-short = omega (arith, sides-size, fits-few w (s .fits))
+  whole-short = omega (arith, sides-size, within limits w (s .fits))
 
   pub depth-few : d < 512
-  depth-few = omega (arith, s .sides .depth, depth-below (s .above) (s .at), ap nodes (s .is), fits-few w (s .fits))
+  depth-few = omega (arith, s .sides .depth, depth-below (s .above) (s .at), ap nodes (s .is), within limits w (s .fits))
 
 module _ {w : Term} {out scratch stack : List ℕ} {o i d m : ℕ} (e : Entering w out scratch stack o i d m) where
   abbrev s : Standing w out scratch stack o i d

@@ -7,13 +7,13 @@ use native.Mathlib.Omega.{arith}
 use lib.ListN.{length, getD, length-append}
 use Rattle.rules.specs.Limits.{limits}
 use Rattle.rules.specs.Term.{Term, encode, nodes, size, fits}
+use Rattle.laws.specs.reading.Fits.{within}
 use Rattle.rules.specs.Step.{normal, step}
 use Rattle.term.proofs.node.Names.{long}
 use Rattle.reduction.specs.Hole.{Hole, fill, before, behind, Above, plug, lefts, rights}
 use Rattle.reduction.specs.Quiet.{Entered, Asleep, Quiet}
 use Rattle.reduction.specs.Standing.{Sides, Done, Ended}
 use Rattle.reduction.proofs.moves.Contexts.{plug-size, depth-below}
-use Rattle.reduction.proofs.moves.Buffers.{fits-few}
 use Rattle.reduction.proofs.moves.Marks.{Under}
 
 -- the nearest node above
@@ -70,11 +70,11 @@ module _ {w : Term} {out scratch stack : List ℕ} {o i d : ℕ} (k : Top w out 
         length-append (lefts c) (before f),
         length-append (behind f) (rights c),
         ap size (k .is),
-        fits-few w (k .fits),
+        within limits w (k .fits),
       )
 
   pub depth-few : d ≤ 512
-  depth-few = omega (arith, k .sides .depth, depth-below c (fill f t), ap nodes (k .is), fits-few w (k .fits))
+  depth-few = omega (arith, k .sides .depth, depth-below c (fill f t), ap nodes (k .is), within limits w (k .fits))
 
   pub in-stack : d - 1 < length stack
   in-stack = omega (arith, depth-few, k .sides .depth, k .sides .stack-room)

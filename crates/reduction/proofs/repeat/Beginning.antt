@@ -8,11 +8,11 @@ use lib.Seq.{slice, take-length}
 use Rattle.rules.specs.Basic.{Bytes}
 use Rattle.rules.specs.Limits.{limits, scratchRoom}
 use Rattle.rules.specs.Term.{Term, encode, size}
+use Rattle.laws.specs.reading.Fits.{within}
 use Rattle.rules.specs.declared.Counts.{Counts}
 use Rattle.rules.specs.Reduction.{noCounts, stopped, reduce}
 use Rattle.buffer.specs.Wrote.{Wrote}
 use Rattle.term.specs.Given.{Reads}
-use Rattle.reduction.proofs.moves.Buffers.{fits-few}
 use Rattle.reduction.specs.Standing.{Standing, Finds}
 use Rattle.reduction.specs.declared.place.Place.{Place}
 use Rattle.reduction.proofs.moves.Wholes.{stands-first}
@@ -25,7 +25,7 @@ use Rattle.reduction.proofs.repeat.Turns.{rests}
 module _ {term : Bytes} {n : ℕ} {out : Bytes} {t : Term} (d : Reads term n out t) (scratch : Bytes) (h : scratchRoom limits ≤ length scratch) where
   pub begin-room : (length term ≤ length scratch) × (length scratch - length term + (length term - 0) ≤ length scratch)
   begin-room =
-      let l : length term ≤ 4096 = omega (arith, ap (λ (z : Bytes). length z) (d .whole), fits-few t (d .fits)) in
+      let l : length term ≤ 4096 = omega (arith, ap (λ (z : Bytes). length z) (d .whole), within limits t (d .fits)) in
       (omega arith, omega arith)
 
   pub begins : {scratch₁ : Bytes} {p : ℕ} → Wrote scratch (length scratch - length term) (slice 0 (length term) term) scratch₁ p

@@ -8,13 +8,13 @@ use mathlib.Core.List.{[], _++_, append-nil, append-assoc}
 use native.Mathlib.Omega.{arith}
 use lib.ListN.{length, drop, replicate, length-append, length-replicate}
 use lib.Seq.{slice, drop-at, length-slice}
-use borrow.Author.Tests.{leb-true}
-use Rattle.rules.specs.Basic.{Bytes, _≤?_}
+use Rattle.rules.specs.Basic.{Bytes}
 use Rattle.rules.specs.Limits.{limits}
 use Rattle.rules.specs.Term.{Term, encode, nodes, size, fits}
 use Rattle.rules.specs.declared.Rule.{Rule}
 use Rattle.rules.specs.Step.{found, halfFits, stepFits}
 use Rattle.laws.specs.free.Same.{both-true}
+use Rattle.laws.specs.reading.Fits.{within}
 use Rattle.buffer.specs.Wrote.{Wrote}
 use Rattle.buffer.specs.Writing.{slice-split, slice-is, chain, wrote-length}
 use Rattle.term.proofs.node.Names.{drop-app}
@@ -25,10 +25,6 @@ use Rattle.contraction.specs.declared.part.Contracted.the-variants.{Made, Outgr
 use Rattle.contraction.specs.Contracting as contracting
 use Rattle.step.specs.Taken.{contracted, Contracting, Takes}
 use Rattle.step.specs.declared.take.Taken.the-variants.{Found, Outgrown as Outgrew}
-
-within : (t : Term) → fits limits t ≡ true → (nodes t ≤ 512) × (size t ≤ 4096)
-unfolding fits
-within t e = let h = both-true (nodes t ≤? 512) (size t ≤? 4096) e in (leb-true (nodes t) 512 (h .0), leb-true (size t) 4096 (h .1))
 
 module _ {src : Bytes} {n place : ℕ} {out : Bytes} {f : Term → Term} {t : Term} (j : Contracting src n place out f t) where
   abbrev left : Bytes
@@ -54,7 +50,7 @@ module _ {src : Bytes} {n place : ℕ} {out : Bytes} {f : Term → Term} {t : Te
 
   pub job : {work : Bytes} → 4096 ≤ length work → contracting.Contracting src place n (length src) (replicate 512 0) work t (j .rule) h u
   job c =
-      let w = within (f t) (j .fits) in
+      let w = within limits (f t) (j .fits) in
       record {
         redex =
             record {
@@ -132,7 +128,7 @@ module _ {src : Bytes} {n place : ℕ} {out : Bytes} {f : Term → Term} {t : Te
 
       whole-long : place + (k + (length src - end)) ≤ 4096
       whole-long =
-          let w = within (f u) (both-true (halfFits limits h) (fits limits (f u)) (is .passes) .1) in
+          let w = within limits (f u) (both-true (halfFits limits h) (fits limits (f u)) (is .passes) .1) in
           omega (
             arith,
             w,

@@ -16,6 +16,7 @@ use Rattle.rules.specs.Term.{Term, encode, nodes, size, fits}
 use Rattle.rules.specs.Free.{occurrences}
 use Rattle.rules.specs.Substitution.{subst}
 use Rattle.laws.specs.free.Same.{both-true}
+use Rattle.laws.specs.reading.Fits.{within}
 use Rattle.buffer.specs.Wrote.{Wrote}
 use Rattle.substitution.specs.Places.{places}
 use Rattle.substitution.specs.Spliced.{spliced, Left}
@@ -29,14 +30,6 @@ use Rattle.substitution.specs.Put.{Putting, Puts}
 use Rattle.substitution.specs.declared.put.Put.the-variants.{Written, Outgrown}
 
 -- ---- what breaks no limit
-
-pub within : (t : Term) → fits limits t ≡ true → (nodes t ≤ 512) × (size t ≤ 4096)
-unfolding fits
-within t e = let h = both-true (nodes t ≤? 512) (size t ≤? 4096) e in (leb-true (nodes t) 512 (h .0), leb-true (size t) 4096 (h .1))
-
-pub fits-yes : (t : Term) → nodes t ≤ 512 → size t ≤ 4096 → fits limits t ≡ true
-unfolding fits
-fits-yes t h k = rw (le-leb (nodes t) 512 h) (le-leb (size t) 4096 k)
 
 module _ (others rest : ℕ) (u : Term) where
   pub beside-yes : others + nodes u ≤ 512 → rest + size u ≤ 4096 → fitsBeside others rest u ≡ true
@@ -77,7 +70,7 @@ module _ {body : Bytes} {row : List ℕ} {count gap : ℕ} {value : Bytes} {m n 
 
   growth : Growth (length body) (nodes e) (count) gap (length value) m x e v
   growth =
-      let c = within v (j .value-is .fits) in
+      let c = within limits v (j .value-is .fits) in
       let d : length value ≡ size v = ap (λ (z : Bytes). length z) (j .value-is .bytes) in
       record {
         bytes-are = body-long;

@@ -10,13 +10,15 @@ use native.Mathlib.Omega.{arith}
 use lib.ListN.{length, take}
 use lib.Seq.{sets}
 use borrow.Author.Tests.{lt-leb, leb-true, leb-false}
-use Rattle.rules.specs.Basic.{Bytes, if_then_else_, _≤?_}
+use Rattle.rules.specs.Basic.{Bytes, _≤?_, if_then_else_}
 use Rattle.rules.specs.Limits.{limits}
 use Rattle.rules.specs.Name.{Name}
-use Rattle.rules.specs.Term.{Term, var, leaf, one, two, abs, both, branch, encode, nodes, size, fits}
+use Rattle.rules.specs.Term.{Term, encode, nodes, size, fits}
 use Rattle.rules.specs.Free.{occurrences}
 use Rattle.rules.specs.Substitution.{subst}
 use Rattle.laws.specs.size.SubstSize.{subst-nodes}
+use Rattle.laws.specs.size.Parts.{some-node}
+use Rattle.laws.specs.reading.Fits.{fits-yes}
 use Rattle.buffer.specs.Wrote.{Wrote}
 use Rattle.substitution.specs.Places.{places, Row}
 use Rattle.substitution.proofs.place.Writes.{wrote-part, held, from-start}
@@ -25,17 +27,7 @@ use Rattle.substitution.specs.Beside.{fitsBeside}
 use Rattle.substitution.specs.Put.{Putting, Turns, Puts}
 use Rattle.substitution.specs.declared.put.Put.{Put}
 use Rattle.substitution.specs.declared.put.Put.the-variants.{Written, Outgrown}
-use Rattle.substitution.proofs.put.Puts.{fits-yes, beside-yes, beside-within, beside-many}
-
-some-node : (t : Term) → 1 ≤ nodes t
-unfolding nodes
-some-node (var x) = omega arith
-some-node (leaf k) = omega arith
-some-node (one k e) = omega arith
-some-node (two k a b) = omega arith
-some-node (abs x e) = omega arith
-some-node (both k x y e b) = omega arith
-some-node (branch x y e l r) = omega arith
+use Rattle.substitution.proofs.put.Puts.{beside-yes, beside-within, beside-many}
 
 no-fewer : (y : Name) (w u : Term) → nodes u ≤ nodes (subst y w u)
 no-fewer y w u =
@@ -119,7 +111,7 @@ module _ {body : Bytes} {row : List ℕ} {many gap : ℕ} {a : Bytes} {k : ℕ} 
       half = went others u half₀ half₁ r l c half-made is
 
       fit : fits limits u ≡ true
-      fit = fits-yes u (omega (arith, half .fit)) (omega (arith, half .fit))
+      fit = fits-yes limits u (omega (arith, half .fit)) (omega (arith, half .fit))
 
       pub half-short : l ≤ 4096
       half-short = omega (arith, half .long, half .fit)

@@ -5,7 +5,8 @@ use mathlib.Core.List.{List, [], _∷_, _++_, append-nil}
 use native.Mathlib.Omega.{arith}
 use lib.ListN.{length, getD, length-append}
 use Rattle.rules.specs.Name.{Name}
-use Rattle.rules.specs.Term.{Term, var, leaf, one, two, abs, both, branch, encode, nodes, parts}
+use Rattle.rules.specs.Term.{Term, one, two, encode, nodes, parts}
+use Rattle.laws.specs.size.Parts.{nodesOfAll, parts-nodes}
 use Rattle.term.specs.Node.{encodeAll, namesAfter, partsAfter}
 use Rattle.term.specs.Place.{TermAt, TermsAt, NameAt, NamesAt}
 use Rattle.term.proofs.node.Names.{AfterIs, first-name, other-names, name-end}
@@ -13,27 +14,13 @@ use Rattle.term.proofs.node.Terms.{Some, apart-size, encodeAll-append, 
 use Rattle.term.specs.declared.span.Extent.{Extent}
 use Rattle.term.specs.Measured.{Measured, MeasuredTwo, Named}
 
-abbrev nodesAll : List Term → ℕ
-nodesAll [] = 0
-nodesAll (t ∷ ts) = nodes t + nodesAll ts
-
-nodes-parts : (t : Term) → nodes t ≡ 1 + nodesAll (parts t)
-unfolding nodes
-nodes-parts (var x) = refl
-nodes-parts (leaf k) = refl
-nodes-parts (one k e) = omega arith
-nodes-parts (two k a b) = omega arith
-nodes-parts (abs x e) = omega arith
-nodes-parts (both k x y e b) = omega arith
-nodes-parts (branch x y e l r) = omega arith
-
-nodes-append : (xs ys : List Term) → nodesAll (xs ++ ys) ≡ nodesAll xs + nodesAll ys
+nodes-append : (xs ys : List Term) → nodesOfAll (xs ++ ys) ≡ nodesOfAll xs + nodesOfAll ys
 nodes-append [] ys = omega arith
 nodes-append (x ∷ xs) ys = omega (arith, nodes-append xs ys)
 
 -- the n terms at i end at r, and have m nodes
 abbrev pub SpanIs : List ℕ → ℕ → ℕ → ℕ → ℕ → Type 0
-SpanIs s i n r m = (ts : List Term) → TermsAt s i n ts → (r ≡ i + length (encodeAll ts)) × (m ≡ nodesAll ts)
+SpanIs s i n r m = (ts : List Term) → TermsAt s i n ts → (r ≡ i + length (encodeAll ts)) × (m ≡ nodesOfAll ts)
 
 -- `count` nodes were met up to i; whatever the rest has, the whole has that and them
 pub record Going (s : List ℕ) (at i left count : ℕ) : Type 0 where
@@ -80,7 +67,7 @@ module _ (s : List ℕ) (at i n count q p h : ℕ) (g : Going s at i n count) (l
           ap (λ (z : List ℕ). length z) (encodeAll-append (parts t) ts),
           length-append (encodeAll (parts t)) (encodeAll ts),
         ),
-        omega (arith, e .1, nodes-parts t, nodes-append (parts t) ts),
+        omega (arith, e .1, parts-nodes t, nodes-append (parts t) ts),
       )
 
   pub turn : Going s at h (n - 1 + p) (count + 1)
