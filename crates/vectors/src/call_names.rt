@@ -1,7 +1,5 @@
 // The calls by number, as the list has them, in the order of their shapes; and by name, as they are printed. Number 0 stands for all of them.
-use extract::extractor;
 use libc::STDOUT_FILENO;
-use term::child;
 
 pub const CHECK_TERM: u8 = 1;
 
@@ -65,8 +63,8 @@ fn print_without_output(call: u8) {
         3 => print(b"proof::check_proof"),
         4 => print(b"step::is_normal"),
         5 => print(b"straight::is_straight"),
-        6 => print(b"child::child_fault"),
-        _ => print(b"child::child"),
+        6 => print(b"term::child::child_fault"),
+        _ => print(b"term::child::child"),
     }
 }
 
@@ -88,6 +86,6 @@ fn print_with_scratch(call: u8) {
         16 => print(b"step::step"),
         17 => print(b"reduction::normalize_bounded"),
         18 => print(b"extract::extract"),
-        _ => print(b"extractor::Extractor::extract, two by each Extractor"),
+        _ => print(b"extract::extractor::Extractor::extract, two by each Extractor"),
     }
 }

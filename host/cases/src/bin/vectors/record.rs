@@ -46,10 +46,10 @@ pub const CALLS: [(Call, &str); 19] = [
     (Call::CheckTerm, "reader::check_term"),
     (Call::CheckFormula, "reader::check_formula"),
     (Call::CheckProof, "proof::check_proof"),
-    (Call::IsNormal, "stepping::is_normal"),
-    (Call::IsStraight, "straightness::is_straight"),
-    (Call::ChildFault, "child::child_fault"),
-    (Call::Child, "child::child"),
+    (Call::IsNormal, "step::is_normal"),
+    (Call::IsStraight, "straight::is_straight"),
+    (Call::ChildFault, "term::child::child_fault"),
+    (Call::Child, "term::child::child"),
     (Call::FreeVars, "free::free_vars"),
     (Call::TermText, "term_text::pretty"),
     (Call::FormulaText, "formula_text::pretty"),
@@ -58,10 +58,10 @@ pub const CALLS: [(Call, &str); 19] = [
     (Call::LoadTerm, "stored::load of a term"),
     (Call::LoadProof, "stored::load of a proof"),
     (Call::Substitute, "substitution::substitute"),
-    (Call::Step, "stepping::step"),
+    (Call::Step, "step::step"),
     (Call::NormalizeBounded, "reduction::normalize_bounded"),
     (Call::Extract, "extract::extract"),
-    (Call::Extractor, "extractor::Extractor::extract, two by each Extractor"),
+    (Call::Extractor, "extract::extractor::Extractor::extract, two by each Extractor"),
 ];
 
 pub struct Case {
