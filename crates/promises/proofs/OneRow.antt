@@ -7,10 +7,10 @@ use Rattle.rules.specs.Limits.{limits, entryRoom}
 use Rattle.rules.specs.Calls.{Entry, noEntry}
 
 abbrev row : List Entry
-row = replicate 512 noEntry
+row = replicate (entryRoom limits) noEntry
 
 enough : entryRoom limits ≤ length row
-enough = omega (arith, length-replicate {A = Entry} 512 noEntry)
+enough = omega (arith, length-replicate {A = Entry} (entryRoom limits) noEntry)
 
 abbrev Every : (List Entry → Type 0) → Type 0
 Every P = (es : List Entry) → entryRoom limits ≤ length es → P es

@@ -1,8 +1,10 @@
 -- Inputs for the tables: of each call one that is accepted and gives it something to do, and one that is refused. What is lent is full of sevens.
 -- Assumes nothing: these are definitions.
+use Prim.Native.Nat.{_+_}
 use mathlib.Core.List.{List, []}
 use lib.ListN.{replicate}
 use Rattle.rules.specs.Basic.{Bytes, say, _‥_}
+use Rattle.rules.specs.Limits.{limits, outputRoom, textRoom, formulaTextRoom, storedRoom, scratchRoom, entryRoom}
 use Rattle.rules.specs.Calls.{Entry}
 use Rattle.rules.specs.declared.Kind.the-variants.{Term as aTerm}
 use Rattle.rules.proofs.Notation.{hex, repeat}
@@ -10,25 +12,25 @@ use Rattle.promises.specs.PublicCalls.{Call, Input, checkTerm, checkForm
 
 -- lent buffers, each as long as is asked
 abbrev pub output : Bytes
-output = replicate 4096 7
+output = replicate (outputRoom limits) 7
 
 abbrev pub scratch : Bytes
-scratch = replicate 8192 7
+scratch = replicate (scratchRoom limits) 7
 
 abbrev pub textOutput : Bytes
-textOutput = replicate 20480 7
+textOutput = replicate (textRoom limits) 7
 
 abbrev pub formulaTextOutput : Bytes
-formulaTextOutput = replicate 11264 7
+formulaTextOutput = replicate (formulaTextRoom limits) 7
 
 abbrev pub storedOutput : Bytes
-storedOutput = replicate 4608 7
+storedOutput = replicate (storedRoom limits) 7
 
 abbrev pub printedOutput : Bytes
-printedOutput = replicate 20992 7
+printedOutput = replicate (textRoom limits + 512) 7
 
 abbrev pub entries : List Entry
-entries = replicate 512 (7, 7)
+entries = replicate (entryRoom limits) (7, 7)
 
 -- P7, in bytes
 abbrev pub twoStepsBytes : Bytes
