@@ -1,7 +1,5 @@
 -- What is told of a bounded reduction, and what a step adds. Assumes nothing: these are definitions.
-use Prim.Native.Nat.{ℕ, _+_, _<_}
-use mathlib.Core.Path.{_≡_}
-use mathlib.Core.Bool.{Bool, true, false}
+use Prim.Native.Nat.{ℕ, _+_}
 use Rattle.rules.specs.Term.{size}
 use Rattle.rules.specs.declared.Rule.{Rule}
 use Rattle.rules.specs.Reduction.{Reduced, stopped, outgrew, plus}
@@ -13,11 +11,6 @@ use Rattle.reduction.specs.declared.course.Repeated.the-variants.{Stoppe
 abbrev pub repeatedOf : Reduced → Repeated
 repeatedOf (stopped n c b t) = Stopped n c b (size t)
 repeatedOf (outgrew n t) = Outgrown n (size t)
-
--- whether so many steps are all that the limit allows
-pub record Limited (steps limit : ℕ) (r : Bool) : Type 0 where
-  pub reached : r ≡ true → steps ≡ limit
-  pub left : r ≡ false → steps < limit
 
 -- one step more, one more of its rule
 abbrev pub onward : Course → Rule → ℕ → Place → Course

@@ -63,7 +63,7 @@ module _ {w : Term} {out scratch stack : List ℕ} {o i d n : ℕ} {places : Lis
   abbrev next : Term
   next = plug (s .above) u
 
-  pub short : l ≤ 4096
+  pub short : l ≤ limits .bytes
   short = whole-short s
 
   pub job : Contracting scratch i n l places out₁ t (x .rule) (x .half) u
@@ -131,7 +131,7 @@ module _ {w : Term} {out scratch stack : List ℕ} {o i d n : ℕ} {places : Lis
       fits-next = both-true (halfFits limits (x .half)) (fits limits next) passes .1
 
       -- the new whole is short, so there is room for it in front of what follows
-      fits-before : o + (size u + (length scratch - (i + size t))) ≤ 4096
+      fits-before : o + (size u + (length scratch - (i + size t))) ≤ limits .bytes
       fits-before =
           omega (
             arith,
@@ -153,7 +153,7 @@ module _ {w : Term} {out scratch stack : List ℕ} {o i d n : ℕ} {places : Lis
           sym (omega (arith, made-long, length-append (slice 0 k made₁) (slice end (i + size t) scratch), length-slice end (i + size t) scratch end-inside))
           ∙ ap (λ (z : Bytes). length z) (is .replaced .bytes)
 
-      pub made-room : (k ≤ end) × (k ≤ 4096) × (end - k + k ≡ end) × (end ≤ length scratch)
+      pub made-room : (k ≤ end) × (k ≤ limits .bytes) × (end - k + k ≡ end) × (end ≤ length scratch)
       made-room =
           let b = fits-before in
           let f = end-inside in

@@ -18,7 +18,7 @@ use Rattle.term.proofs.node.Terms.{at-tag, at-small, at-inside}
 use Rattle.redex.specs.Searched.{reduces}
 use Rattle.reduction.specs.Hole.{Hole, fill, passed, before, behind, Above, plug, lefts, rights}
 use Rattle.reduction.specs.Quiet.{firstPart, Entered, Asleep, Quiet}
-use Rattle.reduction.specs.Standing.{Sides, Standing, Nearly, Landed}
+use Rattle.reduction.specs.Standing.{secondMark, Sides, Standing, Nearly, Landed}
 use Rattle.reduction.proofs.moves.Holes.{fill-encode}
 use Rattle.reduction.proofs.moves.Contexts.{plug-size, depth-below}
 use Rattle.reduction.proofs.moves.Sights.{first-is}
@@ -73,7 +73,7 @@ module _ {w : Term} {out scratch stack : List ℕ} {o i d : ℕ} (k : Nearest w 
   pub new-small : getD scratch i 0 < 18
   new-small = at-small scratch i t stands-at
 
-  short : o + (length scratch - i) ≤ 4096
+  short : o + (length scratch - i) ≤ limits .bytes
   short =
       omega (
         arith,
@@ -84,7 +84,7 @@ module _ {w : Term} {out scratch stack : List ℕ} {o i d : ℕ} (k : Nearest w 
         within limits w (k .fits),
       )
 
-  pub depth-few : d ≤ 512
+  pub depth-few : d ≤ limits .nodes
   depth-few = omega (arith, k .sides .depth, depth-below c (fill f t), ap nodes (k .is), within limits w (k .fits))
 
   pub in-stack : d - 1 < length stack
@@ -105,10 +105,10 @@ module _ {w : Term} {out scratch stack : List ℕ} {o i d : ℕ} (k : Nearest w 
   stays : Asleep f t → Standing w out scratch stack o i d
   stays a = record { above = f ∷ c; at = t; is = k .is; quiet = (k .enters, a, k .quiet); fits = k .fits; sides = k .sides }
 
-  pub stays-second : getD stack (d - 1) 0 ≡ 8192 → Standing w out scratch stack o i d
+  pub stays-second : getD stack (d - 1) 0 ≡ secondMark → Standing w out scratch stack o i d
   stays-second e = stays (k .second (λ p. not-first under e p))
 
-  module _ (ne : getD stack (d - 1) 0 ≡ 8192 → ⊥) where
+  module _ (ne : getD stack (d - 1) 0 ≡ secondMark → ⊥) where
     abbrev start : ℕ
     start = getD stack (d - 1) 0
 

@@ -33,10 +33,10 @@ module _ {w : Term} {out scratch stack : List ℕ} {o i d : ℕ} (s : Standing w
         ap size (s .is),
       )
 
-  pub whole-short : o + (length scratch - i) ≤ 4096
+  pub whole-short : o + (length scratch - i) ≤ limits .bytes
   whole-short = omega (arith, sides-size, within limits w (s .fits))
 
-  pub depth-few : d < 512
+  pub depth-few : d < limits .nodes
   depth-few = omega (arith, s .sides .depth, depth-below (s .above) (s .at), ap nodes (s .is), within limits w (s .fits))
 
 module _ {w : Term} {out scratch stack : List ℕ} {o i d m : ℕ} (e : Entering w out scratch stack o i d m) where
@@ -60,7 +60,7 @@ module _ {w : Term} {out scratch stack : List ℕ} {o i d m : ℕ} (e : Entering
       ∙ append-assoc (before f) (encode a ++ behind f) (rights (s .above))
       ∙ ap (λ (z : Bytes). before f ++ z) (append-assoc (encode a) (behind f) (rights (s .above)))
 
-  pub enter-depth : (d < 512) × (d < length stack) × (o < 65536)
+  pub enter-depth : (d < limits .nodes) × (d < length stack) × (o < 65536)
   enter-depth = (depth-few (e .stands), omega (arith, depth-few (e .stands), e .stands .sides .stack-room), omega (arith, whole-short (e .stands)))
 
   pub enter-room : (i ≤ m) × (m ≤ length scratch) × (o + (m - i) ≤ length out)

@@ -60,7 +60,7 @@ module _ {w : Term} {out scratch stack : List ℕ} {o i d : ℕ} (k : Top w out 
   left-long =
       omega (arith, k .sides .long, length-append (lefts c ++ before f) (encode t), length-append (lefts c) (before f))
 
-  pub sides-short : o + (length scratch - i) ≤ 4096
+  pub sides-short : o + (length scratch - i) ≤ limits .bytes
   sides-short =
       omega (
         arith,
@@ -73,7 +73,7 @@ module _ {w : Term} {out scratch stack : List ℕ} {o i d : ℕ} (k : Top w out 
         within limits w (k .fits),
       )
 
-  pub depth-few : d ≤ 512
+  pub depth-few : d ≤ limits .nodes
   depth-few = omega (arith, k .sides .depth, depth-below c (fill f t), ap nodes (k .is), within limits w (k .fits))
 
   pub in-stack : d - 1 < length stack

@@ -1,10 +1,10 @@
--- `turn::contract` meets its contract: the redex is contracted, or outgrows the limits and what is still to come is copied. Assumes nothing.
+-- `turn::contract_here` meets its contract: the redex is contracted, or outgrows the limits and what is still to come is copied. Assumes nothing.
 use native.Mathlib.Omega.{arith}
 use Rattle.reduction.proofs.moves.Wholes.{join-room}
 use Rattle.reduction.proofs.repeat.Turns.{fires, outgrows, goes, is-over, is-made}
 use borrow.Author.Needs.{needs}
-use Rattle.reduction.proofs.turn.contract.Statement.{statement}
-use Rattle.reduction.proofs.turn.contract.Tie as tie
+use Rattle.reduction.proofs.turn.contract_here.Statement.{statement}
+use Rattle.reduction.proofs.turn.contract_here.Tie as tie
 
 fire-requires : tie.Need-fire-requires
 fire-requires c κs = let a = c .before .before .before .before .before .before .before .before .pre in (a .0 .2 .whole, fires (a .0 .2) (a .1))
@@ -45,8 +45,8 @@ same-length-6 c = search needs
 returns-2 : tie.Need-returns-2
 returns-2 c = (λ l t b. rw (c .one-more .ensures) (goes b (is-made _ _ _ (c .before .before .before .before .before .before .before .before .fire .result) (c .before .before .before .before .before .before .before .before .fire .ensures .0 (b .whole) (fires b (c .before .before .before .before .before .before .before .before .before .before .before .before .before .before .before .before .before .pre .1))) (c .before .before .rule .given .1))), c .before .before .before .before .before .before .before .before .fire .ensures .1)
 
-pub contract-spec : {M : Type 1} → statement M
-contract-spec =
+pub contract-here-spec : {M : Type 1} → statement M
+contract-here-spec =
     tie.close
     (tie.spec
     fire-requires
