@@ -1,6 +1,6 @@
 -- A part that stays is smaller than its redex, so it fits; at the end of the redex it is not touched. Assumes nothing.
 use Prim.Native.Nat.{ℕ, _+_, _-_, _≤_}
-use mathlib.Core.Path.{_≡_, ap, _∙_}
+use mathlib.Core.Path.{_≡_, refl, ap, _∙_}
 use mathlib.Core.Option.{none}
 use mathlib.Core.List.{[], _∷_}
 use native.Mathlib.Omega.{arith}
@@ -25,10 +25,12 @@ use Rattle.contraction.proofs.part.Smaller.{smaller-fits}
 module _ {s : Bytes} {at n l : ℕ} {t : Term} (j : Redex s at n l t) where
   -- at the end of the redex
   pub stays : {p m : ℕ} {u : Term} → TermAt s p u → at + size t ≡ p + size u → at ≤ p → nodes u ≤ nodes t → m ≡ n - nodes t + nodes u
-      → (rule : Rule) (made : Bytes) → Contracts s at n l t rule none u made (Made rule 0 p m)
+      → (rule : Rule) (made : Bytes) → Contracts s at n l t rule none u made (Made (record { rule = rule; size = 0; end = p; nodes = m }))
   stays {p} {m} {u} w e h le em rule made =
-      becomes 0 p (smaller-fits j u le (omega arith)) (ap (λ (k : ℕ). Made rule 0 p k) em)
+      becomes _ (smaller-fits j u le (omega arith)) refl
       (record {
+        rule = refl;
+        count = em;
         inside = omega arith;
         written = omega arith;
         bytes = ap (λ (k : ℕ). slice p k s) e ∙ slice-is p s (encode u) (w .rest) (w .bytes);
@@ -40,7 +42,7 @@ module _ {s : Bytes} {at n l : ℕ} {t : Term} (j : Redex s at n l t) where
       pub gone-nodes : heads + r .nodes ≤ n
       gone-nodes = omega (arith, m .nodes, i .count, j .nodes-in)
 
-      pub second-stays : (rule : Rule) (made : Bytes) → Contracts s at n l t rule none b made (Made rule 0 (r .next) (n - heads - r .nodes))
+      pub second-stays : (rule : Rule) (made : Bytes) → Contracts s at n l t rule none b made (Made (record { rule = rule; size = 0; end = r .next; nodes = n - heads - r .nodes }))
       second-stays rule made =
           stays (first s (r .next) 1 b [] (others s from 2 a (b ∷ []) (i .row) (r .next) (m .next))) (omega (arith, i .ends, m .next)) (omega (arith, i .past, m .next))
           (omega (arith, i .count)) (omega (arith, i .count, m .nodes, j .nodes-in)) rule made
@@ -57,15 +59,15 @@ module _ {s : Bytes} {at n l : ℕ} {t : Term} (j : Redex s at n l t) where
       first-room h = (omega (arith, m .second), omega (arith, m .second, at-end s from a (a-at i m)), omega (arith, m .second, i .ends, i .past, j .bytes-in, j .short))
 
       pub first-kept : {rule : Rule} {made made′ : Bytes} {z : ℕ} → 4096 ≤ length made → Wrote made 0 (slice from (r .second) s) made′ z
-          → Contracts s at n l t rule none a made′ (Made rule z (r .end) (n - heads - r .b))
+          → Contracts s at n l t rule none a made′ (Made (record { rule = rule; size = z; end = r .end; nodes = n - heads - r .b }))
       first-kept {rule} {made} {made′} {z} h x =
           let w = a-at i m in
           let e : slice from (r .second) s ≡ encode a = ap (λ (k : ℕ). slice from k s) (m .second) ∙ slice-is from s (encode a) (w .rest) (w .bytes) in
           let y : Wrote made 0 (encode a) made′ z = rw e at x in
           let d : n - heads - r .b ≡ n - nodes t + nodes a = omega (arith, m .b-nodes, i .count, j .nodes-in) in
           let g : r .end ≡ at + size t = omega (arith, m .second, m .end, i .ends) in
-          becomes z (r .end) (smaller-fits j a (omega (arith, i .count)) (omega (arith, i .ends, i .past))) (ap (λ (k : ℕ). Made rule z (r .end) k) d)
-          (all-written j a y (omega (arith, y .ends, i .ends, i .past, j .bytes-in, j .short)) g)
+          becomes _ (smaller-fits j a (omega (arith, i .count)) (omega (arith, i .ends, i .past))) refl
+          (all-written j a y (omega (arith, y .ends, i .ends, i .past, j .bytes-in, j .short)) g d)
 
 module _ {s : Bytes} {at n l : ℕ} where
   -- Fst and Snd of Pair, and Discard of Promote
@@ -84,6 +86,6 @@ module _ {s : Bytes} {at n l : ℕ} where
     unfolding nodes
     one-bounds = (omega (arith, inside j, long), omega (arith, j .nodes-in))
 
-    pub one-stays : (rule : Rule) (made : Bytes) → Contracts s at n l (one k (one h v)) rule none v made (Made rule 0 (at + 2) (n - 2))
+    pub one-stays : (rule : Rule) (made : Bytes) → Contracts s at n l (one k (one h v)) rule none v made (Made (record { rule = rule; size = 0; end = at + 2; nodes = n - 2 }))
     unfolding nodes
     one-stays rule made = stays j (of-one k h v (j .stands)) (omega (arith, long)) (omega arith) (omega arith) (omega (arith, j .nodes-in)) rule made

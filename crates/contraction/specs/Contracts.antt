@@ -15,6 +15,7 @@ pub use Rattle.substitution.specs.Places.{Row}
 use Rattle.substitution.specs.declared.put.Put.{Put}
 use Rattle.substitution.specs.declared.put.Put.the-variants.{Written, Outgrown as Outgrew}
 use Rattle.contraction.specs.Beside.{fitsAround}
+use Rattle.contraction.specs.declared.part.Contraction.{Contraction}
 use Rattle.contraction.specs.declared.part.Contracted.{Contracted}
 use Rattle.contraction.specs.declared.part.Contracted.the-variants.{Made, Outgrown}
 
@@ -27,18 +28,20 @@ pub record Redex (s : Bytes) (at n l : ℕ) (t : Term) : Type 0 where
   pub few : n ≤ limits .nodes
   pub short : l ≤ limits .bytes
 
--- u is what was written, k bytes, and what stands from `end` to the end of t
-pub record Replaced (s : Bytes) (at : ℕ) (t u : Term) (made : Bytes) (k end : ℕ) : Type 0 where
-  pub inside : end ≤ at + size t
-  pub written : k ≤ length made
-  pub bytes : slice 0 k made ‥ slice end (at + size t) s ≡ encode u
+-- the rule r made u, in a whole of n nodes: u is what was written, and what stands from m .end to the end of t
+pub record Replaced (s : Bytes) (at n : ℕ) (t : Term) (r : Rule) (u : Term) (made : Bytes) (m : Contraction) : Type 0 where
+  pub rule : m .rule ≡ r
+  pub count : m .nodes ≡ n - nodes t + nodes u
+  pub inside : m .end ≤ at + size t
+  pub written : m .size ≤ length made
+  pub bytes : slice 0 (m .size) made ‥ slice (m .end) (at + size t) s ≡ encode u
 
 -- the rule r makes u of t, if the whole with u for t fits, and what was there halfway fits by itself
 pub data Contracts (s : Bytes) (at n l : ℕ) (t : Term) (r : Rule) (h : Option Term) (u : Term) (made : Bytes) (c : Contracted) : Type 0 where
-  becomes : (k end : ℕ) → (halfFits limits h && fitsAround n l t u) ≡ true → c ≡ Made r k end (n - nodes t + nodes u) → Replaced s at t u made k end → Contracts s at n l t r h u made c
+  becomes : (m : Contraction) → (halfFits limits h && fitsAround n l t u) ≡ true → c ≡ Made m → Replaced s at n t r u made m → Contracts s at n l t r h u made c
   outgrows : (halfFits limits h && fitsAround n l t u) ≡ false → c ≡ Outgrown → Contracts s at n l t r h u made c
 
--- what was put there, by a rule, for a redex that ends so
-abbrev pub told : Rule → (end : ℕ) → Put → Contracted
-told r e (Written s n) = Made r s e n
-told r e Outgrew = Outgrown
+-- what was put in the place of a whole redex, which ends so
+abbrev pub contractedOf : Rule → (end : ℕ) → Put → Contracted
+contractedOf r e (Written s n) = Made (record { rule = r; size = s; end = e; nodes = n })
+contractedOf r e Outgrew = Outgrown

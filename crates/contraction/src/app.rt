@@ -13,6 +13,7 @@ ghost use Rattle.substitution.specs.Places.{Row, Held};
 ghost use Rattle.substitution.specs.Put.{Room};
 ghost use Rattle.contraction.specs.Contracts.{Redex, Contracts};
 use crate::part::Contracted;
+use crate::part::Contraction;
 use crate::part::Part;
 use crate::part::find_in;
 use crate::part::put_here;
@@ -54,12 +55,12 @@ pub fn apply(
     let gap = found.gap;
     if ends_body(places, found.count, gap, arg - body) {
         let size = run::copy(s, body, arg - gap, made, 0);
-        return Contracted::Made {
+        return Contracted::Made(Contraction {
             rule: Rule::App,
             size,
             end: arg,
             nodes: nodes - 3,
-        };
+        });
     }
     let value = span(s, arg);
     let part = Part {

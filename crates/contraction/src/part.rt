@@ -10,8 +10,9 @@ ghost use Rattle.rules.specs.Substitution.{subst};
 ghost use Rattle.term.specs.Place.{TermAt};
 ghost use Rattle.substitution.specs.Places.{Row};
 ghost use Rattle.substitution.specs.Put.{Room};
-ghost use Rattle.contraction.specs.Contracts.{Contracts, told as toldOf};
+ghost use Rattle.contraction.specs.Contracts.{Contracts, contractedOf};
 ghost use Rattle.contraction.specs.Parts.{Kept, Placing, Pairing};
+use rules::MOST_BYTES;
 use rules::MOST_NODES;
 use rules::Rule;
 use substitution::place::find_places;
@@ -19,15 +20,18 @@ use substitution::put::Put;
 use substitution::put::in_turn;
 use substitution::put::put_in;
 
-// What becomes of a redex: the rule, and the nodes of the new whole. The redex's bytes up to `end` are replaced by so many that were
-// written; those behind stay, and are the tail of what it becomes. Or the new whole would outgrow the limits.
+// What a contraction made: its rule, and the nodes of the new whole. The redex's bytes up to `end` are replaced by the `size` that were
+// written; those behind stay, and are the tail of what it becomes.
+pub struct Contraction {
+    pub rule: Rule,
+    pub size: usize,
+    pub end: usize,
+    pub nodes: usize,
+}
+
+// Or the new whole would outgrow the limits.
 pub enum Contracted {
-    Made {
-        rule: Rule,
-        size: usize,
-        end: usize,
-        nodes: usize,
-    },
+    Made(Contraction),
     Outgrown,
 }
 
@@ -38,17 +42,20 @@ pub struct Part {
     pub nodes: usize,
 }
 
-fn told(rule: Rule, end: usize, put: Put) -> Contracted
-    ensures { λ r. ⌜ r ≡ toldOf rule end put ⌝ }
-{
-    match put {
-        Put::Written { size, nodes } => Contracted::Made {
-            rule,
-            size,
-            end,
-            nodes,
-        },
-        Put::Outgrown => Contracted::Outgrown,
+impl Contracted {
+    // What was put in the place of a whole redex, which ends at `end`.
+    fn of_put(rule: Rule, end: usize, put: Put) -> Contracted
+        ensures { λ r. ⌜ r ≡ contractedOf rule end put ⌝ }
+    {
+        match put {
+            Put::Written { size, nodes } => Contracted::Made(Contraction {
+                rule,
+                size,
+                end,
+                nodes,
+            }),
+            Put::Outgrown => Contracted::Outgrown,
+        }
     }
 }
 
@@ -116,7 +123,7 @@ pub fn put_here(
         whole,
         made,
     );
-    told(rule, end, put)
+    Contracted::of_put(rule, end, put)
 }
 
 // The redex at `at` becomes the body, which stands behind b, with a for x, then b for y in all that results. The names stand at
@@ -139,7 +146,7 @@ pub fn both(
     ensures { λ c. ⌜ ((n : ℕ) → (t : Term) → (x : Name) → (y : Name) → (e : Term) → (v : Term) → (w : Term) → Pairing (now (s .entry)) at middle past a b nodes length n t x y e v w → Contracts (now (s .entry)) at n length t rule (some (subst x v e)) (subst y w (subst x v e)) (now (made .exit)) c) ⌝ }
     ensures { λ _. ⌜ Row (now (places .exit)) ⌝ }
 {
-    let mut half = [0u8; 4096];
+    let mut half = [0u8; MOST_BYTES];
     let body = b.end;
     let found = find_in(s, body, at + 2, middle, places);
     let end = found.end;
@@ -162,5 +169,5 @@ pub fn both(
         &mut half,
         made,
     );
-    told(rule, end, put)
+    Contracted::of_put(rule, end, put)
 }

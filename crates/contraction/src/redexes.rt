@@ -9,6 +9,7 @@ ghost use Rattle.rules.specs.Substitution.{subst};
 ghost use Rattle.substitution.specs.Put.{Room};
 ghost use Rattle.contraction.specs.Contracts.{Redex, Contracts, Row};
 use crate::part::Contracted;
+use crate::part::Contraction;
 use crate::part::Part;
 use crate::part::both;
 use buffer::run;
@@ -71,12 +72,12 @@ pub fn first(s: &[u8], at: usize, nodes: usize, made: &mut [u8]) -> Contracted
     let a = at + 2;
     let row = span_two(s, a);
     let size = run::copy(s, a, row.second, made, 0);
-    Contracted::Made {
+    Contracted::Made(Contraction {
         rule: Rule::Fst,
         size,
         end: row.end,
         nodes: nodes - 2 - row.b,
-    }
+    })
 }
 
 // Snd of Pair.
@@ -85,12 +86,12 @@ pub fn second(s: &[u8], at: usize, nodes: usize) -> Contracted
     ensures { λ c. ⌜ ((l : ℕ) → (a : Term) → (b : Term) → Redex (now (s .entry)) at nodes l (one snd (two pair a b)) → (made : Bytes) → Contracts (now (s .entry)) at nodes l (one snd (two pair a b)) Snd none b made c) ⌝ }
 {
     let gone = span(s, at + 2);
-    Contracted::Made {
+    Contracted::Made(Contraction {
         rule: Rule::Snd,
         size: 0,
         end: gone.next,
         nodes: nodes - 2 - gone.nodes,
-    }
+    })
 }
 
 // Derelict of Promote.
@@ -98,12 +99,12 @@ pub fn derelict(s: &[u8], at: usize, nodes: usize) -> Contracted
     requires { ⌜ ((l : ℕ) × (v : Term) × Redex (now s) at nodes l (one aDerelict (one promote v))) ⌝ }
     ensures { λ c. ⌜ ((l : ℕ) → (v : Term) → Redex (now (s .entry)) at nodes l (one aDerelict (one promote v)) → (made : Bytes) → Contracts (now (s .entry)) at nodes l (one aDerelict (one promote v)) Derelict none v made c) ⌝ }
 {
-    Contracted::Made {
+    Contracted::Made(Contraction {
         rule: Rule::Derelict,
         size: 0,
         end: at + 2,
         nodes: nodes - 2,
-    }
+    })
 }
 
 // Copy of Promote: the whole Promote for x, then for y.
@@ -150,10 +151,10 @@ pub fn discard(s: &[u8], at: usize, nodes: usize) -> Contracted
     ensures { λ c. ⌜ ((l : ℕ) → (v : Term) → (e : Term) → Redex (now (s .entry)) at nodes l (two aDiscard (one promote v) e) → (made : Bytes) → Contracts (now (s .entry)) at nodes l (two aDiscard (one promote v) e) Discard none e made c) ⌝ }
 {
     let gone = span(s, at + 1);
-    Contracted::Made {
+    Contracted::Made(Contraction {
         rule: Rule::Discard,
         size: 0,
         end: gone.next,
         nodes: nodes - 1 - gone.nodes,
-    }
+    })
 }

@@ -7,8 +7,7 @@ use lib.ListN.{length, replicate}
 use lib.Seq.{sets, length-sets}
 use borrow.Author.Tests.{le-leb, lt-leb}
 use Rattle.rules.specs.Basic.{Bytes}
-use Rattle.rules.specs.Limits.{limits}
-use Rattle.rules.specs.declared.Rule.{Rule}
+use Rattle.rules.specs.Limits.{limits, outputRoom}
 use Rattle.rules.specs.declared.Refusal.{Refusal}
 use Rattle.rules.specs.Refusal.{good, refuse, mapped, answered}
 use Rattle.rules.specs.declared.Answer.the-variants.{Good, Refused}
@@ -26,6 +25,7 @@ use Rattle.buffer.specs.Writing.{filled-up}
 use Rattle.substitution.proofs.place.Writes.{zeros}
 use Rattle.term.specs.Given.{Reads}
 use Rattle.step.specs.Taken.{Takes}
+use Rattle.step.specs.declared.Found.{Found as Step}
 use Rattle.step.specs.declared.take.Taken.{Taken}
 use Rattle.step.specs.declared.take.Taken.the-variants.{Normal, Found, Outgrown}
 use Rattle.step.specs.Answers.{stepAnswered, normalAnswered, Stepping}
@@ -37,17 +37,17 @@ use Rattle.step.proofs.Taking.{Fitted, Over, took, took-over, took-noth
 -- ---- a step of a term that was read, by what was taken
 
 module _ {s : rules.Stepped} {out out₁ : Bytes} {k : Taken} (d : Takes s out out₁ k) where
-  module _ {r : Rule} {p l : ℕ} (e : k ≡ Found r p l) (h : 4096 ≤ length out) where
-    fitted : Fitted s r p l
+  module _ {f : Step} (e : k ≡ Found f) (h : outputRoom limits ≤ length out) where
+    fitted : Fitted s f
     fitted = took s (sym (d .says) ∙ e)
 
     written : out₁ ≡ sets out 0 (encode (fitted .result))
     written = d .leaves ∙ writes fitted out
 
-    pub room : l ≤ length out₁
+    pub room : f .length ≤ length out₁
     room =
-        let f = fitted in
-        omega (arith, ap (λ (z : Bytes). length z) written, length-sets out 0 (encode (f .result)), within limits (f .result) (f .fits), f .long)
+        let w = fitted in
+        omega (arith, ap (λ (z : Bytes). length z) written, length-sets out 0 (encode (w .result)), within limits (w .result) (w .fits), w .long)
 
   -- the scratch was worked in, and then cleared
   module _ (scratch scratch₀ scratch₁ : Bytes) (same : length scratch₀ ≡ length scratch) (q : scratch₁ ≡ sets scratch₀ 0 (replicate (length scratch₀ - 0) 0)) where
@@ -68,14 +68,14 @@ module _ {s : rules.Stepped} {out out₁ : Bytes} {k : Taken} (d : Takes s out o
           clears = cleared-up;
         }
 
-    module _ {r : Rule} {p l : ℕ} (e : k ≡ Found r p l) (h : 4096 ≤ length out) (out₂ : Bytes) where
-      pub goes : out₂ ≡ sets out₁ l (replicate (length out₁ - l) 0) → Stepping s out scratch (IsFound (record { rule = r; place = p; length = l })) out₂ scratch₁
+    module _ {f : Step} (e : k ≡ Found f) (h : outputRoom limits ≤ length out) (out₂ : Bytes) where
+      pub goes : out₂ ≡ sets out₁ (f .length) (replicate (length out₁ - f .length) 0) → Stepping s out scratch (IsFound f) out₂ scratch₁
       goes z =
-          let f = fitted e h in
-          let w : Wrote out 0 (encode (f .result)) out₁ l = record { holds = written e h; ends = omega (arith, f .long) } in
+          let w = fitted e h in
+          let o : Wrote out 0 (encode (w .result)) out₁ (f .length) = record { holds = written e h; ends = omega (arith, w .long) } in
           record {
-            says = rw (f .is) (rw (f .tested) (ap (λ (x : ℕ). IsFound (record { rule = r; place = p; length = x })) (f .long)));
-            leaves = rw (f .is) (rw (f .tested) (filled-up w z (omega (arith, within limits (f .result) (f .fits)))));
+            says = rw (w .is) (rw (w .tested) (ap (λ (x : ℕ). IsFound (record { rule = f .rule; place = f .place; length = x })) (w .long)));
+            leaves = rw (w .is) (rw (w .tested) (filled-up o z (omega (arith, within limits (w .result) (w .fits)))));
             clears = cleared-up;
           }
 

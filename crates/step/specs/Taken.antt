@@ -35,7 +35,7 @@ pub record Contracting (src : Bytes) (n place : ℕ) (out : Bytes) (f : Term →
 -- a step's answer, and the output: a new term that fits is written, and nothing else
 abbrev pub takenOf : Stepped → Taken
 takenOf normal = Normal
-takenOf (found r p h t) = if stepFits limits h t then Found r p (size t) else Outgrown
+takenOf (found r p h t) = if stepFits limits h t then Found (record { rule = r; place = p; length = size t }) else Outgrown
 
 abbrev pub writtenOf : Stepped → Bytes → Bytes
 writtenOf normal out = out

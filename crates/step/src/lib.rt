@@ -63,17 +63,9 @@ fn step_read(term: &[u8], nodes: usize, out: &mut [u8], scratch: &mut [u8]) -> S
     match taken {
         Taken::Normal => Stepped::Normal,
         Taken::Outgrown => refused(8),
-        Taken::Found {
-            rule,
-            place,
-            length,
-        } => {
-            run::clear(out, length);
-            Stepped::Found(Found {
-                rule,
-                place,
-                length,
-            })
+        Taken::Found(found) => {
+            run::clear(out, found.length);
+            Stepped::Found(found)
         }
     }
 }

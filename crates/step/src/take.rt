@@ -6,22 +6,18 @@ ghost use Rattle.rules.specs.Term.{Term};
 ghost use Rattle.rules.specs.Step.{step};
 ghost use Rattle.term.specs.Given.{Reads};
 ghost use Rattle.step.specs.Taken.{Contracting, contracted, Takes};
+use crate::Found;
 use buffer::run;
 use contraction::contract;
 use contraction::part::Contracted;
 use redex::find::Sought;
 use redex::find::find;
 use rules::MOST_NODES;
-use rules::Rule;
 
-// No redex; or the rule, its place, and the length of the term that was written; or it would outgrow the limits.
+// No redex; or the step that was taken; or it would outgrow the limits.
 pub enum Taken {
     Normal,
-    Found {
-        rule: Rule,
-        place: usize,
-        length: usize,
-    },
+    Found(Found),
     Outgrown,
 }
 
@@ -33,20 +29,16 @@ fn contract_at(src: &[u8], nodes: usize, place: usize, out: &mut [u8], work: &mu
     let mut places = [0u16; MOST_NODES];
     match contract(src, place, nodes, src.len(), &mut places, work) {
         Contracted::Outgrown => Taken::Outgrown,
-        Contracted::Made {
-            rule,
-            size,
-            end,
-            nodes: _,
-        } => {
+        Contracted::Made(made) => {
             let before = run::copy(src, 0, place, out, 0);
-            let middle = run::copy(work, 0, size, out, before);
-            let length = run::copy(src, end, src.len(), out, middle);
-            Taken::Found {
+            let middle = run::copy(work, 0, made.size, out, before);
+            let length = run::copy(src, made.end, src.len(), out, middle);
+            let rule = made.rule;
+            Taken::Found(Found {
                 rule,
                 place,
                 length,
-            }
+            })
         }
     }
 }

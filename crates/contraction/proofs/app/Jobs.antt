@@ -1,6 +1,6 @@
 -- What App of Abs hands on: the body, and the argument that goes into it or stays, where they stand. Assumes nothing.
 use Prim.Native.Nat.{ℕ, _+_, _-_, _≤_}
-use mathlib.Core.Path.{_≡_, sym, ap, _∙_}
+use mathlib.Core.Path.{_≡_, refl, sym, ap, _∙_}
 use mathlib.Core.Option.{none}
 use mathlib.Core.List.{List, [], _∷_, _++_}
 use native.Mathlib.Omega.{arith}
@@ -119,7 +119,7 @@ module _ {s : Bytes} {at n l : ℕ} where
         tail-few = omega (arith, tail-some x a e last, app-numbers .count, j .nodes-in)
 
         pub tail-stays : {made made′ : Bytes} {z : ℕ} → 4096 ≤ length made → Wrote made 0 (slice body (f .end - f .gap) s) made′ z
-            → {rule : Rule} → Contracts s at n l t rule none (subst x a e) made′ (Made rule z (f .end) (n - 3))
+            → {rule : Rule} → Contracts s at n l t rule none (subst x a e) made′ (Made (record { rule = rule; size = z; end = f .end; nodes = n - 3 }))
         tail-stays {made} {made′} {z} h w {rule} =
             let b = app-numbers in
             let y = last in
@@ -132,9 +132,10 @@ module _ {s : Bytes} {at n l : ℕ} where
             let r = tail-room h in
             let v = app-argument in
             let g : slice (f .end) (at + size t) s ≡ encode a = ap (λ (k : ℕ). slice (f .end) k s) (sym (b .ends)) ∙ slice-is (f .end) s (encode a) (v .rest) (v .bytes) in
-            becomes z (f .end) (smaller-fits j u (omega (arith, tail-nodes x a e y, b .count)) (omega (arith, tail-long x a e y, b, y .1)))
-            (ap (λ (k : ℕ). Made rule z (f .end) k) c)
+            becomes _ (smaller-fits j u (omega (arith, tail-nodes x a e y, b .count)) (omega (arith, tail-long x a e y, b, y .1))) refl
             (record {
+              rule = refl;
+              count = c;
               inside = omega (arith, b);
               written = omega (arith, wrote-length o, o .ends, front-long x a e y, r, i);
               bytes =

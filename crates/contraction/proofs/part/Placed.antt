@@ -15,7 +15,7 @@ use Rattle.term.specs.Given.{Given}
 use Rattle.term.proofs.span.Rows.{term-part}
 use Rattle.substitution.specs.Put.{Putting, Turns, Puts}
 use Rattle.substitution.specs.declared.put.Put.{Put}
-use Rattle.contraction.specs.Contracts.{Contracts, told}
+use Rattle.contraction.specs.Contracts.{Contracts, contractedOf}
 use Rattle.contraction.specs.Parts.{Kept, PartIs, Placing, Pairing}
 use Rattle.contraction.specs.declared.part.Body.{Body}
 use Rattle.contraction.specs.declared.part.Part.{Part}
@@ -57,7 +57,7 @@ module _ {s : Bytes} {at end : ℕ} {b : Body} {p : Part} {n l : ℕ} {row : Lis
       }
 
   pub placed : {rule : Rule} {made made′ : Bytes} {q : Put} {c : Contracted} → 4096 ≤ length made
-      → Puts (n - nodes e) (l - (end - at) + (b .end - b .from) - size e) none (subst x v e) made made′ q → c ≡ told rule end q
+      → Puts (n - nodes e) (l - (end - at) + (b .end - b .from) - size e) none (subst x v e) made made′ q → c ≡ contractedOf rule end q
       → Contracts s at whole l t rule none (subst x v e) made′ c
   placed room d is = put-contracts (j .redex) (j .ends) (omega (arith, j .count)) (omega (arith, j .ends, j .found .next)) room d is
 
@@ -96,6 +96,6 @@ module _ {s : Bytes} {at middle past : ℕ} {p q : Part} {n l whole : ℕ} {t : 
         }
 
     pub paired : {rule : Rule} {made made′ : Bytes} {z : Put} {c : Contracted} → 4096 ≤ length made
-        → Puts (n - nodes e) (l - (b .end - at)) (some (subst x v e)) (subst (take (past - (middle + 1)) (drop (middle + 1) s)) w (subst x v e)) made made′ z → c ≡ told rule (b .end) z
+        → Puts (n - nodes e) (l - (b .end - at)) (some (subst x v e)) (subst (take (past - (middle + 1)) (drop (middle + 1) s)) w (subst x v e)) made made′ z → c ≡ contractedOf rule (b .end) z
         → Contracts s at whole l t rule (some (subst x v e)) (subst y w (subst x v e)) made′ c
     paired room d is = put-contracts (j .redex) ends (omega (arith, j .count)) (omega (arith, ends)) room (rw (j .y-is) at d) is

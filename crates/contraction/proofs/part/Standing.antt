@@ -21,7 +21,7 @@ use Rattle.substitution.specs.declared.put.Put.{Put}
 use Rattle.substitution.specs.declared.put.Put.the-variants.{Written, Outgrown as Outgrew}
 use Rattle.substitution.proofs.put.Puts.{beside-within}
 use Rattle.contraction.specs.Beside.{fitsAround}
-use Rattle.contraction.specs.Contracts.{Redex, Replaced, Contracts, becomes, outgrows, told}
+use Rattle.contraction.specs.Contracts.{Redex, Replaced, Contracts, becomes, outgrows, contractedOf}
 use Rattle.contraction.specs.declared.part.Contracted.{Contracted}
 
 module _ {s : Bytes} {at n l : ℕ} {t : Term} (j : Redex s at n l t) where
@@ -29,9 +29,12 @@ module _ {s : Bytes} {at n l : ℕ} {t : Term} (j : Redex s at n l t) where
   inside = at-end s at t (j .stands)
 
   -- the whole of it was written
-  pub all-written : (u : Term) {made made′ : Bytes} {k end : ℕ} → Wrote made 0 (encode u) made′ k → k ≤ length made → end ≡ at + size t → Replaced s at t u made′ k end
-  all-written u {made} {made′} {k} {end} w h ee =
+  pub all-written : {rule : Rule} (u : Term) {made made′ : Bytes} {k end m : ℕ} → Wrote made 0 (encode u) made′ k → k ≤ length made → end ≡ at + size t → m ≡ n - nodes t + nodes u
+      → Replaced s at n t rule u made′ (record { rule = rule; size = k; end = end; nodes = m })
+  all-written u {made} {made′} {k} {end} w h ee em =
       record {
+        rule = refl;
+        count = em;
         inside = omega arith;
         written = omega (arith, ap (λ (z : Bytes). length z) (w .holds), length-sets made 0 (encode u));
         bytes =
@@ -42,7 +45,7 @@ module _ {s : Bytes} {at n l : ℕ} {t : Term} (j : Redex s at n l t) where
 
   pub put-contracts : {rule : Rule} {end others rest : ℕ} → end ≡ at + size t → others ≡ n - nodes t → rest ≡ l - size t
       → {h : Option Term} {u : Term} {made made′ : Bytes} {p : Put} {c : Contracted} → 4096 ≤ length made
-      → Puts others rest h u made made′ p → c ≡ told rule end p → Contracts s at n l t rule h u made′ c
+      → Puts others rest h u made made′ p → c ≡ contractedOf rule end p → Contracts s at n l t rule h u made′ c
   put-contracts {rule} {end} {others} {rest} ee eo er {h} {u} {made} {made′} {p} {c} room d is =
       go (halfFits limits h && fitsAround n l t u) refl (d .says ∙ rw (eo, er)) (d .leaves ∙ rw (eo, er))
     where
@@ -50,5 +53,5 @@ module _ {s : Bytes} {at n l : ℕ} {t : Term} (j : Redex s at n l t) where
           → made′ ≡ (if b then sets made 0 (encode u) else made) → Contracts s at n l t rule h u made′ c
       go true y q m =
           let f = beside-within (n - nodes t) (l - size t) u (both-true (halfFits limits h) (fitsAround n l t u) y .1) in
-          becomes (size u) end y (is ∙ ap (λ (z : Put). told rule end z) q) (all-written u (record { holds = m; ends = omega arith }) (omega (arith, f)) ee)
-      go false y q m = outgrows y (is ∙ ap (λ (z : Put). told rule end z) q)
+          becomes _ y (is ∙ ap (λ (z : Put). contractedOf rule end z) q) (all-written u (record { holds = m; ends = omega arith }) (omega (arith, f)) ee refl)
+      go false y q m = outgrows y (is ∙ ap (λ (z : Put). contractedOf rule end z) q)

@@ -20,6 +20,7 @@ use Rattle.buffer.specs.Writing.{slice-split, slice-is, chain, wrote-length}
 use Rattle.term.proofs.node.Names.{drop-app}
 use Rattle.contraction.specs.Beside.{fitsAround, step-fits-in-frame}
 use Rattle.contraction.specs.Contracts.{Replaced, Contracts, becomes, outgrows}
+use Rattle.contraction.specs.declared.part.Contraction.{Contraction}
 use Rattle.contraction.specs.declared.part.Contracted.{Contracted}
 use Rattle.contraction.specs.declared.part.Contracted.the-variants.{Made, Outgrown}
 use Rattle.contraction.specs.Contracting as contracting
@@ -84,23 +85,25 @@ module _ {src : Bytes} {n place : ℕ} {out : Bytes} {f : Term → Term} {t : Te
     outgrew q = go v
       where
         go : Contracts src place n (length src) t (j .rule) h u work c → Takes (contracted place f t) out out Outgrew
-        go (becomes k end y s r) = absurd (let z : _≡_ {A = ℕ} 0 1 = cc in omega arith)
+        go (becomes m y s r) = absurd (let z : _≡_ {A = ℕ} 0 1 = cc in omega arith)
         go (outgrows y s) = let z = sym tested ∙ y in record { says = rw (step-is, z); leaves = rw (step-is, z) }
 
-    module _ {r : Rule} {k end m : ℕ} (q : c ≡ Made r k end m) where
+    module _ {m : Contraction} (q : c ≡ Made m) where
+      abbrev k : ℕ
+      k = m .size
+
+      abbrev end : ℕ
+      end = m .end
+
       record Is : Type 0 where
         passes : stepFits limits h (f u) ≡ true
-        rule : r ≡ j .rule
-        replaced : Replaced src place t u work k end
+        replaced : Replaced src place n t (j .rule) u work m
 
       is : Is
       is = go v
         where
           go : Contracts src place n (length src) t (j .rule) h u work c → Is
-          go (becomes k′ end′ y s z) =
-              let a : k ≡ k′ = cc in
-              let b : end ≡ end′ = cc in
-              record { passes = sym tested ∙ y; rule = cc; replaced = rw (a, b) z }
+          go (becomes m′ y s z) = let a : m ≡ m′ = cc in record { passes = sym tested ∙ y; replaced = rw a z }
           go (outgrows y s) = absurd (let z : _≡_ {A = ℕ} 0 1 = cc in omega arith)
 
       end-inside : end ≤ length src
@@ -152,8 +155,8 @@ module _ {src : Bytes} {n place : ℕ} {out : Bytes} {f : Term → Term} {t : Te
           third-room =
               omega (arith, whole-long, j .room, x .ends, length-slice 0 place src (room .0), wrote-length x, y .ends, length-slice 0 k work (is .replaced .written), wrote-length y)
 
-          pub made : {out₃ : Bytes} {o₃ : ℕ} → Wrote out₂ o₂ (slice end (length src) src) out₃ o₃ → Takes (contracted place f t) out out₃ (Found r place o₃)
+          pub made : {out₃ : Bytes} {o₃ : ℕ} → Wrote out₂ o₂ (slice end (length src) src) out₃ o₃ → Takes (contracted place f t) out out₃ (Found (record { rule = m .rule; place = place; length = o₃ }))
           made {out₃} {o₃} z =
               let w : Wrote out 0 (encode (f u)) out₃ o₃ = rw (← runs) (chain x (chain y z)) in
               let e : o₃ ≡ size (f u) = w .ends ∙ omega arith in
-              record { says = rw (step-is, is .passes, is .rule, e); leaves = rw (step-is, is .passes) (w .holds) }
+              record { says = rw (step-is, is .passes, is .replaced .rule, e); leaves = rw (step-is, is .passes) (w .holds) }

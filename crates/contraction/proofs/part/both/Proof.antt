@@ -67,15 +67,15 @@ in-turn-requires c κs = let b = c .before .before .before .before .before .befo
     let j = b .0 .7 in
     ((_, _, _, _, turning j (c .before .before .before .before .before .before .before .find-in .ensures .0 _ (j .body-at))), (c .before .before .before .before .before .before .before .find-in .ensures .1, array-room, b .1 .1))
 
-told-requires : tie.Need-told-requires
-told-requires c κs = search needs
+of-put-requires : tie.Need-of-put-requires
+of-put-requires c κs = search needs
 
 same-length : tie.Need-same-length
 same-length c = search needs
 
 returns : tie.Need-returns
 returns c = (
-  λ n t x y e v w j. let k = c .before .before .before .before .before .before .before .before .before .before .before .before .find-in .ensures .0 _ (j .body-at) in paired j k (c .before .before .before .before .before .before .before .before .before .before .before .before .before .before .before .before .pre .1 .1) (c .before .before .before .before .in-turn .ensures .0 _ _ _ _ (turning j k)) (c .told .ensures),
+  λ n t x y e v w j. let k = c .before .before .before .before .before .before .before .before .before .before .before .before .find-in .ensures .0 _ (j .body-at) in paired j k (c .before .before .before .before .before .before .before .before .before .before .before .before .before .before .before .before .pre .1 .1) (c .before .before .before .before .in-turn .ensures .0 _ _ _ _ (turning j k)) (c .of-put .ensures),
   c .before .before .before .before .in-turn .ensures .1,
 )
 
@@ -102,6 +102,6 @@ both-spec =
     sub-in-turn-6
     slice-aggregate-in-turn
     in-turn-requires
-    told-requires
+    of-put-requires
     same-length
     returns)

@@ -38,14 +38,14 @@ part-put-in-end-2 c = omega (arith, part-in (c .before .before .before .before .
 put-in-requires : tie.Need-put-in-requires
 put-in-requires c κs = ((_, _, _, putting (c .before .before .before .before .before .before .pre .0 .5)), c .before .before .before .before .before .before .pre .1)
 
-told-requires : tie.Need-told-requires
-told-requires c κs = search needs
+of-put-requires : tie.Need-of-put-requires
+of-put-requires c κs = search needs
 
 same-length : tie.Need-same-length
 same-length c = search needs
 
 returns : tie.Need-returns
-returns c = λ n t x e v j. placed j (c .before .before .before .before .before .before .before .before .before .before .pre .1) (c .before .before .before .put-in .ensures _ _ _ (putting j)) (c .told .ensures)
+returns c = λ n t x e v j. placed j (c .before .before .before .before .before .before .before .before .before .before .pre .1) (c .before .before .before .put-in .ensures _ _ _ (putting j)) (c .of-put .ensures)
 
 pub put-here-spec : {M : Type 1} → statement M
 put-here-spec =
@@ -62,6 +62,6 @@ put-here-spec =
     part-put-in-start-2
     part-put-in-end-2
     put-in-requires
-    told-requires
+    of-put-requires
     same-length
     returns)
