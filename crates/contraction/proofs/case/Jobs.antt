@@ -44,6 +44,9 @@ module _ {s : Bytes} {at n l : ℕ} where
       right-at {end} e =
           first s end 1 d [] (others s (q .next) 2 b (d ∷ []) (others s (p .end + 1) 3 v (b ∷ d ∷ []) (in-branch (j .stands) m .row) (q .next) (h .next)) end e)
 
+      pub case-nodes : 2 + q .nodes ≤ n
+      case-nodes = omega (arith, h .nodes, in-branch (j .stands) m .count, j .nodes-in)
+
       pub left-short : length s ≤ q .next + 4096
       left-short = omega (arith, j .behind, j .short, h .next, in-branch (j .stands) m .past)
 
