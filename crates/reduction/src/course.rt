@@ -5,6 +5,7 @@ ghost use Rattle.rules.specs.Reduction.{noCounts, plus as plusOf};
 ghost use Rattle.reduction.specs.Counted.{total};
 ghost use Rattle.reduction.specs.Told.{onward};
 use crate::place::Place;
+use contraction::part::Contraction;
 use rules::Counts;
 use rules::Rule;
 
@@ -64,16 +65,17 @@ fn plus(rule: Rule, mut counts: Counts) -> Counts
     counts
 }
 
-// A step by this rule was taken: the whole has so many nodes, and the search stands at `next`.
-pub fn one_more(course: Course, rule: Rule, nodes: usize, next: Place) -> Course
+// A contraction was made, and the search stands at `next`.
+pub fn one_more(course: Course, contraction: Contraction, next: Place) -> Course
     requires { ⌜ (total (course .counts) ≡ course .steps) × (course .steps < 4294967295) ⌝ }
-    ensures { λ r. ⌜ r ≡ onward course rule nodes next ⌝ }
+    ensures { λ r. ⌜ r ≡ onward course contraction next ⌝ }
 {
     let counts = course.counts;
     let steps = course.steps + 1;
+    let rule = contraction.rule;
     Course {
         at: next,
-        nodes,
+        nodes: contraction.nodes,
         steps,
         counts: plus(rule, counts),
     }

@@ -43,10 +43,9 @@ fn contract_here(
             length: run::copy(scratch, i, scratch.len(), out, o),
         }),
         Fired::Made {
-            rule,
-            nodes: many,
+            contraction,
             place: next,
-        } => Turned::On(one_more(course, rule, many, next)),
+        } => Turned::On(one_more(course, contraction, next)),
     }
 }
 

@@ -23,7 +23,7 @@ use Rattle.reduction.proofs.moves.Holes.{fill-encode}
 use Rattle.reduction.proofs.moves.Onward.{Follows, second, last, follows, ahead-count, second-before, second-behind}
 use Rattle.reduction.proofs.moves.Buffers.{wrote-left, held-set}
 use Rattle.reduction.proofs.moves.Marks.{not-first, none-ahead, none-passed, tag-is}
-use Rattle.reduction.proofs.moves.Tops.{Top, sides-short, in-stack, under}
+use Rattle.reduction.proofs.moves.Tops.{Top, whole-short, in-stack, under}
 
 module _ {w : Term} {out scratch stack : List ℕ} {o i d : ℕ} (k : Top w out scratch stack o i d) where
   abbrev f : Hole
@@ -50,7 +50,7 @@ module _ {w : Term} {out scratch stack : List ℕ} {o i d : ℕ} (k : Top w out 
       ∙ ap (λ (z : Bytes). lefts c ++ z) (sym (fill-encode f t))
 
   behind-room : o + length (behind f) ≤ length out
-  behind-room = omega (arith, sides-short k, long scratch (behind f) (rights c) i (k .sides .right), k .sides .room)
+  behind-room = omega (arith, whole-short k, long scratch (behind f) (rights c) i (k .sides .right), k .sides .room)
 
   -- behind the node
   module _ (e : step (fill f t) ≡ normal) {out₁ : List ℕ} {m p : ℕ} (v : Wrote out o (behind f) out₁ p) (n : m ≡ i + length (behind f)) where

@@ -11,10 +11,10 @@ use lib.Seq.{slice}
 use Rattle.rules.specs.Basic.{Bytes}
 use Rattle.rules.specs.Limits.{limits}
 use Rattle.rules.specs.Term.{Term}
-use Rattle.rules.specs.declared.Rule.{Rule}
 use Rattle.rules.specs.Step.{Stepped, isNormal}
 use Rattle.rules.specs.Reduction.{stopped, plus, reduceFrom, reduce}
 use Rattle.buffer.specs.Wrote.{Wrote}
+use Rattle.contraction.specs.declared.part.Contraction.{Contraction}
 use Rattle.reduction.specs.Standing.{Ended, Reducing, Finds}
 use Rattle.reduction.specs.Fired.{Firing, Fires, Lands, Over, Row}
 use Rattle.reduction.specs.declared.land.Fired.{Fired}
@@ -89,9 +89,9 @@ module _ {limit : ℕ} {t : Term} {out scratch stack : List ℕ} {g : Course} {p
       rw (left ∙ at-over limits (g .steps) (g .counts) (a .whole) (limit - (g .steps + 1)) (y .rule) (y .steps .place) (y .half) (y .next) (y .steps .is) (y .tested))
       (record { says = rw l; bytes = rw (← l) (join-bytes s v); fits = s .fits })
 
-  pub goes : {scratch₁ : List ℕ} {r : Rule} {m : ℕ} {q : Place} → Lands (a .whole) r m out scratch₁ stack q
-      → GoesOn limit t (g .steps) out scratch₁ stack (onward g r m q)
-  goes {r = r} y =
+  pub goes : {scratch₁ : List ℕ} {m : Contraction} {q : Place} → Lands (a .whole) m out scratch₁ stack q
+      → GoesOn limit t (g .steps) out scratch₁ stack (onward g m q)
+  goes {m = m} y =
       record {
         stands =
             record {
@@ -100,8 +100,8 @@ module _ {limit : ℕ} {t : Term} {out scratch stack : List ℕ} {g : Course} {p
                   record {
                     count = y .count;
                     within = omega (arith, a .below);
-                    added = counted r (g .counts) (plus r (g .counts)) (g .steps) refl (a .carried .added);
-                    carries = left ∙ at-found limits (g .steps) (g .counts) (a .whole) (limit - (g .steps + 1)) r (y .steps .place) (y .half) (y .next) (y .steps .is) (y .tested) ∙ rw add-one;
+                    added = counted (m .rule) (g .counts) (plus (m .rule) (g .counts)) (g .steps) refl (a .carried .added);
+                    carries = left ∙ at-found limits (g .steps) (g .counts) (a .whole) (limit - (g .steps + 1)) (m .rule) (y .steps .place) (y .half) (y .next) (y .steps .is) (y .tested) ∙ rw add-one;
                   };
               stands = y .stands;
             };
@@ -113,7 +113,7 @@ module _ {w : Term} {out scratch stack : List ℕ} (o i d : ℕ) (r : Fired) (f 
   pub is-over : r ≡ TooLarge → Over w out scratch stack o i d
   is-over e = subst (λ (z : Fired). Fires w out scratch stack o i d z) e f
 
-  pub is-made : {q : Rule} {m : ℕ} {p : Place} → r ≡ Made q m p → Lands w q m out scratch stack p
+  pub is-made : {m : Contraction} {p : Place} → r ≡ Made m p → Lands w m out scratch stack p
   is-made e = subst (λ (z : Fired). Fires w out scratch stack o i d z) e f
 
 -- what a turn's answer says
