@@ -5,7 +5,7 @@ use mathlib.Core.Bool.{false}
 use lib.ListN.{length, replicate}
 use borrow.Author.Tests.{le-leb}
 use Rattle.rules.specs.Basic.{Bytes}
-use Rattle.rules.specs.Limits.{limits}
+use Rattle.rules.specs.Limits.{limits, outputRoom, scratchRoom}
 use Rattle.rules.specs.declared.Refusal.{Refusal}
 use Rattle.rules.specs.Refusal.{refuse, mapped, answered}
 use Rattle.rules.specs.declared.Answer.the-variants.{Good, Refused}
@@ -35,13 +35,13 @@ module _ (term : Bytes) (limit : ℕ) (out scratch : Bytes) where
   unfolding reduceCall
   too-short a h e = (rw h e, (rw h, rw h))
 
-  module _ (h : 4096 ≤ length out) where
-    module _ (k : 8192 ≤ length scratch) where
+  module _ (h : outputRoom limits ≤ length out) where
+    module _ (k : scratchRoom limits ≤ length scratch) where
       pub not-read : (r : Refusal) → answered (mapped nodes (readTerm limits 1 term)) ≡ Refused r → Is (IsRefused r 0) out scratch
       unfolding reduceCall
       not-read r e =
-          let p = le-leb 4096 (length out) h in
-          let q = le-leb 8192 (length scratch) k in
+          let p = le-leb (outputRoom limits) (length out) h in
+          let q = le-leb (scratchRoom limits) (length scratch) k in
           let f = refuses nodes (readTerm limits 1 term) e in
           (rw (p, q, f), (rw (p, q, f), rw (p, q, f, term-spares limits 1 term r f)))
 
@@ -57,8 +57,8 @@ module _ (term : Bytes) (limit : ℕ) (out scratch : Bytes) where
         pub reduced : (r : Reduced) (out′ scratch′ : Bytes) → Reducing (rules.reduce limits limit (read .0)) out scratch r out′ scratch′ → Is r out′ scratch′
         unfolding reduceCall a read
         reduced r out′ scratch′ w =
-            let p = le-leb 4096 (length out) h in
-            let q = le-leb 8192 (length scratch) k in
+            let p = le-leb (outputRoom limits) (length out) h in
+            let q = le-leb (scratchRoom limits) (length scratch) k in
             (rw (p, q, a .is) (w .says), (rw (p, q, a .is) (w .leaves), rw (p, q, a .is) (w .clears ∙ either (rules.reduce limits limit (a .value)))))
           where
             either : (d : rules.Reduced) → replicate (length scratch) 0 ≡ cleared 0 scratch (reduceEnding d .says)

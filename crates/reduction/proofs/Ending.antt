@@ -6,7 +6,7 @@ use mathlib.Core.List.{_++_, append-nil}
 use native.Mathlib.Omega.{arith}
 use lib.ListN.{length, take, drop, replicate, length-replicate}
 use lib.Seq.{sets, sets-eq, drop-length}
-use Rattle.rules.specs.Limits.{limits}
+use Rattle.rules.specs.Limits.{limits, outputRoom}
 use Rattle.rules.specs.Basic.{Bytes}
 use Rattle.rules.specs.Term.{encode, size}
 use Rattle.laws.specs.reading.Fits.{within}
@@ -39,7 +39,7 @@ over : (d : Reduced) {n l : ℕ} → Outgrown n l ≡ repeatedOf d → (d ≡ ou
 over (stopped n c b t) e = absurd (let z : _≡_ {A = ℕ} 0 1 = cc in omega arith)
 over (outgrew n t) e = (cc, cc)
 
-module _ {d : Reduced} {out₁ : Bytes} {r : Repeated} (w : Repeats d out₁ r) (out : Bytes) (same : length out₁ ≡ length out) (h : 4096 ≤ length out) where
+module _ {d : Reduced} {out₁ : Bytes} {r : Repeated} (w : Repeats d out₁ r) (out : Bytes) (same : length out₁ ≡ length out) (h : outputRoom limits ≤ length out) where
   behind : (l : ℕ) → l ≡ size (last d) → {out₂ : Bytes} → out₂ ≡ sets out₁ l (replicate (length out₁ - l) 0) → out₂ ≡ encode (last d) ++ replicate (length out - size (last d)) 0
   behind l e {out₂} z =
       z ∙ zeros-behind out₁ (encode (last d)) l (rw e (w .bytes)) e (omega (arith, within limits (last d) (w .fits)))

@@ -11,6 +11,7 @@ use Rattle.rules.specs.Term.{Term, nodes}
 use Rattle.rules.specs.declared.Rule.{Rule}
 use Rattle.rules.specs.Step.{stepFits}
 pub use Rattle.contraction.specs.Contracts.{Row}
+use Rattle.contraction.specs.declared.part.Contraction.{Contraction}
 use Rattle.reduction.specs.Quiet.{Steps}
 use Rattle.reduction.specs.Standing.{Standing, Reducing}
 use Rattle.reduction.specs.declared.place.Place.{Place}
@@ -24,13 +25,13 @@ pub record Firing (w : Term) (out scratch stack : List ℕ) (o i d n : ℕ) (pla
   pub row : Row places
   pub made-room : outputRoom limits ≤ length made
 
--- the step of w leaves u, which fits and has n nodes; the search stands in it
-pub record Lands (w : Term) (r : Rule) (n : ℕ) (out scratch stack : List ℕ) (p : Place) : Type 0 where
+-- the step of w leaves the next term, which fits; the search stands in it
+pub record Lands (w : Term) (m : Contraction) (out scratch stack : List ℕ) (p : Place) : Type 0 where
   pub next : Term
   pub half : Option Term
-  pub steps : Steps w r half next
+  pub steps : Steps w (m .rule) half next
   pub tested : stepFits limits half next ≡ true
-  pub count : n ≡ nodes next
+  pub count : m .nodes ≡ nodes next
   pub stands : Standing next out scratch stack (p .o) (p .i) (p .depth)
 
 -- the step of w does not fit; the search stands where it stood
@@ -43,5 +44,5 @@ pub record Over (w : Term) (out scratch stack : List ℕ) (o i d : ℕ) : Type 0
   pub stands : Standing w out scratch stack o i d
 
 abbrev pub Fires : Term → (out scratch stack : List ℕ) → (o i d : ℕ) → Fired → Type 0
-Fires w out scratch stack o i d (Made r n p) = Lands w r n out scratch stack p
+Fires w out scratch stack o i d (Made m p) = Lands w m out scratch stack p
 Fires w out scratch stack o i d Outgrown = Over w out scratch stack o i d

@@ -13,7 +13,7 @@ use Rattle.rules.specs.Reading.{readTerm}
 use Rattle.rules.specs.declared.Rule.{Rule}
 use Rattle.rules.specs.declared.Rule.the-variants.{App, Let, Case, Fst, Snd, Derelict, Copy, Discard}
 use Rattle.rules.specs.declared.Counts.{Counts}
-use Rattle.rules.specs.Step.{Stepped, normal, step, isNormal, halfFits}
+use Rattle.rules.specs.Step.{halfFits}
 use Rattle.rules.specs.Reduction.{noCounts, plus, Reduced, stopped, outgrew, reduceFrom, reduce}
 use Rattle.rules.specs.Calls.{workRoom, reduceEnding, reduceWith, reduceCall}
 use Rattle.laws.specs.free.Same.{both-true}
@@ -22,7 +22,7 @@ use Rattle.laws.specs.reading.Fits.{fits-accepted, accepted-fits}
 use Rattle.laws.specs.step.StepLegal.{step-legal}
 use Rattle.reduction.specs.Counted.{total, one-more}
 use Rattle.reduction.specs.Turning.{last}
-use Rattle.reduction.specs.Carried.{at-limit, at-normal, at-found, at-over, Turn, rests, goes, outgrows, turn}
+use Rattle.reduction.specs.Carried.{at-limit, at-normal, at-rest, at-found, at-over, Turn, rests, goes, outgrows, turn}
 
 -- ---- added
 
@@ -84,11 +84,6 @@ module _ (L : Limits) where
   from-start limit n c t =
       ap₂ (λ (k : ℕ) (e : Counts). reduceFrom L limit k e t) (sym (add-zero n)) (sym (sum-none c)) ∙ shifted limit n 0 c noCounts t
 
-  -- and where no step remains, a second reduction does nothing
-  at-rest : (m k : ℕ) (c : Counts) (t : Term) → step t ≡ normal → reduceFrom L m k c t ≡ stopped k c true t
-  at-rest zero k c t e = at-limit L k c t ∙ ap (λ (s : Stepped). stopped k c (isNormal s) t) e
-  at-rest (suc m) k c t e = at-normal L k c t m e
-
   onward : (m : ℕ) → Reduced → Reduced
   onward m (stopped k c b t) = reduceFrom L m k c t
   onward m (outgrew k t) = outgrew k t
@@ -98,7 +93,7 @@ module _ (L : Limits) where
 
   divide : (n m : ℕ) → Divides n m → (k : ℕ) (c : Counts) (t : Term) → Turn L t → reduceFrom L (suc (n + m)) k c t ≡ onward m (reduceFrom L (suc n) k c t)
   unfolding onward
-  divide n m go k c t (rests e) = at-normal L k c t (n + m) e ∙ sym (at-rest m k c t e) ∙ ap (onward m) (sym (at-normal L k c t n e))
+  divide n m go k c t (rests e) = at-normal L k c t (n + m) e ∙ sym (at-rest L k c t m e) ∙ ap (onward m) (sym (at-normal L k c t n e))
   divide n m go k c t (goes r p h u e f) = at-found L k c t (n + m) r p h u e f ∙ go (suc k) (plus r c) u ∙ ap (onward m) (sym (at-found L k c t n r p h u e f))
   divide n m go k c t (outgrows r p h u e f) = at-over L k c t (n + m) r p h u e f ∙ ap (onward m) (sym (at-over L k c t n r p h u e f))
 

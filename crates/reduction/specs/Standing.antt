@@ -15,9 +15,12 @@ use Rattle.reduction.specs.Seen.{Contracts, Opens, Rests}
 use Rattle.reduction.specs.declared.place.Place.{Place}
 
 -- the mark of a node: where it starts in the output while its hole is the first part, else a number that is no such place
+abbrev pub secondMark : ℕ
+secondMark = 65535
+
 abbrev pub mark : (parts start : ℕ) → ℕ
 mark zero n = n
-mark (suc k) n = 8192
+mark (suc k) n = secondMark
 
 abbrev pub Held : List ℕ → Above → Type 0
 Held s [] = Unit {0}

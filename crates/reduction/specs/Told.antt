@@ -1,9 +1,7 @@
 -- What is told of a bounded reduction, and what a step adds. Assumes nothing: these are definitions.
-use Prim.Native.Nat.{ℕ, _+_, _<_}
-use mathlib.Core.Path.{_≡_}
-use mathlib.Core.Bool.{Bool, true, false}
+use Prim.Native.Nat.{_+_}
 use Rattle.rules.specs.Term.{size}
-use Rattle.rules.specs.declared.Rule.{Rule}
+use Rattle.contraction.specs.declared.part.Contraction.{Contraction}
 use Rattle.rules.specs.Reduction.{Reduced, stopped, outgrew, plus}
 use Rattle.reduction.specs.declared.place.Place.{Place}
 use Rattle.reduction.specs.declared.course.Course.{Course}
@@ -14,11 +12,6 @@ abbrev pub repeatedOf : Reduced → Repeated
 repeatedOf (stopped n c b t) = Stopped n c b (size t)
 repeatedOf (outgrew n t) = Outgrown n (size t)
 
--- whether so many steps are all that the limit allows
-pub record Limited (steps limit : ℕ) (r : Bool) : Type 0 where
-  pub reached : r ≡ true → steps ≡ limit
-  pub left : r ≡ false → steps < limit
-
 -- one step more, one more of its rule
-abbrev pub onward : Course → Rule → ℕ → Place → Course
-onward g r n p = record { at = p; nodes = n; steps = g .steps + 1; counts = plus r (g .counts) }
+abbrev pub onward : Course → Contraction → Place → Course
+onward g m p = record { at = p; nodes = m .nodes; steps = g .steps + 1; counts = plus (m .rule) (g .counts) }

@@ -1,13 +1,11 @@
-// How far a bounded reduction has come: what a step adds, whether the limit is reached, and what is told where it ends.
+// How far a bounded reduction has come: what a step adds, and what is told where it ends.
 ghost use mathlib.Core.Path.{_≡_};
-ghost use mathlib.Core.Bool.{true, false};
-ghost use Prim.Native.Nat.{_≤_, _<_};
-ghost use Rattle.rules.specs.Term.{Term, size};
-ghost use Rattle.rules.specs.Reduction.{stopped};
+ghost use Prim.Native.Nat.{_<_};
+ghost use Rattle.rules.specs.Reduction.{noCounts, plus as plusOf};
 ghost use Rattle.reduction.specs.Counted.{total};
-ghost use Rattle.reduction.specs.Told.{repeatedOf, Limited, onward};
-use crate::counting::plus;
+ghost use Rattle.reduction.specs.Told.{onward};
 use crate::place::Place;
+use contraction::part::Contraction;
 use rules::Counts;
 use rules::Rule;
 
@@ -34,48 +32,50 @@ pub enum Repeated {
     },
 }
 
-// Whether no further step may be taken.
-pub fn at_limit(steps: u32, limit: u32) -> bool
-    requires { ⌜ steps ≤ limit ⌝ }
-    ensures { λ r. ⌜ Limited steps limit r ⌝ }
+pub fn no_counts() -> Counts
+    ensures { λ r. ⌜ r ≡ noCounts ⌝ }
 {
-    steps == limit
-}
-
-// No step remains.
-pub fn at_rest(steps: u32, counts: Counts, length: usize) -> Repeated
-    ensures { λ r. ⌜ ((w : Term) → length ≡ size w → r ≡ repeatedOf (stopped steps counts true w)) ⌝ }
-{
-    Repeated::Stopped {
-        steps,
-        counts,
-        normal: true,
-        length,
+    Counts {
+        app: 0,
+        lets: 0,
+        case: 0,
+        fst: 0,
+        snd: 0,
+        derelict: 0,
+        copy: 0,
+        discard: 0,
     }
 }
 
-// A step remains, and the limit is reached.
-pub fn cut_short(steps: u32, counts: Counts, length: usize) -> Repeated
-    ensures { λ r. ⌜ ((w : Term) → length ≡ size w → r ≡ repeatedOf (stopped steps counts false w)) ⌝ }
+// One more of a rule.
+fn plus(rule: Rule, mut counts: Counts) -> Counts
+    requires { ⌜ total counts < 4294967295 ⌝ }
+    ensures { λ r. ⌜ r ≡ plusOf rule counts ⌝ }
 {
-    Repeated::Stopped {
-        steps,
-        counts,
-        normal: false,
-        length,
+    match rule {
+        Rule::App => counts.app += 1,
+        Rule::Let => counts.lets += 1,
+        Rule::Case => counts.case += 1,
+        Rule::Fst => counts.fst += 1,
+        Rule::Snd => counts.snd += 1,
+        Rule::Derelict => counts.derelict += 1,
+        Rule::Copy => counts.copy += 1,
+        Rule::Discard => counts.discard += 1,
     }
+    counts
 }
 
-// A step by this rule was taken: the whole has so many nodes, and the search stands at `next`.
-pub fn one_more(course: Course, rule: Rule, nodes: usize, next: Place) -> Course
+// A contraction was made, and the search stands at `next`.
+pub fn one_more(course: Course, contraction: Contraction, next: Place) -> Course
     requires { ⌜ (total (course .counts) ≡ course .steps) × (course .steps < 4294967295) ⌝ }
-    ensures { λ r. ⌜ r ≡ onward course rule nodes next ⌝ }
+    ensures { λ r. ⌜ r ≡ onward course contraction next ⌝ }
 {
     let counts = course.counts;
     let steps = course.steps + 1;
+    let rule = contraction.rule;
     Course {
         at: next,
-        nodes,
+        nodes: contraction.nodes,
         steps,
         counts: plus(rule, counts),
     }

@@ -7,15 +7,14 @@ use crate::place::Place;
 use crate::place::SECOND;
 use buffer::run;
 use contraction::part::Contracted;
+use contraction::part::Contraction;
 use redex::find::reduces;
 use rules::MOST_NODES;
-use rules::Rule;
 
-// The rule, the nodes of the new whole, and where the search goes on; or the step would outgrow the limits.
+// What the contraction made, and where the search goes on; or the step would outgrow the limits.
 pub enum Fired {
     Made {
-        rule: Rule,
-        nodes: usize,
+        contraction: Contraction,
         place: Place,
     },
     Outgrown,
@@ -73,20 +72,12 @@ pub fn fire(
     let length = o + (scratch.len() - i);
     match contraction::contract(scratch, i, nodes, length, places, made) {
         Contracted::Outgrown => Fired::Outgrown,
-        Contracted::Made {
-            rule,
-            size,
-            end,
-            nodes: many,
-        } => {
-            let start = end - size;
+        Contracted::Made(contraction) => {
+            let size = contraction.size;
+            let start = contraction.end - size;
             run::copy(made, 0, size, scratch, start);
             let place = wake(out, o, scratch, start, stack, depth);
-            Fired::Made {
-                rule,
-                nodes: many,
-                place,
-            }
+            Fired::Made { contraction, place }
         }
     }
 }

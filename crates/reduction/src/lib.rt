@@ -3,7 +3,6 @@ ghost use mathlib.Core.Path.{_≡_};
 ghost use Prim.Native.Nat.{_≤_};
 ghost use lib.ListN.{length};
 ghost use Rattle.rules.specs.Limits.{limits, scratchRoom};
-ghost use Rattle.rules.specs.Refusal.{refuse};
 ghost use Rattle.rules.specs.Term.{Term};
 ghost use Rattle.rules.specs.Reduction.{reduce};
 ghost use Rattle.rules.specs.Calls.{reduceCall};
@@ -17,13 +16,12 @@ use rules::Answer;
 use rules::Counts;
 use rules::Refusal;
 
-pub mod counting;
-pub mod course;
-pub mod land;
-pub mod moves;
-pub mod place;
-pub mod repeat;
-pub mod sight;
+mod course;
+mod land;
+mod moves;
+mod place;
+mod repeat;
+mod sight;
 mod turn;
 
 // The steps taken, one count for each rule, whether no step remains, and the length of the term in the output.
@@ -38,20 +36,6 @@ pub struct Reduction {
 pub enum Reduced {
     Stopped(Reduction),
     Refused { refusal: Refusal, length: usize },
-}
-
-// A short buffer.
-fn refused() -> Reduced
-    ensures { λ r. ⌜ r ≡ reducedBy (refuse 1 0 0) 0 ⌝ }
-{
-    Reduced::Refused {
-        refusal: Refusal {
-            number: 1,
-            place: 0,
-            input: 0,
-        },
-        length: 0,
-    }
 }
 
 // The reduction of a term that was read: zeros behind what stands in the output, and in the scratch.
@@ -99,7 +83,10 @@ pub fn normalize_bounded(term: &[u8], limit: u32, out: &mut [u8], scratch: &mut 
     ensures { λ _. ⌜ now (scratch .exit) ≡ reduceCall limits (now (term .entry)) limit (now (out .entry)) (now (scratch .entry)) .scratch ⌝ }
 {
     if short(out.len(), scratch.len()) {
-        return refused();
+        return Reduced::Refused {
+            refusal: Refusal::of_no_input(1),
+            length: 0,
+        };
     }
     match reader::term_input(term, 1) {
         Answer::Refused(refusal) => Reduced::Refused { refusal, length: 0 },

@@ -96,7 +96,7 @@ fn pass(
 }
 
 // Goes on to the first redex, or to the end.
-pub fn seek(
+pub fn to_redex(
     scratch: &[u8],
     at: usize,
     out: &mut [u8],

@@ -9,5 +9,6 @@ pub struct Place {
     pub going: bool,
 }
 
-// The mark of a node whose second part is searched; of a node whose first part is, it is the place where the node starts.
-pub const SECOND: u16 = 8192;
+// The mark of a node whose second part is searched; of a node whose first part is, it is the place where the node starts, which is
+// less than MOST_BYTES.
+pub const SECOND: u16 = 65535;

@@ -7,14 +7,14 @@ ghost use Rattle.rules.specs.Term.{Term};
 ghost use Rattle.rules.specs.Reduction.{reduce};
 ghost use Rattle.term.specs.Given.{Reads};
 ghost use Rattle.reduction.specs.Turning.{Stands, Room, Repeats};
-use crate::counting::no_counts;
 use crate::course::Course;
 use crate::course::Repeated;
-use crate::course::at_rest;
-use crate::moves::seek;
+use crate::course::no_counts;
+use crate::moves::to_redex;
 use crate::turn::Turned;
 use crate::turn::turn;
 use buffer::run;
+use rules::MOST_BYTES;
 use rules::MOST_NODES;
 
 // Reduces the whole in which the search stands, and leaves it in the output.
@@ -55,7 +55,7 @@ fn with_room(
     ensures { λ r. ⌜ ((t : Term) → Stands limit t (now (out .entry)) (now (scratch .entry)) (now (stack .entry)) from → Repeats (reduce limits limit t) (now (out .exit)) r) ⌝ }
 {
     let mut places = [0u16; MOST_NODES];
-    let mut made = [0u8; 4096];
+    let mut made = [0u8; MOST_BYTES];
     go_on(from, limit, out, scratch, stack, &mut places, &mut made)
 }
 
@@ -70,10 +70,10 @@ pub fn repeat_steps(
     requires { ⌜ ((t : Term) × Reads (now term) nodes (now out) t) × (scratchRoom limits ≤ length (now scratch)) ⌝ }
     ensures { λ r. ⌜ ((t : Term) → Reads (now (term .entry)) nodes (now (out .entry)) t → Repeats (reduce limits limit t) (now (out .exit)) r) ⌝ }
 {
-    let mut stack = [0u16; 512];
+    let mut stack = [0u16; MOST_NODES];
     let begin = scratch.len() - term.len();
     run::copy(term, 0, term.len(), scratch, begin);
-    let at = seek(scratch, begin, out, 0, &mut stack, 0);
+    let at = to_redex(scratch, begin, out, 0, &mut stack, 0);
     let counts = no_counts();
     if at.going {
         let from = Course {
@@ -84,5 +84,10 @@ pub fn repeat_steps(
         };
         return with_room(from, limit, out, scratch, &mut stack);
     }
-    at_rest(0, counts, at.o)
+    Repeated::Stopped {
+        steps: 0,
+        counts,
+        normal: true,
+        length: at.o,
+    }
 }

@@ -5,13 +5,10 @@ ghost use Rattle.reduction.specs.Fired.{Row};
 ghost use Rattle.reduction.specs.Turning.{Stands, AtRedex, Room, Turns};
 use crate::course::Course;
 use crate::course::Repeated;
-use crate::course::at_limit;
-use crate::course::at_rest;
-use crate::course::cut_short;
 use crate::course::one_more;
 use crate::land::Fired;
 use crate::land::fire;
-use crate::moves::seek;
+use crate::moves::to_redex;
 use crate::place::Place;
 use buffer::run;
 use rules::MOST_NODES;
@@ -23,7 +20,7 @@ pub enum Turned {
 }
 
 // Contracts the redex at `place`.
-fn contract(
+fn contract_here(
     course: Course,
     place: Place,
     out: &mut [u8],
@@ -46,10 +43,9 @@ fn contract(
             length: run::copy(scratch, i, scratch.len(), out, o),
         }),
         Fired::Made {
-            rule,
-            nodes: many,
+            contraction,
             place: next,
-        } => Turned::On(one_more(course, rule, many, next)),
+        } => Turned::On(one_more(course, contraction, next)),
     }
 }
 
@@ -70,14 +66,23 @@ pub fn turn(
     let from = course.at;
     let steps = course.steps;
     let counts = course.counts;
-    let place = seek(scratch, from.i, out, from.o, stack, from.depth);
+    let place = to_redex(scratch, from.i, out, from.o, stack, from.depth);
     let o = place.o;
     if !place.going {
-        return Turned::Ended(at_rest(steps, counts, o));
+        return Turned::Ended(Repeated::Stopped {
+            steps,
+            counts,
+            normal: true,
+            length: o,
+        });
     }
-    if at_limit(steps, limit) {
-        let length = run::copy(scratch, place.i, scratch.len(), out, o);
-        return Turned::Ended(cut_short(steps, counts, length));
+    if steps == limit {
+        return Turned::Ended(Repeated::Stopped {
+            steps,
+            counts,
+            normal: false,
+            length: run::copy(scratch, place.i, scratch.len(), out, o),
+        });
     }
-    contract(course, place, out, scratch, stack, places, made)
+    contract_here(course, place, out, scratch, stack, places, made)
 }

@@ -19,6 +19,7 @@ use Rattle.term.proofs.node.Names.{drop-app, long}
 use Rattle.contraction.specs.Beside.{fitsAround, step-fits-in-frame}
 use Rattle.contraction.specs.Contracts as parts
 use Rattle.contraction.specs.Contracts.{becomes, outgrows}
+use Rattle.contraction.specs.declared.part.Contraction.{Contraction}
 use Rattle.contraction.specs.declared.part.Contracted.{Contracted}
 use Rattle.contraction.specs.declared.part.Contracted.the-variants.{Made, Outgrown}
 use Rattle.contraction.specs.Contracting.{Contracting}
@@ -31,7 +32,7 @@ use Rattle.reduction.specs.declared.place.Place.{Place}
 use Rattle.reduction.proofs.moves.Contexts.{plug-frame, plug-size, only-nearest, first-same}
 use Rattle.reduction.proofs.moves.Buffers.{wrote-right}
 use Rattle.reduction.proofs.moves.Redexes.{redex-steps}
-use Rattle.reduction.proofs.moves.Entries.{sides-size, whole-short}
+use Rattle.reduction.proofs.moves.Entries.{whole-size, whole-short}
 use Rattle.reduction.proofs.moves.Seeking.{stands-at}
 
 -- whatever comes to stand there, only the nearest node may wake
@@ -63,7 +64,7 @@ module _ {w : Term} {out scratch stack : List ℕ} {o i d n : ℕ} {places : Lis
   abbrev next : Term
   next = plug (s .above) u
 
-  pub short : l ≤ 4096
+  pub short : l ≤ limits .bytes
   short = whole-short s
 
   pub job : Contracting scratch i n l places out₁ t (x .rule) (x .half) u
@@ -73,7 +74,7 @@ module _ {w : Term} {out scratch stack : List ℕ} {o i d n : ℕ} {places : Lis
             record {
               stands = stands-at s;
               nodes-in = omega (arith, e .count, ap nodes (s .is), plug-frame (s .above) .count t);
-              bytes-in = omega (arith, sides-size s, ap size (s .is), plug-size (s .above) t);
+              bytes-in = omega (arith, whole-size s, ap size (s .is), plug-size (s .above) t);
               behind = omega arith;
               few = omega (arith, e .count, within limits w (s .fits));
               short = short;
@@ -93,7 +94,7 @@ module _ {w : Term} {out scratch stack : List ℕ} {o i d n : ℕ} {places : Lis
   tested : test ≡ stepFits limits (x .half) next
   tested =
       let a : n ≡ nodes (plug (s .above) t) = e .count ∙ ap nodes (s .is) in
-      let b : l ≡ size (plug (s .above) t) = sides-size s ∙ ap size (s .is) in
+      let b : l ≡ size (plug (s .above) t) = whole-size s ∙ ap size (s .is) in
       ap (λ (k : ℕ). halfFits limits (x .half) && fitsAround k l t u) a
       ∙ ap (λ (k : ℕ). halfFits limits (x .half) && fitsAround (nodes (plug (s .above) t)) k t u) b
       ∙ step-fits-in-frame (plug-frame (s .above)) t u (x .half)
@@ -103,25 +104,26 @@ module _ {w : Term} {out scratch stack : List ℕ} {o i d n : ℕ} {places : Lis
     outgrew q = go v
       where
         go : parts.Contracts scratch i n l t (x .rule) (x .half) u made₁ a → Over w out scratch stack o i d
-        go (becomes k end b c y) = absurd (let z : _≡_ {A = ℕ} 0 1 = cc in omega arith)
+        go (becomes m b c y) = absurd (let z : _≡_ {A = ℕ} 0 1 = cc in omega arith)
         go (outgrows b c) = record { rule = x .rule; half = x .half; next = next; steps = steps; tested = sym tested ∙ b; stands = s }
 
-    module _ {r : Rule} {k end m : ℕ} (q : a ≡ Made r k end m) where
+    module _ {m : Contraction} (q : a ≡ Made m) where
+      abbrev k : ℕ
+      k = m .size
+
+      abbrev end : ℕ
+      end = m .end
+
       -- what was made
       record Is : Type 0 where
         passes : test ≡ true
-        rule : r ≡ x .rule
-        count : m ≡ n - nodes t + nodes u
-        replaced : parts.Replaced scratch i t u made₁ k end
+        replaced : parts.Replaced scratch i n t (x .rule) u made₁ m
 
       is : Is
       is = go v
         where
           go : parts.Contracts scratch i n l t (x .rule) (x .half) u made₁ a → Is
-          go (becomes k′ end′ b c y) =
-              let ek : k ≡ k′ = cc in
-              let ee : end ≡ end′ = cc in
-              record { passes = b; rule = cc; count = cc; replaced = rw (ek, ee) y }
+          go (becomes m′ b c y) = let e : m ≡ m′ = cc in record { passes = b; replaced = rw e y }
           go (outgrows b c) = absurd (let z : _≡_ {A = ℕ} 0 1 = cc in omega arith)
 
       passes : stepFits limits (x .half) next ≡ true
@@ -131,7 +133,7 @@ module _ {w : Term} {out scratch stack : List ℕ} {o i d n : ℕ} {places : Lis
       fits-next = both-true (halfFits limits (x .half)) (fits limits next) passes .1
 
       -- the new whole is short, so there is room for it in front of what follows
-      fits-before : o + (size u + (length scratch - (i + size t))) ≤ 4096
+      fits-before : o + (size u + (length scratch - (i + size t))) ≤ limits .bytes
       fits-before =
           omega (
             arith,
@@ -153,7 +155,7 @@ module _ {w : Term} {out scratch stack : List ℕ} {o i d n : ℕ} {places : Lis
           sym (omega (arith, made-long, length-append (slice 0 k made₁) (slice end (i + size t) scratch), length-slice end (i + size t) scratch end-inside))
           ∙ ap (λ (z : Bytes). length z) (is .replaced .bytes)
 
-      pub made-room : (k ≤ end) × (k ≤ 4096) × (end - k + k ≡ end) × (end ≤ length scratch)
+      pub made-room : (k ≤ end) × (k ≤ limits .bytes) × (end - k + k ≡ end) × (end ≤ length scratch)
       made-room =
           let b = fits-before in
           let f = end-inside in
@@ -205,13 +207,13 @@ module _ {w : Term} {out scratch stack : List ℕ} {o i d n : ℕ} {places : Lis
                   };
             }
 
-      pub lands : {scratch₂ : List ℕ} (g : Place) → Standing next out scratch₂ stack (g .o) (g .i) (g .depth) → Lands w r m out scratch₂ stack g
+      pub lands : {scratch₂ : List ℕ} (g : Place) → Standing next out scratch₂ stack (g .o) (g .i) (g .depth) → Lands w m out scratch₂ stack g
       lands g y =
-          let b : m ≡ nodes next = is .count ∙ omega (arith, e .count, ap nodes (s .is), plug-frame (s .above) .count t, plug-frame (s .above) .count u) in
+          let b : m .nodes ≡ nodes next = is .replaced .count ∙ omega (arith, e .count, ap nodes (s .is), plug-frame (s .above) .count t, plug-frame (s .above) .count u) in
           record {
             next = next;
             half = x .half;
-            steps = subst (λ (z : Rule). Steps w z (x .half) next) (sym (is .rule)) steps;
+            steps = subst (λ (z : Rule). Steps w z (x .half) next) (sym (is .replaced .rule)) steps;
             tested = passes;
             count = b;
             stands = y;

@@ -8,21 +8,19 @@ use lib.ListN.{length, take, drop, getD, length-append}
 use lib.Seq.{length-sets, slice, take-at, take-take, drop-at}
 use Rattle.rules.specs.Basic.{Bytes}
 use Rattle.rules.specs.Limits.{limits}
-use Rattle.rules.specs.Term.{Term, encode, nodes, size, fits}
-use Rattle.laws.specs.reading.Fits.{within}
+use Rattle.rules.specs.Term.{Term, encode, fits}
 use Rattle.buffer.specs.Wrote.{Wrote}
 use Rattle.term.specs.Node.{tag}
 use Rattle.term.specs.Place.{TermAt}
-use Rattle.term.proofs.node.Names.{long}
 use Rattle.term.proofs.node.Terms.{at-tag, at-small, at-inside}
 use Rattle.redex.specs.Searched.{reduces}
 use Rattle.reduction.specs.Hole.{Hole, fill, passed, before, behind, Above, plug, lefts, rights}
 use Rattle.reduction.specs.Quiet.{firstPart, Entered, Asleep, Quiet}
-use Rattle.reduction.specs.Standing.{Sides, Standing, Nearly, Landed}
+use Rattle.reduction.specs.Standing.{secondMark, Sides, Standing, Nearly, Landed}
 use Rattle.reduction.proofs.moves.Holes.{fill-encode}
-use Rattle.reduction.proofs.moves.Contexts.{plug-size, depth-below}
+use Rattle.reduction.proofs.moves.Contexts.{plug-encode}
 use Rattle.reduction.proofs.moves.Sights.{first-is}
-use Rattle.reduction.proofs.moves.Buffers.{wrote-right}
+use Rattle.reduction.proofs.moves.Buffers.{wrote-right, sides-short, depth-few}
 use Rattle.reduction.proofs.moves.Marks.{Under, not-first, none-passed, started, start-before, tag-is}
 
 -- the nearest node above
@@ -73,22 +71,14 @@ module _ {w : Term} {out scratch stack : List ℕ} {o i d : ℕ} (k : Nearest w 
   pub new-small : getD scratch i 0 < 18
   new-small = at-small scratch i t stands-at
 
-  short : o + (length scratch - i) ≤ 4096
-  short =
-      omega (
-        arith,
-        k .sides .long,
-        long scratch (encode t) (behind f ++ rights c) i (k .sides .right),
-        plug-size (f ∷ c) t,
-        ap size (k .is),
-        within limits w (k .fits),
-      )
+  short : o + (length scratch - i) ≤ limits .bytes
+  short = sides-short (k .sides) w (k .fits) (sym (plug-encode (f ∷ c) t) ∙ ap encode (sym (k .is)))
 
-  pub depth-few : d ≤ 512
-  depth-few = omega (arith, k .sides .depth, depth-below c (fill f t), ap nodes (k .is), within limits w (k .fits))
+  pub few : d < limits .nodes
+  few = depth-few (k .sides) w (k .fits) t (k .is)
 
   pub in-stack : d - 1 < length stack
-  in-stack = omega (arith, depth-few, k .sides .depth, k .sides .stack-room)
+  in-stack = omega (arith, few, k .sides .stack-room)
 
   pub under : Under f c [] out stack o d
   under =
@@ -105,10 +95,10 @@ module _ {w : Term} {out scratch stack : List ℕ} {o i d : ℕ} (k : Nearest w 
   stays : Asleep f t → Standing w out scratch stack o i d
   stays a = record { above = f ∷ c; at = t; is = k .is; quiet = (k .enters, a, k .quiet); fits = k .fits; sides = k .sides }
 
-  pub stays-second : getD stack (d - 1) 0 ≡ 8192 → Standing w out scratch stack o i d
+  pub stays-second : getD stack (d - 1) 0 ≡ secondMark → Standing w out scratch stack o i d
   stays-second e = stays (k .second (λ p. not-first under e p))
 
-  module _ (ne : getD stack (d - 1) 0 ≡ 8192 → ⊥) where
+  module _ (ne : getD stack (d - 1) 0 ≡ secondMark → ⊥) where
     abbrev start : ℕ
     start = getD stack (d - 1) 0
 

@@ -1,15 +1,20 @@
--- The two buffers and the stack as lists: what a run of bytes leaves on the left and on the right of where it was written, and what a
--- mark leaves of the marks below it. Assumes nothing.
+-- The two buffers and the stack as lists: what a run of bytes leaves on the left and on the right of where it was written, what a mark
+-- leaves of the marks below it, and that the two sides are the whole, which fits. Assumes nothing.
 use Prim.Native.Nat.{ℕ, _+_, _-_, _≤_, _<_}
 use mathlib.Core.Path.{_≡_, sym, ap, _∙_}
+use mathlib.Core.Bool.{true}
 use mathlib.Core.List.{List, [], _∷_, _++_, append-assoc}
 use native.Mathlib.Omega.{arith}
-use lib.ListN.{length, take, drop, set, getD, length-append}
+use lib.ListN.{length, take, drop, set, getD, length-append, length-drop}
 use lib.Seq.{sets-eq, length-take-le, take-at, drop-at, getD-set-same, getD-set-other}
 use Rattle.rules.specs.Basic.{Bytes}
+use Rattle.rules.specs.Limits.{limits}
+use Rattle.rules.specs.Term.{Term, encode, nodes, size, fits}
+use Rattle.laws.specs.reading.Fits.{within}
 use Rattle.buffer.specs.Wrote.{Wrote}
-use Rattle.reduction.specs.Hole.{Hole, Above, passed, lefts}
-use Rattle.reduction.specs.Standing.{mark, Held}
+use Rattle.reduction.specs.Hole.{Hole, passed, Above, plug, lefts}
+use Rattle.reduction.specs.Standing.{mark, Held, Sides}
+use Rattle.reduction.proofs.moves.Contexts.{depth-below}
 
 module _ {l xs l′ : Bytes} {i p : ℕ} (w : Wrote l i xs l′ p) (h : i + length xs ≤ length l) where
   split : l′ ≡ take i l ++ xs ++ drop (i + length xs) l
@@ -39,3 +44,17 @@ held-below s (f ∷ c) k v h d =
 pub held-set : (s : List ℕ) (f : Hole) (c : Above) (k v : ℕ) → k ≡ length c → k < length s → v ≡ mark (length (passed f)) (length (lefts c)) → Held s c → Held (set s k v) (f ∷ c)
 held-set s f c k v e h m d =
     (ap (λ (j : ℕ). getD (set s k v) j 0) (sym e) ∙ getD-set-same s k v 0 h ∙ m, held-below s c k v (omega (arith, e)) d)
+
+-- ---- both sides of a whole that fits
+
+module _ {l r : Bytes} {c : Above} {out scratch stack : List ℕ} {o i d : ℕ} (s : Sides l r c out scratch stack o i d) (w : Term) where
+  pub sides-size : l ++ r ≡ encode w → o + (length scratch - i) ≡ size w
+  sides-size e =
+      omega (arith, s .long, ap (λ (z : Bytes). length z) (s .right), length-drop i scratch, length-append l r, ap (λ (z : Bytes). length z) e)
+
+  module _ (f : fits limits w ≡ true) where
+    pub sides-short : l ++ r ≡ encode w → o + (length scratch - i) ≤ limits .bytes
+    sides-short e = omega (arith, sides-size e, within limits w f)
+
+    pub depth-few : (t : Term) → w ≡ plug c t → d < limits .nodes
+    depth-few t e = omega (arith, s .depth, depth-below c t, ap nodes e, within limits w f)

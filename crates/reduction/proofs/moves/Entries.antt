@@ -1,6 +1,6 @@
 -- Into a node: its head goes over to the output, its mark onto the stack, and the search stands at its first part. Assumes nothing.
 use Prim.Native.Nat.{ℕ, _+_, _-_, _≤_, _<_}
-use mathlib.Core.Path.{_≡_, subst, ap, _∙_}
+use mathlib.Core.Path.{_≡_, sym, subst, ap, _∙_}
 use mathlib.Core.Bool.{true}
 use mathlib.Core.List.{List, _∷_, _++_, append-assoc}
 use native.Mathlib.Omega.{arith}
@@ -8,8 +8,7 @@ use lib.ListN.{length, drop, set, length-append, length-set}
 use lib.Seq.{length-sets, slice}
 use Rattle.rules.specs.Limits.{limits}
 use Rattle.rules.specs.Basic.{Bytes}
-use Rattle.rules.specs.Term.{Term, encode, nodes, size}
-use Rattle.laws.specs.reading.Fits.{within}
+use Rattle.rules.specs.Term.{Term, encode, size}
 use Rattle.buffer.specs.Wrote.{Wrote}
 use Rattle.buffer.specs.Writing.{slice-is}
 use Rattle.term.proofs.node.Names.{drop-app, long}
@@ -17,27 +16,19 @@ use Rattle.reduction.specs.Hole.{Hole, before, behind, plug, lefts, righ
 use Rattle.reduction.specs.Quiet.{Quiet}
 use Rattle.reduction.specs.Standing.{Sides, Standing, Goes, Entering}
 use Rattle.reduction.proofs.moves.Holes.{fill-encode}
-use Rattle.reduction.proofs.moves.Contexts.{plug-size, depth-below}
-use Rattle.reduction.proofs.moves.Buffers.{wrote-left, held-set}
+use Rattle.reduction.proofs.moves.Contexts.{plug-encode}
+use Rattle.reduction.proofs.moves.Buffers.{wrote-left, held-set, sides-size, sides-short, depth-few}
 
 module _ {w : Term} {out scratch stack : List ℕ} {o i d : ℕ} (s : Standing w out scratch stack o i d) where
   -- the two sides are the whole
-  pub sides-size : o + (length scratch - i) ≡ size w
-  sides-size =
-      let e = s .sides in
-      omega (
-        arith,
-        e .long,
-        long scratch (encode (s .at)) (rights (s .above)) i (e .right),
-        plug-size (s .above) (s .at),
-        ap size (s .is),
-      )
+  pub is-whole : lefts (s .above) ++ (encode (s .at) ++ rights (s .above)) ≡ encode w
+  is-whole = sym (plug-encode (s .above) (s .at)) ∙ ap encode (sym (s .is))
 
-  pub whole-short : o + (length scratch - i) ≤ 4096
-  whole-short = omega (arith, sides-size, within limits w (s .fits))
+  pub whole-size : o + (length scratch - i) ≡ size w
+  whole-size = sides-size (s .sides) w is-whole
 
-  pub depth-few : d < 512
-  depth-few = omega (arith, s .sides .depth, depth-below (s .above) (s .at), ap nodes (s .is), within limits w (s .fits))
+  pub whole-short : o + (length scratch - i) ≤ limits .bytes
+  whole-short = sides-short (s .sides) w (s .fits) is-whole
 
 module _ {w : Term} {out scratch stack : List ℕ} {o i d m : ℕ} (e : Entering w out scratch stack o i d m) where
   abbrev s : Standing w out scratch stack o i d
@@ -60,8 +51,10 @@ module _ {w : Term} {out scratch stack : List ℕ} {o i d m : ℕ} (e : Entering
       ∙ append-assoc (before f) (encode a ++ behind f) (rights (s .above))
       ∙ ap (λ (z : Bytes). before f ++ z) (append-assoc (encode a) (behind f) (rights (s .above)))
 
-  pub enter-depth : (d < 512) × (d < length stack) × (o < 65536)
-  enter-depth = (depth-few (e .stands), omega (arith, depth-few (e .stands), e .stands .sides .stack-room), omega (arith, whole-short (e .stands)))
+  pub enter-depth : (d < limits .nodes) × (d < length stack) × (o < 65536)
+  enter-depth =
+      let few = depth-few (s .sides) w (s .fits) (s .at) (s .is) in
+      (few, omega (arith, few, s .sides .stack-room), omega (arith, whole-short (e .stands)))
 
   pub enter-room : (i ≤ m) × (m ≤ length scratch) × (o + (m - i) ≤ length out)
   enter-room =

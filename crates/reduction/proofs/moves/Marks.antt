@@ -7,11 +7,12 @@ use native.Mathlib.Omega.{arith}
 use lib.ListN.{length, take, getD}
 use lib.Seq.{getD-take, getD-at}
 use Rattle.rules.specs.Basic.{Bytes}
+use Rattle.rules.specs.Limits.{limits}
 use Rattle.rules.specs.Name.{encodeNames}
 use Rattle.rules.specs.Term.{Term}
 use Rattle.term.specs.Node.{encodeAll}
 use Rattle.reduction.specs.Hole.{Hole, holeTag, holeNames, passed, ahead, before, Above, lefts}
-use Rattle.reduction.specs.Standing.{mark}
+use Rattle.reduction.specs.Standing.{secondMark, mark}
 use Rattle.reduction.proofs.moves.Holes.{hole-small}
 use Rattle.reduction.proofs.moves.Onward.{Stage, at-first, at-second, stage}
 
@@ -19,24 +20,24 @@ use Rattle.reduction.proofs.moves.Onward.{Stage, at-first, at-second, s
 pub record Under (f : Hole) (c : Above) (x out stack : List ℕ) (o d : ℕ) : Type 0 where
   pub left : take o out ≡ lefts c ++ (before f ++ x)
   pub long : o ≡ length (lefts c) + (length (before f) + length x)
-  pub short : o ≤ 4096
-  pub room : 4096 ≤ length out
+  pub short : o ≤ limits .bytes
+  pub room : limits .bytes ≤ length out
   pub marked : getD stack (d - 1) 0 ≡ mark (length (passed f)) (length (lefts c))
 
 module _ {f : Hole} {c : Above} {x out stack : List ℕ} {o d : ℕ} (u : Under f c x out stack o d) where
-  pub not-first : getD stack (d - 1) 0 ≡ 8192 → passed f ≡ [] → ⊥
+  pub not-first : getD stack (d - 1) 0 ≡ secondMark → passed f ≡ [] → ⊥
   not-first e p =
       let m : getD stack (d - 1) 0 ≡ length (lefts c) = u .marked ∙ ap (λ (z : List Term). mark (length z) (length (lefts c))) p in
       omega (arith, m, e, u .long, u .short)
 
-  pub none-ahead : getD stack (d - 1) 0 ≡ 8192 → ahead f ≡ []
+  pub none-ahead : getD stack (d - 1) 0 ≡ secondMark → ahead f ≡ []
   none-ahead e = go (stage f)
     where
       go : Stage f → ahead f ≡ []
       go (at-first p) = absurd (not-first e p)
       go (at-second p a) = a
 
-  module _ (ne : getD stack (d - 1) 0 ≡ 8192 → ⊥) where
+  module _ (ne : getD stack (d - 1) 0 ≡ secondMark → ⊥) where
     pub none-passed : passed f ≡ []
     none-passed = go (stage f)
       where

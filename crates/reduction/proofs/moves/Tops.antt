@@ -1,19 +1,18 @@
 -- Behind a term that has no step: the nearest node above it; or none, and the whole has no step. Assumes nothing.
 use Prim.Native.Nat.{ℕ, _+_, _-_, _≤_, _<_}
-use mathlib.Core.Path.{_≡_, ap, _∙_}
+use mathlib.Core.Path.{_≡_, sym, ap, _∙_}
 use mathlib.Core.Bool.{true}
 use mathlib.Core.List.{List, [], _∷_, _++_, append-assoc}
 use native.Mathlib.Omega.{arith}
 use lib.ListN.{length, getD, length-append}
 use Rattle.rules.specs.Limits.{limits}
-use Rattle.rules.specs.Term.{Term, encode, nodes, size, fits}
-use Rattle.laws.specs.reading.Fits.{within}
+use Rattle.rules.specs.Term.{Term, encode, size, fits}
 use Rattle.rules.specs.Step.{normal, step}
-use Rattle.term.proofs.node.Names.{long}
 use Rattle.reduction.specs.Hole.{Hole, fill, before, behind, Above, plug, lefts, rights}
 use Rattle.reduction.specs.Quiet.{Entered, Asleep, Quiet}
 use Rattle.reduction.specs.Standing.{Sides, Done, Ended}
-use Rattle.reduction.proofs.moves.Contexts.{plug-size, depth-below}
+use Rattle.reduction.proofs.moves.Contexts.{plug-encode}
+use Rattle.reduction.proofs.moves.Buffers.{sides-short, depth-few}
 use Rattle.reduction.proofs.moves.Marks.{Under}
 
 -- the nearest node above
@@ -60,24 +59,16 @@ module _ {w : Term} {out scratch stack : List ℕ} {o i d : ℕ} (k : Top w out 
   left-long =
       omega (arith, k .sides .long, length-append (lefts c ++ before f) (encode t), length-append (lefts c) (before f))
 
-  pub sides-short : o + (length scratch - i) ≤ 4096
-  sides-short =
-      omega (
-        arith,
-        left-long,
-        long scratch (behind f) (rights c) i (k .sides .right),
-        plug-size (f ∷ c) t,
-        length-append (lefts c) (before f),
-        length-append (behind f) (rights c),
-        ap size (k .is),
-        within limits w (k .fits),
-      )
+  pub whole-short : o + (length scratch - i) ≤ limits .bytes
+  whole-short =
+      sides-short (k .sides) w (k .fits)
+      (append-assoc (lefts c ++ before f) (encode t) (behind f ++ rights c) ∙ sym (plug-encode (f ∷ c) t) ∙ ap encode (sym (k .is)))
 
-  pub depth-few : d ≤ 512
-  depth-few = omega (arith, k .sides .depth, depth-below c (fill f t), ap nodes (k .is), within limits w (k .fits))
+  pub few : d < limits .nodes
+  few = depth-few (k .sides) w (k .fits) t (k .is)
 
   pub in-stack : d - 1 < length stack
-  in-stack = omega (arith, depth-few, k .sides .depth, k .sides .stack-room)
+  in-stack = omega (arith, few, k .sides .stack-room)
 
   pub under : Under f c (encode t) out stack o d
   under =
@@ -85,7 +76,7 @@ module _ {w : Term} {out scratch stack : List ℕ} {o i d : ℕ} (k : Top w out 
       record {
         left = k .sides .left ∙ append-assoc (lefts c) (before f) (encode t);
         long = left-long;
-        short = omega (arith, sides-short);
+        short = omega (arith, whole-short);
         room = k .sides .room;
         marked = ap (λ (j : ℕ). getD stack j 0) e ∙ k .sides .held .0;
       }

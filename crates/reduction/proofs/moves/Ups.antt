@@ -18,12 +18,12 @@ use Rattle.term.proofs.node.Terms.{Some, SkipIs}
 use Rattle.redex.specs.Searched.{entersAfter}
 use Rattle.reduction.specs.Hole.{Hole, fill, holeTag, passed, ahead, before, behind, Above, plug, lefts, rights}
 use Rattle.reduction.specs.Quiet.{Quiet}
-use Rattle.reduction.specs.Standing.{mark, Standing, Done, Ended, Goes}
+use Rattle.reduction.specs.Standing.{secondMark, mark, Standing, Done, Ended, Goes}
 use Rattle.reduction.proofs.moves.Holes.{fill-encode}
 use Rattle.reduction.proofs.moves.Onward.{Follows, second, last, follows, ahead-count, second-before, second-behind}
 use Rattle.reduction.proofs.moves.Buffers.{wrote-left, held-set}
 use Rattle.reduction.proofs.moves.Marks.{not-first, none-ahead, none-passed, tag-is}
-use Rattle.reduction.proofs.moves.Tops.{Top, sides-short, in-stack, under}
+use Rattle.reduction.proofs.moves.Tops.{Top, whole-short, in-stack, under}
 
 module _ {w : Term} {out scratch stack : List ℕ} {o i d : ℕ} (k : Top w out scratch stack o i d) where
   abbrev f : Hole
@@ -50,7 +50,7 @@ module _ {w : Term} {out scratch stack : List ℕ} {o i d : ℕ} (k : Top w out 
       ∙ ap (λ (z : Bytes). lefts c ++ z) (sym (fill-encode f t))
 
   behind-room : o + length (behind f) ≤ length out
-  behind-room = omega (arith, sides-short k, long scratch (behind f) (rights c) i (k .sides .right), k .sides .room)
+  behind-room = omega (arith, whole-short k, long scratch (behind f) (rights c) i (k .sides .right), k .sides .room)
 
   -- behind the node
   module _ (e : step (fill f t) ≡ normal) {out₁ : List ℕ} {m p : ℕ} (v : Wrote out o (behind f) out₁ p) (n : m ≡ i + length (behind f)) where
@@ -79,22 +79,22 @@ module _ {w : Term} {out scratch stack : List ℕ} {o i d : ℕ} (k : Top w out 
         }
 
   -- the hole is the second part
-  pub from-second : getD stack (d - 1) 0 ≡ 8192 → Done w out scratch stack o i (d - 1)
+  pub from-second : getD stack (d - 1) 0 ≡ secondMark → Done w out scratch stack o i (d - 1)
   from-second e =
       let a : ahead f ≡ [] = none-ahead (under k) e in
       let b : behind f ≡ [] = ap (λ (z : List Term). encodeAll z) a in
       up (rests (λ x q. not-first (under k) e q)) (subst (λ (z : Bytes). Wrote out o z out o) (sym b) (wrote-none out o)) (omega (arith, ap (λ (z : Bytes). length z) b))
 
-  module _ (ne : getD stack (d - 1) 0 ≡ 8192 → ⊥) where
+  module _ (ne : getD stack (d - 1) 0 ≡ secondMark → ⊥) where
     module _ (n : ℕ) (en : n ≡ entersAfter (getD out (getD stack (d - 1) 0) 0)) where
       enters : n ≡ entersAfter (holeTag f)
       enters = en ∙ ap (λ (j : ℕ). entersAfter j) (tag-is (under k) ne)
 
       -- on to the second part
-      pub to-second : n ≡ 2 → Standing w out scratch (set stack (d - 1) 8192) o i d
+      pub to-second : n ≡ 2 → Standing w out scratch (set stack (d - 1) secondMark) o i d
       to-second z = go (follows f t (k .enters))
         where
-          go : Follows f t → Standing w out scratch (set stack (d - 1) 8192) o i d
+          go : Follows f t → Standing w out scratch (set stack (d - 1) secondMark) o i d
           go (last e l) = absurd (omega (arith, e (none-passed (under k) ne), enters, z))
           go (second g b e s) =
               let v = k .sides in
@@ -111,11 +111,11 @@ module _ {w : Term} {out scratch stack : List ℕ} {o i d : ℕ} (k : Top w out 
                       long = v .long ∙ ap (λ (y : Bytes). length y) q;
                       right = v .right ∙ second-behind s (rights c);
                       inside = v .inside;
-                      held = held-set stack g c (d - 1) 8192 (omega (arith, v .depth)) (in-stack k) (ap (λ (y : List Term). mark (length y) (length (lefts c))) (sym (s .then))) (v .held .1);
+                      held = held-set stack g c (d - 1) secondMark (omega (arith, v .depth)) (in-stack k) (ap (λ (y : List Term). mark (length y) (length (lefts c))) (sym (s .then))) (v .held .1);
                       depth = omega (arith, v .depth);
                       room = v .room;
                       scratch-room = v .scratch-room;
-                      stack-room = omega (arith, v .stack-room, length-set stack (d - 1) 8192);
+                      stack-room = omega (arith, v .stack-room, length-set stack (d - 1) secondMark);
                     };
               }
 

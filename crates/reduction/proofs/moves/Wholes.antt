@@ -1,6 +1,6 @@
 -- The two sides are the whole: at the end what has yet to be seen goes behind what was passed, and nothing is walked back. Assumes nothing.
 use Prim.Native.Nat.{ℕ, _+_, _-_, _≤_}
-use mathlib.Core.Path.{_≡_, refl, sym, ap, _∙_}
+use mathlib.Core.Path.{_≡_, refl, ap, _∙_}
 use mathlib.Core.Bool.{true}
 use mathlib.Core.List.{List, [], _++_}
 use native.Mathlib.Omega.{arith}
@@ -12,9 +12,8 @@ use Rattle.rules.specs.Term.{Term, encode, size, fits}
 use Rattle.buffer.specs.Wrote.{Wrote}
 use Rattle.reduction.specs.Hole.{rights}
 use Rattle.reduction.specs.Standing.{Standing}
-use Rattle.reduction.proofs.moves.Contexts.{plug-encode}
 use Rattle.reduction.proofs.moves.Buffers.{wrote-left, wrote-right}
-use Rattle.reduction.proofs.moves.Entries.{sides-size, whole-short}
+use Rattle.reduction.proofs.moves.Entries.{is-whole, whole-size, whole-short}
 
 module _ {w : Term} {out scratch stack : List ℕ} {o i d : ℕ} (s : Standing w out scratch stack o i d) where
   pub join-room : (i ≤ length scratch) × (o + (length scratch - i) ≤ length out)
@@ -26,15 +25,14 @@ module _ {w : Term} {out scratch stack : List ℕ} {o i d : ℕ} (s : Standing w
 
   module _ {out₁ : List ℕ} {p : ℕ} (v : Wrote out o (slice i (length scratch) scratch) out₁ p) where
     pub join-long : p ≡ size w
-    join-long = v .ends ∙ ap (λ (z : Bytes). o + length z) rest ∙ ap (λ (k : ℕ). o + k) (length-drop i scratch) ∙ sides-size s
+    join-long = v .ends ∙ ap (λ (z : Bytes). o + length z) rest ∙ ap (λ (k : ℕ). o + k) (length-drop i scratch) ∙ whole-size s
 
     pub join-bytes : take p out₁ ≡ encode w
     join-bytes =
         wrote-left v (omega (arith, ap (λ (z : Bytes). length z) rest, length-drop i scratch, join-room))
         ∙ ap (λ (z : Bytes). take o out ++ z) (rest ∙ s .sides .right)
         ∙ ap (λ (z : Bytes). z ++ (encode (s .at) ++ rights (s .above))) (s .sides .left)
-        ∙ sym (plug-encode (s .above) (s .at))
-        ∙ ap encode (sym (s .is))
+        ∙ is-whole s
 
 -- a term at the end of the scratch, and nothing passed: there the search begins
 module _ (t : Term) (f : fits limits t ≡ true) {out scratch stack scratch₁ : List ℕ} {k p : ℕ} (v : Wrote scratch k (encode t) scratch₁ p)

@@ -9,11 +9,11 @@ use Rattle.reduction.proofs.normalize_bounded.Tie as tie
 short-requires : tie.Need-short-requires
 short-requires c κs = search needs
 
-refused-requires : tie.Need-refused-requires
-refused-requires c κs = search needs
+of-no-input-requires : tie.Need-of-no-input-requires
+of-no-input-requires c κs = search needs
 
 returns : tie.Need-returns
-returns c = let a = c .before .before .before .before .before .before .args in too-short (now (a .term)) (a .limit) (now (a .out)) (now (a .scratch)) _ (c .before .before .short .ensures .few (c .before .if1 .taken)) (c .refused .ensures)
+returns c = let a = c .before .before .before .before .before .before .args in too-short (now (a .term)) (a .limit) (now (a .out)) (now (a .scratch)) _ (c .before .before .short .ensures .few (c .before .if1 .taken)) (rw (c .of-no-input .ensures))
 
 term-input-requires : tie.Need-term-input-requires
 term-input-requires c κs = search needs
@@ -52,7 +52,7 @@ normalize-bounded-spec =
     tie.close
     (tie.spec
     short-requires
-    refused-requires
+    of-no-input-requires
     returns
     term-input-requires
     enum-known-refusal

@@ -7,17 +7,16 @@ use lib.ListN.{length, replicate, length-replicate}
 use lib.Seq.{slice, take-length}
 use Rattle.rules.specs.Basic.{Bytes}
 use Rattle.rules.specs.Limits.{limits, scratchRoom}
-use Rattle.rules.specs.Term.{Term, encode, size}
+use Rattle.rules.specs.Term.{Term, encode}
 use Rattle.laws.specs.reading.Fits.{within}
 use Rattle.rules.specs.declared.Counts.{Counts}
-use Rattle.rules.specs.Reduction.{noCounts, stopped, reduce}
+use Rattle.rules.specs.Reduction.{noCounts, reduce}
 use Rattle.buffer.specs.Wrote.{Wrote}
 use Rattle.term.specs.Given.{Reads}
 use Rattle.reduction.specs.Standing.{Standing, Finds}
 use Rattle.reduction.specs.declared.place.Place.{Place}
 use Rattle.reduction.proofs.moves.Wholes.{stands-first}
-use Rattle.reduction.specs.Told.{repeatedOf}
-use Rattle.reduction.specs.declared.course.Repeated.{Repeated}
+use Rattle.reduction.specs.declared.course.Repeated.the-variants.{Stopped}
 use Rattle.reduction.specs.Turning.{Carried, Stands, Repeats}
 use Rattle.reduction.proofs.repeat.Turns.{rests}
 
@@ -25,16 +24,16 @@ use Rattle.reduction.proofs.repeat.Turns.{rests}
 module _ {term : Bytes} {n : ℕ} {out : Bytes} {t : Term} (d : Reads term n out t) (scratch : Bytes) (h : scratchRoom limits ≤ length scratch) where
   pub begin-room : (length term ≤ length scratch) × (length scratch - length term + (length term - 0) ≤ length scratch)
   begin-room =
-      let l : length term ≤ 4096 = omega (arith, ap (λ (z : Bytes). length z) (d .whole), within limits t (d .fits)) in
+      let l : length term ≤ limits .bytes = omega (arith, ap (λ (z : Bytes). length z) (d .whole), within limits t (d .fits)) in
       (omega arith, omega arith)
 
   pub begins : {scratch₁ : Bytes} {p : ℕ} → Wrote scratch (length scratch - length term) (slice 0 (length term) term) scratch₁ p
-      → Standing t out scratch₁ (replicate 512 0) 0 (length scratch - length term) 0
+      → Standing t out scratch₁ (replicate (limits .nodes) 0) 0 (length scratch - length term) 0
   begins {scratch₁} {p = p} w =
       let q : slice 0 (length term) term ≡ encode t = take-length term ∙ d .whole in
       let v : Wrote scratch (length scratch - length term) (encode t) scratch₁ p = rw q at w in
       stands-first t (d .fits) v (omega (arith, ap (λ (z : Bytes). length z) (d .whole), begin-room)) (d .room) h
-      (omega (arith, length-replicate {A = ℕ} 512 0))
+      (omega (arith, length-replicate {A = ℕ} (limits .nodes) 0))
 
   module _ {out₁ scratch₁ stack₁ : Bytes} {p : Place} (f : Finds t out₁ scratch₁ stack₁ p) (limit : ℕ) (c : Counts) (q : c ≡ noCounts) where
     none-done : Carried limit t t (record { at = p; nodes = n; steps = 0; counts = c })
@@ -44,5 +43,5 @@ module _ {term : Bytes} {n : ℕ} {out : Bytes} {t : Term} (d : Reads term n out
     first e = record { whole = t; carried = none-done; stands = f .finds e .stands }
 
     -- there is no redex
-    pub settled : p .going ≡ false → {r : Repeated} → ((w : Term) → p .o ≡ size w → r ≡ repeatedOf (stopped 0 c true w)) → Repeats (reduce limits limit t) out₁ r
-    settled e h = rests none-done (f .ends e) h
+    pub settled : p .going ≡ false → Repeats (reduce limits limit t) out₁ (Stopped 0 c true (p .o))
+    settled e = rests none-done (f .ends e)

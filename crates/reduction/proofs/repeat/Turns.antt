@@ -10,11 +10,11 @@ use lib.ListN.{length}
 use lib.Seq.{slice}
 use Rattle.rules.specs.Basic.{Bytes}
 use Rattle.rules.specs.Limits.{limits}
-use Rattle.rules.specs.Term.{Term, size}
-use Rattle.rules.specs.declared.Rule.{Rule}
+use Rattle.rules.specs.Term.{Term}
 use Rattle.rules.specs.Step.{Stepped, isNormal}
 use Rattle.rules.specs.Reduction.{stopped, plus, reduceFrom, reduce}
 use Rattle.buffer.specs.Wrote.{Wrote}
+use Rattle.contraction.specs.declared.part.Contraction.{Contraction}
 use Rattle.reduction.specs.Standing.{Ended, Reducing, Finds}
 use Rattle.reduction.specs.Fired.{Firing, Fires, Lands, Over, Row}
 use Rattle.reduction.specs.declared.land.Fired.{Fired}
@@ -23,10 +23,10 @@ use Rattle.reduction.specs.declared.place.Place.{Place}
 use Rattle.reduction.proofs.moves.Redexes.{redex-steps}
 use Rattle.reduction.proofs.moves.Wholes.{join-long, join-bytes, join-room}
 use Rattle.reduction.specs.Counted.{counted}
-use Rattle.reduction.specs.Told.{repeatedOf, onward}
+use Rattle.reduction.specs.Told.{onward}
 use Rattle.reduction.specs.declared.course.Course.{Course}
 use Rattle.reduction.specs.declared.course.Repeated.{Repeated}
-use Rattle.reduction.specs.declared.course.Repeated.the-variants.{Outgrown}
+use Rattle.reduction.specs.declared.course.Repeated.the-variants.{Stopped, Outgrown}
 use Rattle.reduction.specs.Carried.{at-limit, at-rest, at-found, at-over}
 use Rattle.reduction.specs.Turning.{Carried, Stands, AtRedex, Room, GoesOn, Turns, Repeats}
 use Rattle.reduction.specs.declared.turn.Turned.{Turned}
@@ -41,28 +41,28 @@ still-going true e = refl
 still-going false e = sym e
 
 -- no step remains
-pub rests : {limit : ℕ} {t w : Term} {g : Course} {out : List ℕ} {l : ℕ} {r : Repeated} → Carried limit t w g → Ended w out l
-    → ((w : Term) → l ≡ size w → r ≡ repeatedOf (stopped (g .steps) (g .counts) true w)) → Repeats (reduce limits limit t) out r
-rests {limit} {w = w} {g = g} k e q =
+pub rests : {limit : ℕ} {t w : Term} {g : Course} {out : List ℕ} {l : ℕ} → Carried limit t w g → Ended w out l
+    → Repeats (reduce limits limit t) out (Stopped (g .steps) (g .counts) true l)
+rests {limit} {w = w} {g = g} k e =
     rw (k .carries ∙ at-rest limits (g .steps) (g .counts) w (limit - g .steps) (e .none))
-    (record { says = q w (e .long); bytes = rw (← e .long) (e .bytes); fits = e .fits })
+    (record { says = rw (e .long); bytes = rw (← e .long) (e .bytes); fits = e .fits })
 
 module _ {limit : ℕ} {t : Term} {out scratch stack out₁ stack₁ : List ℕ} {g : Course} {p : Place} (a : Stands limit t out scratch stack g) (f : Finds (a .whole) out₁ scratch stack₁ p) (e : not (p .going) ≡ false) where
   on : Reducing (a .whole) out₁ scratch stack₁ (p .o) (p .i) (p .depth)
   on = f .finds (still-going (p .going) e)
 
   -- the search has gone on to a redex
-  pub found : g .steps < limit → limit ≤ 4294967295 → AtRedex limit t out₁ scratch stack₁ g p
-  found l m = record { whole = a .whole; carried = a .carried; redex = on; below = l; small = m }
+  pub found : (g .steps ≡ limit → ⊥) → limit ≤ 4294967295 → AtRedex limit t out₁ scratch stack₁ g p
+  found ne m = record { whole = a .whole; carried = a .carried; redex = on; below = omega (arith, ne, a .carried .within); small = m }
 
   -- what is still to come goes behind what was passed
   pub rest-room : (p .i ≤ length scratch) × (length scratch ≤ length scratch) × (p .o + (length scratch - p .i) ≤ length out₁)
   rest-room = let j = join-room (on .stands) in (j .0, omega arith, j .1)
 
   -- at the limit
-  pub at-end : g .steps ≡ limit → {out₂ : List ℕ} {q : ℕ} {r : Repeated} → Wrote out₁ (p .o) (slice (p .i) (length scratch) scratch) out₂ q
-      → ((w : Term) → q ≡ size w → r ≡ repeatedOf (stopped (g .steps) (g .counts) false w)) → Repeats (reduce limits limit t) out₂ r
-  at-end h {out₂} {q} v m =
+  pub at-end : g .steps ≡ limit → {out₂ : List ℕ} {q : ℕ} → Wrote out₁ (p .o) (slice (p .i) (length scratch) scratch) out₂ q
+      → Repeats (reduce limits limit t) out₂ (Stopped (g .steps) (g .counts) false q)
+  at-end h {out₂} {q} v =
       let s = on .stands in
       let z : limit - g .steps ≡ 0 = omega arith in
       let y = redex-steps on in
@@ -70,7 +70,7 @@ module _ {limit : ℕ} {t : Term} {out scratch stack out₁ stack₁ : List ℕ}
       rw
       (a .carried .carries ∙ ap (λ (k : ℕ). reduceFrom limits k (g .steps) (g .counts) (a .whole)) z ∙ at-limit limits (g .steps) (g .counts) (a .whole)
       ∙ ap (λ (x : Stepped). stopped (g .steps) (g .counts) (isNormal x) (a .whole)) (y .is))
-      (record { says = m (a .whole) l; bytes = rw (← l) (join-bytes s v); fits = s .fits })
+      (record { says = rw l; bytes = rw (← l) (join-bytes s v); fits = s .fits })
 
 module _ {limit : ℕ} {t : Term} {out scratch stack : List ℕ} {g : Course} {p : Place} (a : AtRedex limit t out scratch stack g p) where
   pub fires : {places : List ℕ} {made : Bytes} → Room places made → Firing (a .whole) out scratch stack (p .o) (p .i) (p .depth) (g .nodes) places made
@@ -89,9 +89,9 @@ module _ {limit : ℕ} {t : Term} {out scratch stack : List ℕ} {g : Course} {p
       rw (left ∙ at-over limits (g .steps) (g .counts) (a .whole) (limit - (g .steps + 1)) (y .rule) (y .steps .place) (y .half) (y .next) (y .steps .is) (y .tested))
       (record { says = rw l; bytes = rw (← l) (join-bytes s v); fits = s .fits })
 
-  pub goes : {scratch₁ : List ℕ} {r : Rule} {m : ℕ} {q : Place} → Lands (a .whole) r m out scratch₁ stack q
-      → GoesOn limit t (g .steps) out scratch₁ stack (onward g r m q)
-  goes {r = r} y =
+  pub goes : {scratch₁ : List ℕ} {m : Contraction} {q : Place} → Lands (a .whole) m out scratch₁ stack q
+      → GoesOn limit t (g .steps) out scratch₁ stack (onward g m q)
+  goes {m = m} y =
       record {
         stands =
             record {
@@ -100,8 +100,8 @@ module _ {limit : ℕ} {t : Term} {out scratch stack : List ℕ} {g : Course} {p
                   record {
                     count = y .count;
                     within = omega (arith, a .below);
-                    added = counted r (g .counts) (plus r (g .counts)) (g .steps) refl (a .carried .added);
-                    carries = left ∙ at-found limits (g .steps) (g .counts) (a .whole) (limit - (g .steps + 1)) r (y .steps .place) (y .half) (y .next) (y .steps .is) (y .tested) ∙ rw add-one;
+                    added = counted (m .rule) (g .counts) (plus (m .rule) (g .counts)) (g .steps) refl (a .carried .added);
+                    carries = left ∙ at-found limits (g .steps) (g .counts) (a .whole) (limit - (g .steps + 1)) (m .rule) (y .steps .place) (y .half) (y .next) (y .steps .is) (y .tested) ∙ rw add-one;
                   };
               stands = y .stands;
             };
@@ -113,7 +113,7 @@ module _ {w : Term} {out scratch stack : List ℕ} (o i d : ℕ) (r : Fired) (f 
   pub is-over : r ≡ TooLarge → Over w out scratch stack o i d
   is-over e = subst (λ (z : Fired). Fires w out scratch stack o i d z) e f
 
-  pub is-made : {q : Rule} {m : ℕ} {p : Place} → r ≡ Made q m p → Lands w q m out scratch stack p
+  pub is-made : {m : Contraction} {p : Place} → r ≡ Made m p → Lands w m out scratch stack p
   is-made e = subst (λ (z : Fired). Fires w out scratch stack o i d z) e f
 
 -- what a turn's answer says

@@ -4,7 +4,7 @@ use Prim.Native.Nat.{_-_}
 use native.Mathlib.Omega.{arith}
 use borrow.Author.Needs.{needs}
 use Rattle.reduction.proofs.moves.Marks.{start-inside, tag-small}
-use Rattle.reduction.proofs.land.Waking.{nearest, alone, in-scratch, new-small, depth-few, in-stack, under, stays-second, stays-first, back-room, wakes}
+use Rattle.reduction.proofs.land.Waking.{nearest, alone, in-scratch, new-small, few, in-stack, under, stays-second, stays-first, back-room, wakes}
 use borrow.Author.Needs.{needs}
 use Rattle.reduction.proofs.land.wake.Statement.{statement}
 use Rattle.reduction.proofs.land.wake.Tie as tie
@@ -16,7 +16,7 @@ sub-top : tie.Need-sub-top
 sub-top c = search needs
 
 mul-mark : tie.Need-mul-mark
-mul-mark c = let a = (c .before .before .before .before .pre) in let k = nearest (a .1) ((c .if1) .left) in omega (arith, depth-few k)
+mul-mark c = let a = (c .before .before .before .before .pre) in let k = nearest (a .1) ((c .if1) .left) in omega (arith, few k)
 
 shared-slice-read-mark : tie.Need-shared-slice-read-mark
 shared-slice-read-mark c = let a = (c .before .before .before .before .before .pre) in let k = nearest (a .1) ((c .before .if1) .left) in in-stack k

@@ -5,7 +5,7 @@ use mathlib.Core.Path.{refl, _∙_}
 use native.Mathlib.Omega.{arith}
 use lib.ListN.{length-set}
 use Rattle.reduction.proofs.moves.Marks.{start-inside, tag-small}
-use Rattle.reduction.proofs.moves.Tops.{top, ended, depth-few, in-stack, under}
+use Rattle.reduction.proofs.moves.Tops.{top, ended, few, in-stack, under}
 use Rattle.reduction.proofs.moves.Ups.{Climbing, goes-on, goes-out, from-second, to-second, some-part, some-row, up-room, from-first}
 use Rattle.reduction.proofs.moves.climb.Statement.{statement}
 use Rattle.reduction.proofs.moves.climb.Tie as tie
@@ -23,7 +23,7 @@ sub-top : tie.Need-sub-top Inv-loop μ-loop
 sub-top c = omega arith
 
 mul-mark : tie.Need-mul-mark Inv-loop μ-loop
-mul-mark c = let a = (c .before .before .before .before .before .pre) in let k = top ((c .before .loop) .inv .carries (a .0) (a .1)) ((c .loop-test) .taken) in omega (arith, depth-few k)
+mul-mark c = let a = (c .before .before .before .before .before .pre) in let k = top ((c .before .loop) .inv .carries (a .0) (a .1)) ((c .loop-test) .taken) in omega (arith, few k)
 
 slice-read-mark : tie.Need-slice-read-mark Inv-loop μ-loop
 slice-read-mark c = let a = (c .before .before .before .before .before .before .pre) in let k = top ((c .before .before .loop) .inv .carries (a .0) (a .1)) ((c .before .loop-test) .taken) in in-stack k
@@ -47,7 +47,7 @@ enters-of-requires : tie.Need-enters-of-requires Inv-loop μ-loop
 enters-of-requires c κs = let a = (c .before .before .before .before .before .before .before .before .pre) in let k = top ((c .before .before .before .before .loop) .inv .carries (a .0) (a .1)) ((c .before .before .before .loop-test) .taken) in omega (arith, tag-small (under k) ((c .before .if1) .left))
 
 mul-stack : tie.Need-mul-stack Inv-loop μ-loop
-mul-stack c = let a = (c .before .before .before .before .before .before .before .before .before .before .pre) in let k = top ((c .before .before .before .before .before .before .loop) .inv .carries (a .0) (a .1)) ((c .before .before .before .before .before .loop-test) .taken) in omega (arith, depth-few k)
+mul-stack c = let a = (c .before .before .before .before .before .before .before .before .before .before .pre) in let k = top ((c .before .before .before .before .before .before .loop) .inv .carries (a .0) (a .1)) ((c .before .before .before .before .before .loop-test) .taken) in omega (arith, few k)
 
 slice-write-stack : tie.Need-slice-write-stack Inv-loop μ-loop
 slice-write-stack c = let a = (c .before .before .before .before .before .before .before .before .before .before .pre) in let k = top ((c .before .before .before .before .before .before .loop) .inv .carries (a .0) (a .1)) ((c .before .before .before .before .before .loop-test) .taken) in in-stack k

@@ -12,11 +12,11 @@ sub-begin c = let a = c .before .before .before .pre in begin-room (a .0 .1) (no
 copy-requires : tie.Need-copy-requires
 copy-requires c κs = let a = c .before .before .before .before .pre in (omega arith, omega arith, begin-room (a .0 .1) (now (c .before .before .before .before .args .scratch)) (a .1) .1)
 
-slice-aggregate-seek : tie.Need-slice-aggregate-seek
-slice-aggregate-seek c = search needs
+slice-aggregate-to-redex : tie.Need-slice-aggregate-to-redex
+slice-aggregate-to-redex c = search needs
 
-seek-requires : tie.Need-seek-requires
-seek-requires c κs = let a = c .before .before .before .before .before .before .before .before .before .before .pre in (a .0 .0, begins (a .0 .1) (now (c .before .before .before .before .before .before .before .before .before .before .args .scratch)) (a .1) (c .before .before .before .before .before .copy .ensures))
+to-redex-requires : tie.Need-to-redex-requires
+to-redex-requires c κs = let a = c .before .before .before .before .before .before .before .before .before .before .pre in (a .0 .0, begins (a .0 .1) (now (c .before .before .before .before .before .before .before .before .before .before .args .scratch)) (a .1) (c .before .before .before .before .before .copy .ensures))
 
 no-counts-requires : tie.Need-no-counts-requires
 no-counts-requires c κs = search needs
@@ -25,7 +25,7 @@ slice-aggregate-with-room : tie.Need-slice-aggregate-with-room
 slice-aggregate-with-room c = search needs
 
 with-room-requires : tie.Need-with-room-requires
-with-room-requires c κs = let a = c .before .before .before .before .before .before .before .before .before .before .before .before .before .before .before .before .before .before .before .pre in (a .0 .0, first (a .0 .1) (now (c .before .before .before .before .before .before .before .before .before .before .before .before .before .before .before .before .before .before .before .args .scratch)) (a .1) (c .before .before .before .before .before .before .before .before .seek .ensures (a .0 .0) (begins (a .0 .1) (now (c .before .before .before .before .before .before .before .before .before .before .before .before .before .before .before .before .before .before .before .args .scratch)) (a .1) (c .before .before .before .before .before .before .before .before .before .before .before .before .before .before .copy .ensures))) _ _ (c .before .before .before .before .no-counts .ensures) (c .before .before .before .if1 .taken))
+with-room-requires c κs = let a = c .before .before .before .before .before .before .before .before .before .before .before .before .before .before .before .before .before .before .before .pre in (a .0 .0, first (a .0 .1) (now (c .before .before .before .before .before .before .before .before .before .before .before .before .before .before .before .before .before .before .before .args .scratch)) (a .1) (c .before .before .before .before .before .before .before .before .to-redex .ensures (a .0 .0) (begins (a .0 .1) (now (c .before .before .before .before .before .before .before .before .before .before .before .before .before .before .before .before .before .before .before .args .scratch)) (a .1) (c .before .before .before .before .before .before .before .before .before .before .before .before .before .before .copy .ensures))) _ _ (c .before .before .before .before .no-counts .ensures) (c .before .before .before .if1 .taken))
 
 same-length : tie.Need-same-length
 same-length c = search needs
@@ -34,10 +34,7 @@ same-length-2 : tie.Need-same-length-2
 same-length-2 c = search needs
 
 returns : tie.Need-returns
-returns c = λ t d. c .before .before .before .before .before .with-room .ensures t (first d (now (c .before .before .before .before .before .before .before .before .before .before .before .before .before .before .before .before .before .before .before .before .before .before .before .before .before .args .scratch)) (c .before .before .before .before .before .before .before .before .before .before .before .before .before .before .before .before .before .before .before .before .before .before .before .before .before .pre .1) (c .before .before .before .before .before .before .before .before .before .before .before .before .before .before .seek .ensures t (begins d (now (c .before .before .before .before .before .before .before .before .before .before .before .before .before .before .before .before .before .before .before .before .before .before .before .before .before .args .scratch)) (c .before .before .before .before .before .before .before .before .before .before .before .before .before .before .before .before .before .before .before .before .before .before .before .before .before .pre .1) (c .before .before .before .before .before .before .before .before .before .before .before .before .before .before .before .before .before .before .before .before .copy .ensures))) _ _ (c .before .before .before .before .before .before .before .before .before .before .no-counts .ensures) (c .before .before .before .before .before .before .before .before .before .if1 .taken))
-
-at-rest-requires : tie.Need-at-rest-requires
-at-rest-requires c κs = search needs
+returns c = λ t d. c .before .before .before .before .before .with-room .ensures t (first d (now (c .before .before .before .before .before .before .before .before .before .before .before .before .before .before .before .before .before .before .before .before .before .before .before .before .before .args .scratch)) (c .before .before .before .before .before .before .before .before .before .before .before .before .before .before .before .before .before .before .before .before .before .before .before .before .before .pre .1) (c .before .before .before .before .before .before .before .before .before .before .before .before .before .before .to-redex .ensures t (begins d (now (c .before .before .before .before .before .before .before .before .before .before .before .before .before .before .before .before .before .before .before .before .before .before .before .before .before .args .scratch)) (c .before .before .before .before .before .before .before .before .before .before .before .before .before .before .before .before .before .before .before .before .before .before .before .before .before .pre .1) (c .before .before .before .before .before .before .before .before .before .before .before .before .before .before .before .before .before .before .before .before .copy .ensures))) _ _ (c .before .before .before .before .before .before .before .before .before .before .no-counts .ensures) (c .before .before .before .before .before .before .before .before .before .if1 .taken))
 
 same-length-3 : tie.Need-same-length-3
 same-length-3 c = search needs
@@ -46,7 +43,7 @@ same-length-4 : tie.Need-same-length-4
 same-length-4 c = search needs
 
 returns-2 : tie.Need-returns-2
-returns-2 c = λ t d. settled d (now (c .before .before .before .before .before .before .before .before .before .before .before .before .before .before .before .before .before .args .scratch)) (c .before .before .before .before .before .before .before .before .before .before .before .before .before .before .before .before .before .pre .1) (c .before .before .before .before .before .before .seek .ensures t (begins d (now (c .before .before .before .before .before .before .before .before .before .before .before .before .before .before .before .before .before .args .scratch)) (c .before .before .before .before .before .before .before .before .before .before .before .before .before .before .before .before .before .pre .1) (c .before .before .before .before .before .before .before .before .before .before .before .before .copy .ensures))) _ _ (c .before .before .no-counts .ensures) (c .before .if1 .left) (c .at-rest .ensures)
+returns-2 c = λ t d. settled d (now (c .before .before .before .before .before .before .before .before .before .before .before .before .before .before .before .before .args .scratch)) (c .before .before .before .before .before .before .before .before .before .before .before .before .before .before .before .before .pre .1) (c .before .before .before .before .before .to-redex .ensures t (begins d (now (c .before .before .before .before .before .before .before .before .before .before .before .before .before .before .before .before .args .scratch)) (c .before .before .before .before .before .before .before .before .before .before .before .before .before .before .before .before .pre .1) (c .before .before .before .before .before .before .before .before .before .before .before .copy .ensures))) _ _ (c .before .no-counts .ensures) (c .if1 .left)
 
 pub repeat-steps-spec : {M : Type 1} → statement M
 repeat-steps-spec =
@@ -54,15 +51,14 @@ repeat-steps-spec =
     (tie.spec
     sub-begin
     copy-requires
-    slice-aggregate-seek
-    seek-requires
+    slice-aggregate-to-redex
+    to-redex-requires
     no-counts-requires
     slice-aggregate-with-room
     with-room-requires
     same-length
     same-length-2
     returns
-    at-rest-requires
     same-length-3
     same-length-4
     returns-2)

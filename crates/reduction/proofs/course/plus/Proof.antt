@@ -1,8 +1,8 @@
--- `counting::plus` meets its contract, rule by rule. Assumes nothing.
+-- `course::plus` meets its contract, rule by rule. Assumes nothing.
 use native.Mathlib.Numerals.{add-one}
 use borrow.Author.Needs.{needs}
-use Rattle.reduction.proofs.counting.plus.Statement.{statement}
-use Rattle.reduction.proofs.counting.plus.Tie as tie
+use Rattle.reduction.proofs.course.plus.Statement.{statement}
+use Rattle.reduction.proofs.course.plus.Tie as tie
 
 enum-told : tie.Need-enum-told
 enum-told c = search needs

@@ -1,4 +1,4 @@
--- `moves::seek` meets its contract. The loop's invariant: the search stands where it is in the whole in which it began, or has come to the
+-- `moves::to_redex` meets its contract. The loop's invariant: the search stands where it is in the whole in which it began, or has come to the
 -- end. The measure is what it has yet to see. Assumes nothing.
 use Prim.Native.Nat.{_-_}
 use mathlib.Core.Path.{refl, _∙_}
@@ -6,8 +6,8 @@ use native.Mathlib.Omega.{arith}
 use lib.ListN.{length}
 use borrow.Author.Needs.{needs}
 use Rattle.reduction.proofs.moves.Seeking.{Seeking, begins, since, stands-at, in-scratch, entering, passing, reducing, inside-past, behind-past, found, out-of}
-use Rattle.reduction.proofs.moves.seek.Statement.{statement}
-use Rattle.reduction.proofs.moves.seek.Tie as tie
+use Rattle.reduction.proofs.moves.to_redex.Statement.{statement}
+use Rattle.reduction.proofs.moves.to_redex.Tie as tie
 
 abbrev Inv-loop : tie.InvT-loop
 Inv-loop scratch at out₀ to stack₀ under place₀ out stack place = Seeking scratch out₀ stack₀ to at under out stack place
@@ -66,8 +66,8 @@ same-length-4 c = (c .before .loop) .inv .same-stack
 returns-2 : tie.Need-returns-2 Inv-loop μ-loop
 returns-2 c = λ w a. out-of _ ((c .loop-test) .left) ((c .before .loop) .inv .carries w a)
 
-pub seek-spec : {M : Type 1} → statement M
-seek-spec =
+pub to-redex-spec : {M : Type 1} → statement M
+to-redex-spec =
     tie.close
     (tie.spec
     Inv-loop
