@@ -8,7 +8,8 @@ use Rattle.rules.specs.Basic.{Bytes}
 use Rattle.rules.specs.Name.{Name, encodeNames}
 use Rattle.rules.specs.Free.{insert}
 use Rattle.term.specs.Place.{NameAt}
-use Rattle.free.specs.Ordered.{Ordered, elem}
+use Rattle.laws.specs.free.Occurrences.{among}
+use Rattle.free.specs.Ordered.{Ordered}
 use Rattle.free.specs.Search.{at}
 use Rattle.free.specs.declared.slot.Slot.{Slot}
 
@@ -38,8 +39,8 @@ pub record Passed (s : Bytes) (row : List ℕ) (low : ℕ) (xs : List Name) : Ty
 -- a search through the binders xs, which stand up to 1024, has found x there or come to their end
 pub record Scanned (x : Name) (xs : List Name) (r : ℕ) : Type 0 where
   pub within : r ≤ 1024
-  pub hit : r < 1024 → elem x xs ≡ true
-  pub missed : 1024 ≤ r → elem x xs ≡ false
+  pub hit : r < 1024 → among x xs ≡ true
+  pub missed : 1024 ≤ r → among x xs ≡ false
 
 -- the row with p put in at i, and the entries from i to n moved up by one
 pub record Opened (row row′ : List ℕ) (n i p : ℕ) : Type 0 where

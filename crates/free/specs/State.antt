@@ -9,7 +9,8 @@ use Rattle.rules.specs.Basic.{Bytes, if_then_else_}
 use Rattle.rules.specs.Name.{Name}
 use Rattle.rules.specs.Free.{insert}
 use Rattle.term.specs.Place.{NameAt}
-use Rattle.free.specs.Ordered.{Ordered, elem}
+use Rattle.laws.specs.free.Occurrences.{among}
+use Rattle.free.specs.Ordered.{Ordered}
 use Rattle.free.specs.Rows.{Held, Passed}
 
 -- the binders passed are xs, the nearest first, and the names found so far are l, in order; 64 guesses follow
@@ -32,5 +33,5 @@ pub record Meets (s : Bytes) (p : ℕ) (row : List ℕ) (low n : ℕ) (x : Name)
   pub room : n < low
 
 pub record Met (s : Bytes) (row : List ℕ) (low n : ℕ) (x : Name) (xs l : List Name) (r : ℕ) : Type 0 where
-  pub state : State s row low r xs (if elem x xs then l else insert x l)
+  pub state : State s row low r xs (if among x xs then l else insert x l)
   pub few : r ≤ n + 1

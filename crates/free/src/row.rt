@@ -9,7 +9,7 @@ ghost use Rattle.rules.specs.Basic.{if_then_else_};
 ghost use Rattle.rules.specs.Name.{Name};
 ghost use Rattle.rules.specs.Free.{insert};
 ghost use Rattle.term.specs.Place.{NameAt};
-ghost use Rattle.free.specs.Ordered.{elem};
+ghost use Rattle.laws.specs.free.Occurrences.{among};
 ghost use Rattle.free.specs.State.{Live, Meets, Met};
 use crate::order::same_at;
 use crate::slot::BINDERS;
@@ -36,7 +36,7 @@ fn live(g: usize, low: usize, n: usize) -> bool
 // Whether the entry g of the row shows that meeting the name at `at` changes nothing: it is found already, or a binder passed is of that name.
 fn known(s: &[u8], at: usize, row: &[u16], low: usize, n: usize, g: usize) -> bool
     requires { ⌜ ((x : Name) × (xs : List Name) × (l : List Name) × Meets (now s) at (now row) low n x xs l) ⌝ }
-    ensures { λ r. ⌜ ((x : Name) → (xs : List Name) → (l : List Name) → Meets (now (s .entry)) at (now (row .entry)) low n x xs l → r ≡ true → (if elem x xs then l else insert x l) ≡ l) ⌝ }
+    ensures { λ r. ⌜ ((x : Name) → (xs : List Name) → (l : List Name) → Meets (now (s .entry)) at (now (row .entry)) low n x xs l → r ≡ true → (if among x xs then l else insert x l) ≡ l) ⌝ }
 {
     if live(g, low, n) {
         let p = row[g] as usize;

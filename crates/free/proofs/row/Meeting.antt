@@ -11,9 +11,9 @@ use Rattle.rules.specs.Name.{Name, same}
 use Rattle.rules.specs.Free.{insert}
 use Rattle.term.specs.Place.{NameAt}
 use Rattle.free.specs.declared.slot.Slot.{Slot}
-use Rattle.free.specs.Ordered.{elem}
-use Rattle.free.specs.Members.{ordered-insert}
-use Rattle.free.specs.Search.{at, elem-at, insert-there}
+use Rattle.laws.specs.free.Occurrences.{among}
+use Rattle.free.specs.Ordered.{ordered-insert}
+use Rattle.free.specs.Search.{at, among-at, insert-there}
 use Rattle.free.specs.Rows.{Scanned, Sought, Goes, Opened}
 use Rattle.free.specs.State.{State, Live, Meets, Met}
 use Rattle.free.proofs.slot.Scanning.{binder-at}
@@ -25,16 +25,16 @@ Some s p row low n = (x : Name) × (xs : List Name) × (l : List Name) × Meets 
 
 -- meeting x changes nothing
 abbrev pub Kept : Name → List Name → List Name → Type 0
-Kept x xs l = (if elem x xs then l else insert x l) ≡ l
+Kept x xs l = (if among x xs then l else insert x l) ≡ l
 
 kept-found : (x : Name) (xs l : List Name) → insert x l ≡ l → Kept x xs l
-kept-found x xs l e = go (elem x xs)
+kept-found x xs l e = go (among x xs)
   where
     go : (b : Bool) → (if b then l else insert x l) ≡ l
     go true = refl
     go false = e
 
-kept-bound : (x : Name) (xs l : List Name) → elem x xs ≡ true → Kept x xs l
+kept-bound : (x : Name) (xs l : List Name) → among x xs ≡ true → Kept x xs l
 kept-bound x xs l e = rw e
 
 -- ---- a guess
@@ -56,7 +56,7 @@ module _ (s : Bytes) (p : ℕ) (row : List ℕ) (low n g : ℕ) where
       kept-found x xs l (insert-there x l (w .state .ordered) g (omega (arith, w .state .found .many)) (sym (f x (at l g) (w .name) (w .state .found .each g h)) ∙ e))
   guess-kept true t (inr h) c f x xs l w e =
       kept-bound x xs l
-      (elem-at x xs (g - low) (omega (arith, h, w .state .passed .many)) (sym (f x (at xs (g - low)) (w .name) (binder-at s row low g xs (w .state .passed) (h .0) (h .1))) ∙ e))
+      (among-at x xs (g - low) (omega (arith, h, w .state .passed .many)) (sym (f x (at xs (g - low)) (w .name) (binder-at s row low g xs (w .state .passed) (h .0) (h .1))) ∙ e))
   guess-kept false t h c f x xs l w e = absurd (let z : _≡_ {A = ℕ} 0 1 = cc in omega arith)
 
 -- ---- the outcome
