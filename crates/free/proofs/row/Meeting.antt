@@ -14,7 +14,7 @@ use Rattle.free.specs.declared.slot.Slot.{Slot}
 use Rattle.laws.specs.free.Occurrences.{among}
 use Rattle.free.specs.Ordered.{ordered-insert}
 use Rattle.free.specs.Search.{at, among-at, insert-there}
-use Rattle.free.specs.Rows.{Scanned, Sought, Goes, Opened}
+use Rattle.free.specs.Rows.{binders, rowEnd, Scanned, Sought, Goes, Opened}
 use Rattle.free.specs.State.{State, Live, Meets, Met}
 use Rattle.free.proofs.slot.Scanning.{binder-at}
 use Rattle.free.proofs.slot.Opening.{held-opened}
@@ -40,7 +40,7 @@ kept-bound x xs l e = rw e
 -- ---- a guess
 
 module _ (s : Bytes) (p : ℕ) (row : List ℕ) (low n g : ℕ) where
-  pub guess-inside : (b : Bool) → b ≡ true → Live g low n b → Some s p row low n → g < 1088
+  pub guess-inside : (b : Bool) → b ≡ true → Live g low n b → Some s p row low n → g < rowEnd
   guess-inside true t (inl h) (x, xs, l, w) = omega (arith, w .room, w .state .passed .many)
   guess-inside true t (inr h) a = omega (arith, h .1)
   guess-inside false t h a = absurd (let z : _≡_ {A = ℕ} 0 1 = cc in omega arith)
@@ -68,17 +68,17 @@ module _ {s : Bytes} {p : ℕ} {row : List ℕ} {low n : ℕ} {x : Name} {xs l :
   pub met-kept : Kept x xs l → Met s row low n x xs l n
   met-kept e = record { state = rw e (w .state); few = omega arith }
 
-  module _ (g v : ℕ) (b : 1024 ≤ g) where
+  module _ (g v : ℕ) (b : binders ≤ g) where
     noted-kept : Kept x xs l → Met s (set row g v) low n x xs l n
     noted-kept e = record { state = rw e (noted (w .state) g v b (omega (arith, w .room))); few = omega arith }
 
     pub met-there : (q : Slot) → Goes x l q → q .there ≡ true → Met s (set row g v) low n x xs l n
     met-there q h t = noted-kept (kept-found x xs l (h .there t))
 
-    pub met-bound : (r : ℕ) → Scanned x xs r → r < 1024 → Met s (set row g v) low n x xs l n
+    pub met-bound : (r : ℕ) → Scanned x xs r → r < binders → Met s (set row g v) low n x xs l n
     met-bound r h t = noted-kept (kept-bound x xs l (h .hit t))
 
-    module _ (q : Slot) (h : Goes x l q) (t : q .there ≡ false) (r : ℕ) (u : Scanned x xs r) (e : 1024 ≤ r) {row′ : List ℕ} (o : Opened row row′ n (q .at) p) (long : length row′ ≡ length row) where
+    module _ (q : Slot) (h : Goes x l q) (t : q .there ≡ false) (r : ℕ) (u : Scanned x xs r) (e : binders ≤ r) {row′ : List ℕ} (o : Opened row row′ n (q .at) p) (long : length row′ ≡ length row) where
       put : State s row′ low (n + 1) xs (insert x l)
       put =
           record {
