@@ -15,17 +15,17 @@ use Rattle.buffer.specs.Wrote.{Wrote}
 use Rattle.buffer.specs.Writing.{filled-up, wrote-length}
 use Rattle.term.proofs.node.Terms.{whole}
 use Rattle.free.specs.Gather.{gather-free}
-use Rattle.free.specs.Rows.{Held, Passed, Writes}
+use Rattle.free.specs.Rows.{binders, rowEnd, Held, Passed, Writes}
 use Rattle.free.specs.Walk.{Task, Done}
 use Rattle.free.specs.Whole.{Lists, Listed}
 
 none-held : (s : Bytes) (row : List ℕ) → Held s row 0 []
 none-held s row = record { many = refl; room = omega arith; each = λ i h. absurd (not-suc-le-zero h) }
 
-none-passed : (s : Bytes) (row : List ℕ) → Passed s row 1024 []
+none-passed : (s : Bytes) (row : List ℕ) → Passed s row binders []
 none-passed s row = record { many = omega arith; each = λ i h. absurd (not-suc-le-zero h) }
 
-pub starts : {s out : Bytes} {t : Term} {row : List ℕ} → Lists s out t → length row ≡ 1088 → Task s 0 row 1024 0 t [] []
+pub starts : {s out : Bytes} {t : Term} {row : List ℕ} → Lists s out t → length row ≡ rowEnd → Task s 0 row binders 0 t [] []
 starts {s} {out} {t} {row} w a =
     record {
       term = whole t s (w .bytes);
@@ -37,7 +37,7 @@ module _ {s out : Bytes} {t : Term} (w : Lists s out t) where
   fits : length (encodeNames (free t)) ≤ length out
   fits = omega (arith, free-size t, w .short, ap length (w .bytes), w .room)
 
-  pub gathered : {row : List ℕ} {m c : ℕ} → Done s 0 row 1024 0 t [] [] m c → Writes s row c out (free t)
+  pub gathered : {row : List ℕ} {m c : ℕ} → Done s 0 row binders 0 t [] [] m c → Writes s row c out (free t)
   gathered z = record { held = rw (gather-free t) at (z .state .found); room = fits }
 
   module _ {out₁ : Bytes} {p : ℕ} (x : Wrote out 0 (encodeNames (free t)) out₁ p) where

@@ -1,18 +1,19 @@
 -- Free names in one walk from the left: what is met is put into one ordered list, unless a binder passed on the way covers it.
 -- It gathers the free names: both lists are ordered, and their members are the same. Assumes nothing.
 use mathlib.Core.Path.{_≡_, refl, sym, ap, _∙_}
-use mathlib.Core.Bool.{Bool, true, false, not, _&&_, _||_}
+use mathlib.Core.Bool.{Bool, true, false, not, _&&_, _||_, or-true, or-false}
 use mathlib.Core.List.{List, [], _∷_}
 use Rattle.rules.specs.Basic.{if_then_else_}
 use Rattle.rules.specs.Name.{Name, same}
 use Rattle.rules.specs.Term.{Term, var, leaf, one, two, abs, both, branch}
 use Rattle.rules.specs.Free.{insert, union, without, free}
-use Rattle.free.specs.Ordered.{same-eq, elem, Ordered, by-members}
-use Rattle.free.specs.Members.{or-false, elem-insert, elem-union, elem-without, ordered-insert, ordered-free}
+use Rattle.laws.specs.free.Same.{same-equal}
+use Rattle.laws.specs.free.Occurrences.{among, among-insert, among-union, among-without}
+use Rattle.free.specs.Ordered.{Ordered, by-members, ordered-insert, ordered-free}
 
 -- the names of t that are free and not among the binders passed, the nearest first, put into a list
 unfoldable pub gather : (passed : List Name) → Term → List Name → List Name
-gather ns (var x) l = if elem x ns then l else insert x l
+gather ns (var x) l = if among x ns then l else insert x l
 gather ns (leaf k) l = l
 gather ns (one k e) l = gather ns e l
 gather ns (two k a b) l = gather ns b (gather ns a l)
@@ -22,7 +23,7 @@ gather ns (branch x y e a b) l = gather (y ∷ ns) b (gather (x ∷ ns) a (gathe
 
 pub ordered-gather : (ns : List Name) (t : Term) (l : List Name) → Ordered l → Ordered (gather ns t l)
 unfolding gather
-ordered-gather ns (var x) l o = go (elem x ns)
+ordered-gather ns (var x) l o = go (among x ns)
   where
     go : (b : Bool) → Ordered (if b then l else insert x l)
     go true = o
@@ -78,44 +79,39 @@ bits-branch false false false y false true b = refl
 bits-branch false false false true false false b = refl
 bits-branch false false false false false false b = refl
 
-pub elem-gather : (z : Name) (ns : List Name) (t : Term) (l : List Name) → elem z (gather ns t l) ≡ (elem z l || (not (elem z ns) && elem z (free t)))
-unfolding gather free elem
-elem-gather z ns (var x) l = go (elem x ns) refl (same z x) refl
+pub among-gather : (z : Name) (ns : List Name) (t : Term) (l : List Name) → among z (gather ns t l) ≡ (among z l || (not (among z ns) && among z (free t)))
+unfolding gather free
+among-gather z ns (var x) l = go (among x ns) refl (same z x) refl
   where
-    bit : (m : Bool) → true ≡ (m || true)
-    bit true = refl
-    bit false = refl
-
-    go : (a : Bool) → elem x ns ≡ a → (b : Bool) → same z x ≡ b → elem z (if a then l else insert x l) ≡ (elem z l || (not (elem z ns) && (same z x || false)))
-    go true e true d = let q : elem z ns ≡ true = rw (same-eq z x d) e in rw q (sym (or-false (elem z l)))
-    go true e false d = rw d (bits-none (elem z l) (elem z ns))
-    go false e true d = let q : elem z ns ≡ false = rw (same-eq z x d) e in elem-insert z x l ∙ rw (d, q) (bit (elem z l))
-    go false e false d = elem-insert z x l ∙ rw d (bits-none (elem z l) (elem z ns))
-elem-gather z ns (leaf k) l = bits-none (elem z l) (elem z ns)
-elem-gather z ns (one k e) l = elem-gather z ns e l
-elem-gather z ns (two k a b) l =
-    elem-gather z ns b (gather ns a l) ∙ ap (λ m. m || (not (elem z ns) && elem z (free b))) (elem-gather z ns a l)
-    ∙ bits-two (elem z l) (elem z ns) (elem z (free a)) (elem z (free b)) ∙ ap (λ m. elem z l || (not (elem z ns) && m)) (sym (elem-union z (free a) (free b)))
-elem-gather z ns (abs x e) l =
-    elem-gather z (x ∷ ns) e l ∙ bits-abs (elem z l) (elem z ns) (same z x) (elem z (free e)) ∙ ap (λ m. elem z l || (not (elem z ns) && m)) (sym (elem-without z x (free e)))
-elem-gather z ns (both k x y e b) l =
-    elem-gather z (y ∷ x ∷ ns) b (gather ns e l)
-    ∙ ap (λ m. m || (not (same z y || (same z x || elem z ns)) && elem z (free b))) (elem-gather z ns e l)
-    ∙ bits-both (elem z l) (elem z ns) (same z x) (same z y) (elem z (free e)) (elem z (free b))
-    ∙ ap (λ m. elem z l || (not (elem z ns) && (elem z (free e) || (not (same z x) && m)))) (sym (elem-without z y (free b)))
-    ∙ ap (λ m. elem z l || (not (elem z ns) && (elem z (free e) || m))) (sym (elem-without z x (without y (free b))))
-    ∙ ap (λ m. elem z l || (not (elem z ns) && m)) (sym (elem-union z (free e) (without x (without y (free b)))))
-elem-gather z ns (branch x y e a b) l =
-    elem-gather z (y ∷ ns) b (gather (x ∷ ns) a (gather ns e l))
-    ∙ ap (λ m. m || (not (same z y || elem z ns) && elem z (free b)))
-    (elem-gather z (x ∷ ns) a (gather ns e l) ∙ ap (λ m. m || (not (same z x || elem z ns) && elem z (free a))) (elem-gather z ns e l))
-    ∙ bits-branch (elem z l) (elem z ns) (same z x) (same z y) (elem z (free e)) (elem z (free a)) (elem z (free b))
-    ∙ ap (λ m. elem z l || (not (elem z ns) && (elem z (free e) || m)))
-    (ap (λ m. m || (not (same z y) && elem z (free b))) (sym (elem-without z x (free a))) ∙ ap (λ m. elem z (without x (free a)) || m) (sym (elem-without z y (free b)))
-    ∙ sym (elem-union z (without x (free a)) (without y (free b))))
-    ∙ ap (λ m. elem z l || (not (elem z ns) && m)) (sym (elem-union z (free e) (union (without x (free a)) (without y (free b)))))
+    go : (a : Bool) → among x ns ≡ a → (b : Bool) → same z x ≡ b → among z (if a then l else insert x l) ≡ (among z l || (not (among z ns) && (same z x || false)))
+    go true e true d = let q : among z ns ≡ true = rw (same-equal z x d) e in rw q (sym (or-false (among z l)))
+    go true e false d = rw d (bits-none (among z l) (among z ns))
+    go false e true d = let q : among z ns ≡ false = rw (same-equal z x d) e in among-insert z x l ∙ rw (d, q) (sym (or-true (among z l)))
+    go false e false d = among-insert z x l ∙ rw d (bits-none (among z l) (among z ns))
+among-gather z ns (leaf k) l = bits-none (among z l) (among z ns)
+among-gather z ns (one k e) l = among-gather z ns e l
+among-gather z ns (two k a b) l =
+    among-gather z ns b (gather ns a l) ∙ ap (λ m. m || (not (among z ns) && among z (free b))) (among-gather z ns a l)
+    ∙ bits-two (among z l) (among z ns) (among z (free a)) (among z (free b)) ∙ ap (λ m. among z l || (not (among z ns) && m)) (sym (among-union z (free a) (free b)))
+among-gather z ns (abs x e) l =
+    among-gather z (x ∷ ns) e l ∙ bits-abs (among z l) (among z ns) (same z x) (among z (free e)) ∙ ap (λ m. among z l || (not (among z ns) && m)) (sym (among-without z x (free e)))
+among-gather z ns (both k x y e b) l =
+    among-gather z (y ∷ x ∷ ns) b (gather ns e l)
+    ∙ ap (λ m. m || (not (same z y || (same z x || among z ns)) && among z (free b))) (among-gather z ns e l)
+    ∙ bits-both (among z l) (among z ns) (same z x) (same z y) (among z (free e)) (among z (free b))
+    ∙ ap (λ m. among z l || (not (among z ns) && (among z (free e) || (not (same z x) && m)))) (sym (among-without z y (free b)))
+    ∙ ap (λ m. among z l || (not (among z ns) && (among z (free e) || m))) (sym (among-without z x (without y (free b))))
+    ∙ ap (λ m. among z l || (not (among z ns) && m)) (sym (among-union z (free e) (without x (without y (free b)))))
+among-gather z ns (branch x y e a b) l =
+    among-gather z (y ∷ ns) b (gather (x ∷ ns) a (gather ns e l))
+    ∙ ap (λ m. m || (not (same z y || among z ns) && among z (free b)))
+    (among-gather z (x ∷ ns) a (gather ns e l) ∙ ap (λ m. m || (not (same z x || among z ns) && among z (free a))) (among-gather z ns e l))
+    ∙ bits-branch (among z l) (among z ns) (same z x) (same z y) (among z (free e)) (among z (free a)) (among z (free b))
+    ∙ ap (λ m. among z l || (not (among z ns) && (among z (free e) || m)))
+    (ap (λ m. m || (not (same z y) && among z (free b))) (sym (among-without z x (free a))) ∙ ap (λ m. among z (without x (free a)) || m) (sym (among-without z y (free b)))
+    ∙ sym (among-union z (without x (free a)) (without y (free b))))
+    ∙ ap (λ m. among z l || (not (among z ns) && m)) (sym (among-union z (free e) (union (without x (free a)) (without y (free b)))))
 
 -- ONE WALK GATHERS THE FREE NAMES
 pub gather-free : (t : Term) → gather [] t [] ≡ free t
-unfolding elem
-gather-free t = by-members (gather [] t []) (free t) (ordered-gather [] t [] tt) (ordered-free t) (λ z. elem-gather z [] t [])
+gather-free t = by-members (gather [] t []) (free t) (ordered-gather [] t [] tt) (ordered-free t) (λ z. among-gather z [] t [])

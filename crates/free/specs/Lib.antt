@@ -1,6 +1,5 @@
 pub mod Ordered
 pub mod Order
-pub mod Members
 pub mod Search
 pub mod Rows
 pub mod State

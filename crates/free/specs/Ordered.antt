@@ -1,95 +1,15 @@
--- Ordered lists of names: putting names in, taking them out and joining lists keep the order, and an ordered list is
--- known by its members alone. By induction on the lists; the order of names is total, irreflexive and transitive.
--- Assumes nothing.
-use Prim.Native.Nat.{ℕ, _<_}
+-- Ordered lists of names: an ordered list is known by its members alone; putting a name in, taking one out and joining two keep the order,
+-- so the free names stand in order. By induction on the lists, and the laws of the order. Assumes nothing.
 use mathlib.Core.Path.{_≡_, refl, sym, _∙_}
-use mathlib.Core.Bool.{Bool, true, false, _&&_, _||_}
+use mathlib.Core.Bool.{Bool, true, false, _||_}
 use mathlib.Core.List.{List, [], _∷_}
-use native.Mathlib.Omega.{arith}
-use lib.Dec.{ltb, eqb}
-use borrow.Author.Tests.{lt-ltb, le-ltb, eq-eqb, ne-eqb, ltb-true, ltb-false, eqb-true}
+use Rattle.rules.specs.Basic.{if_then_else_}
 use Rattle.rules.specs.Name.{Name, same, before}
-
--- ---- names: the same, or one before the other
-
-pub same-refl : (x : Name) → same x x ≡ true
-same-refl [] = refl
-same-refl (a ∷ x) = rw (eq-eqb a a refl) (same-refl x)
-
-pub same-eq : (x y : Name) → same x y ≡ true → x ≡ y
-same-eq [] [] e = refl
-same-eq [] (b ∷ y) e = absurd (let z : _≡_ {A = ℕ} 0 1 = cc in omega arith)
-same-eq (a ∷ x) [] e = absurd (let z : _≡_ {A = ℕ} 0 1 = cc in omega arith)
-same-eq (a ∷ x) (b ∷ y) e = go (eqb a b) refl e (same-eq x y)
-  where
-    go : (t : Bool) → eqb a b ≡ t → (t && same x y) ≡ true → (same x y ≡ true → x ≡ y) → (a ∷ x) ≡ (b ∷ y)
-    go true d e k = let p : a ≡ b = eqb-true a b d in let q : x ≡ y = k e in cc
-    go false d e k = absurd (let z : _≡_ {A = ℕ} 0 1 = cc in omega arith)
-
--- how two names stand to each other
-pub data Trichotomy (x y : Name) : Type 0 where
-  is : same x y ≡ true → before x y ≡ false → before y x ≡ false → Trichotomy x y
-  below : same x y ≡ false → before x y ≡ true → before y x ≡ false → Trichotomy x y
-  above : same x y ≡ false → before x y ≡ false → before y x ≡ true → Trichotomy x y
-
-pub compare : (x y : Name) → Trichotomy x y
-unfolding before
-compare [] [] = is refl refl refl
-compare [] (b ∷ y) = below refl refl refl
-compare (a ∷ x) [] = above refl refl refl
-compare (a ∷ x) (b ∷ y) = go (ltb a b) refl (ltb b a) refl (compare x y)
-  where
-    go : (s : Bool) → ltb a b ≡ s → (t : Bool) → ltb b a ≡ t → Trichotomy x y → Trichotomy (a ∷ x) (b ∷ y)
-    go true d true e k = absurd (omega (arith, ltb-true a b d, ltb-true b a e))
-    go true d false e k =
-        let l : a < b = ltb-true a b d in
-        below (rw (ne-eqb a b (λ q. omega arith))) (rw d) (rw (e, ne-eqb b a (λ q. omega arith)))
-    go false d true e k =
-        let l : b < a = ltb-true b a e in
-        above (rw (ne-eqb a b (λ q. omega arith))) (rw (d, ne-eqb a b (λ q. omega arith))) (rw e)
-    go false d false e k =
-        let q : a ≡ b = omega (arith, ltb-false a b d, ltb-false b a e) in
-        eq q d e k
-      where
-        eq : a ≡ b → ltb a b ≡ false → ltb b a ≡ false → Trichotomy x y → Trichotomy (a ∷ x) (b ∷ y)
-        eq q d e (is i l m) = is (rw (eq-eqb a b q) i) (rw (d, eq-eqb a b q) l) (rw (e, eq-eqb b a (sym q)) m)
-        eq q d e (below i l m) = below (rw (eq-eqb a b q) i) (rw (d, eq-eqb a b q) l) (rw (e, eq-eqb b a (sym q)) m)
-        eq q d e (above i l m) = above (rw (eq-eqb a b q) i) (rw (d, eq-eqb a b q) l) (rw (e, eq-eqb b a (sym q)) m)
-
-pub before-trans : (x y z : Name) → before x y ≡ true → before y z ≡ true → before x z ≡ true
-unfolding before
-before-trans [] [] z e d = absurd (let q : _≡_ {A = ℕ} 0 1 = cc in omega arith)
-before-trans [] (b ∷ y) [] e d = absurd (let q : _≡_ {A = ℕ} 0 1 = cc in omega arith)
-before-trans [] (b ∷ y) (c ∷ z) e d = refl
-before-trans (a ∷ x) [] z e d = absurd (let q : _≡_ {A = ℕ} 0 1 = cc in omega arith)
-before-trans (a ∷ x) (b ∷ y) [] e d = absurd (let q : _≡_ {A = ℕ} 0 1 = cc in omega arith)
-before-trans (a ∷ x) (b ∷ y) (c ∷ z) e d = go (ltb a b) refl (ltb b c) refl e d (before-trans x y z)
-  where
-    -- the first bytes are the same
-    tied : (t : Bool) → (m n : ℕ) (p : Bool) → eqb m n ≡ t → (t && p) ≡ true → (m ≡ n) × (p ≡ true)
-    tied true m n p q r = (eqb-true m n q, r)
-    tied false m n p q r = absurd (let q : _≡_ {A = ℕ} 0 1 = cc in omega arith)
-
-    go : (s : Bool) → ltb a b ≡ s → (t : Bool) → ltb b c ≡ t → (s || ((eqb a b) && before x y)) ≡ true → (t || ((eqb b c) && before y z)) ≡ true
-        → (before x y ≡ true → before y z ≡ true → before x z ≡ true) → (ltb a c || ((eqb a c) && before x z)) ≡ true
-    go true p true q e d k = rw (lt-ltb a c (omega (arith, ltb-true a b p, ltb-true b c q)))
-    go true p false q e d k =
-        let w = tied (eqb b c) b c (before y z) refl d in
-        rw (lt-ltb a c (omega (arith, ltb-true a b p, w .0)))
-    go false p true q e d k =
-        let w = tied (eqb a b) a b (before x y) refl e in
-        rw (lt-ltb a c (omega (arith, ltb-true b c q, w .0)))
-    go false p false q e d k =
-        let w = tied (eqb a b) a b (before x y) refl e in
-        let v = tied (eqb b c) b c (before y z) refl d in
-        rw (le-ltb a c (omega (arith, w .0, v .0)), eq-eqb a c (w .0 ∙ v .0)) (k (w .1) (v .1))
-
--- ---- lists of names
-
--- x is one of them
-unfoldable pub elem : Name → List Name → Bool
-elem x [] = false
-elem x (y ∷ ys) = same x y || elem x ys
+use Rattle.rules.specs.Term.{Term, var, leaf, one, two, abs, both, branch}
+use Rattle.rules.specs.Free.{insert, union, without, free}
+use Rattle.laws.specs.free.Same.{same-itself, same-equal}
+use Rattle.laws.specs.free.Occurrences.{among}
+use Rattle.laws.specs.order.Compare.{never, before-trans, before-apart, Trichotomy, is, below, above, compare}
 
 -- x is before each of them
 abbrev pub Below : Name → List Name → Type 0
@@ -105,66 +25,101 @@ below-all x y [] e b = tt
 below-all x y (z ∷ l) e b = (before-trans x y z e (b .0), below-all x y l e (b .1))
 
 -- what is before each of them is none of them
-pub below-none : (x : Name) (l : List Name) → Below x l → elem x l ≡ false
-unfolding elem
+pub below-none : (x : Name) (l : List Name) → Below x l → among x l ≡ false
 below-none x [] b = refl
-below-none x (y ∷ l) b = go (compare x y) (below-none x l (b .1))
-  where
-    go : Trichotomy x y → elem x l ≡ false → (same x y || elem x l) ≡ false
-    go (is i m n) k = absurd (let q : _≡_ {A = Bool} true false = sym (b .0) ∙ m in let z : _≡_ {A = ℕ} 0 1 = cc in omega arith)
-    go (below i m n) k = rw i k
-    go (above i m n) k = rw i k
-
--- two bools that are true together are the same
-agree : (a b : Bool) → (a ≡ true → b ≡ true) → (b ≡ true → a ≡ true) → a ≡ b
-agree true b f g = sym (f refl)
-agree false true f g = g refl
-agree false false f g = refl
+below-none x (y ∷ l) b = rw (before-apart x y (b .0)) (below-none x l (b .1))
 
 -- AN ORDERED LIST IS KNOWN BY ITS MEMBERS
-pub by-members : (l m : List Name) → Ordered l → Ordered m → ((z : Name) → elem z l ≡ elem z m) → l ≡ m
-unfolding elem
+pub by-members : (l m : List Name) → Ordered l → Ordered m → ((z : Name) → among z l ≡ among z m) → l ≡ m
 by-members [] [] o p h = refl
-by-members [] (y ∷ m) o p h = absurd (let c : elem y (y ∷ m) ≡ true = rw (same-refl y) in let q : _≡_ {A = Bool} false true = h y ∙ c in let z : _≡_ {A = ℕ} 0 1 = cc in omega arith)
-by-members (x ∷ l) [] o p h = absurd (let c : elem x (x ∷ l) ≡ true = rw (same-refl x) in let q : _≡_ {A = Bool} false true = sym (h x) ∙ c in let z : _≡_ {A = ℕ} 0 1 = cc in omega arith)
+by-members [] (y ∷ m) o p h = let c : among y (y ∷ m) ≡ true = rw (same-itself y) in never (sym c ∙ sym (h y))
+by-members (x ∷ l) [] o p h = let c : among x (x ∷ l) ≡ true = rw (same-itself x) in never (sym c ∙ h x)
 by-members (x ∷ l) (y ∷ m) o p h = go (compare x y) (by-members l m (o .1) (p .1))
   where
-    tails : x ≡ y → (z : Name) → elem z l ≡ elem z m
+    tails : x ≡ y → (z : Name) → among z l ≡ among z m
     tails e z = on (same z x) refl (same z y) refl (h z)
       where
-        on : (s : Bool) → same z x ≡ s → (t : Bool) → same z y ≡ t → (s || elem z l) ≡ (t || elem z m) → elem z l ≡ elem z m
+        on : (s : Bool) → same z x ≡ s → (t : Bool) → same z y ≡ t → (s || among z l) ≡ (t || among z m) → among z l ≡ among z m
         on true a t b k =
-            let zx : z ≡ x = same-eq z x a in
-            let c : elem z l ≡ false = rw zx (below-none x l (o .0)) in
-            let d : elem z m ≡ false = rw (zx ∙ e) (below-none y m (p .0)) in
+            let zx : z ≡ x = same-equal z x a in
+            let c : among z l ≡ false = rw zx (below-none x l (o .0)) in
+            let d : among z m ≡ false = rw (zx ∙ e) (below-none y m (p .0)) in
             c ∙ sym d
         on false a true b k =
-            let zy : z ≡ y = same-eq z y b in
-            let c : elem z l ≡ false = rw (zy ∙ sym e) (below-none x l (o .0)) in
-            let d : elem z m ≡ false = rw zy (below-none y m (p .0)) in
+            let zy : z ≡ y = same-equal z y b in
+            let c : among z l ≡ false = rw (zy ∙ sym e) (below-none x l (o .0)) in
+            let d : among z m ≡ false = rw zy (below-none y m (p .0)) in
             c ∙ sym d
         on false a false b k = k
 
-    go : Trichotomy x y → (((z : Name) → elem z l ≡ elem z m) → l ≡ m) → (x ∷ l) ≡ (y ∷ m)
-    go (is i a b) k = let e : x ≡ y = same-eq x y i in let d : l ≡ m = k (tails e) in cc
-    go (below i a b) k = absurd (no (h x))
-      where
-        no : elem x (x ∷ l) ≡ elem x (y ∷ m) → ⊥
-        no e =
-            let c : elem x (x ∷ l) ≡ true = rw (same-refl x) in
-            let d : elem x (y ∷ m) ≡ false = rw i (below-none x m (below-all x y m a (p .0))) in
-            let q : _≡_ {A = Bool} true false = sym c ∙ e ∙ d in
-            let z : _≡_ {A = ℕ} 0 1 = cc in omega arith
-    go (above i a b) k = absurd (no (h y) (swap y x (compare y x) b))
-      where
-        swap : (u v : Name) → Trichotomy u v → before u v ≡ true → same u v ≡ false
-        swap u v (is j c d) e = absurd (let q : _≡_ {A = Bool} true false = sym e ∙ c in let z : _≡_ {A = ℕ} 0 1 = cc in omega arith)
-        swap u v (below j c d) e = j
-        swap u v (above j c d) e = j
+    go : Trichotomy x y → (((z : Name) → among z l ≡ among z m) → l ≡ m) → (x ∷ l) ≡ (y ∷ m)
+    go (is i a b) k = let e : x ≡ y = same-equal x y i in let d : l ≡ m = k (tails e) in cc
+    go (below i a b) k =
+        let c : among x (x ∷ l) ≡ true = rw (same-itself x) in
+        let d : among x (y ∷ m) ≡ false = rw i (below-none x m (below-all x y m a (p .0))) in
+        never (sym c ∙ h x ∙ d)
+    go (above i a b) k =
+        let c : among y (x ∷ l) ≡ false = rw (before-apart y x b) (below-none y l (below-all y x l b (o .0))) in
+        let d : among y (y ∷ m) ≡ true = rw (same-itself y) in
+        never (sym d ∙ sym (h y) ∙ c)
 
-        no : elem y (x ∷ l) ≡ elem y (y ∷ m) → same y x ≡ false → ⊥
-        no e j =
-            let c : elem y (x ∷ l) ≡ false = rw j (below-none y l (below-all y x l b (o .0))) in
-            let d : elem y (y ∷ m) ≡ true = rw (same-refl y) in
-            let q : _≡_ {A = Bool} false true = sym c ∙ e ∙ d in
-            let z : _≡_ {A = ℕ} 0 1 = cc in omega arith
+-- ---- a name put in
+
+below-insert : (y x : Name) (l : List Name) → before y x ≡ true → Below y l → Below y (insert x l)
+unfolding insert
+below-insert y x [] e b = (e, tt)
+below-insert y x (w ∷ l) e b = go (compare x w) (below-insert y x l e (b .1))
+  where
+    go : Trichotomy x w → Below y (insert x l) → Below y (if same x w then w ∷ l else (if before x w then x ∷ w ∷ l else w ∷ insert x l))
+    go (is i m n) k = rw i b
+    go (below i m n) k = rw (i, m) (e, b)
+    go (above i m n) k = rw (i, m) (b .0, k)
+
+pub ordered-insert : (x : Name) (l : List Name) → Ordered l → Ordered (insert x l)
+unfolding insert
+ordered-insert x [] o = (tt, tt)
+ordered-insert x (y ∷ l) o = go (compare x y) (ordered-insert x l (o .1))
+  where
+    go : Trichotomy x y → Ordered (insert x l) → Ordered (if same x y then y ∷ l else (if before x y then x ∷ y ∷ l else y ∷ insert x l))
+    go (is i m n) k = rw i o
+    go (below i m n) k = rw (i, m) ((m, below-all x y l m (o .0)), o)
+    go (above i m n) k = rw (i, m) (below-insert y x l n (o .0), k)
+
+-- ---- two lists joined
+
+pub ordered-union : (l m : List Name) → Ordered m → Ordered (union l m)
+unfolding union
+ordered-union [] m o = o
+ordered-union (x ∷ l) m o = ordered-insert x (union l m) (ordered-union l m o)
+
+-- ---- a name taken out
+
+below-without : (y x : Name) (l : List Name) → Below y l → Below y (without x l)
+unfolding without
+below-without y x [] b = tt
+below-without y x (w ∷ l) b = go (same x w) refl (below-without y x l (b .1))
+  where
+    go : (t : Bool) → same x w ≡ t → Below y (without x l) → Below y (if same x w then without x l else w ∷ without x l)
+    go true e k = rw e k
+    go false e k = rw e (b .0, k)
+
+pub ordered-without : (x : Name) (l : List Name) → Ordered l → Ordered (without x l)
+unfolding without
+ordered-without x [] o = tt
+ordered-without x (y ∷ l) o = go (same x y) refl (ordered-without x l (o .1))
+  where
+    go : (t : Bool) → same x y ≡ t → Ordered (without x l) → Ordered (if same x y then without x l else y ∷ without x l)
+    go true e k = rw e k
+    go false e k = rw e (below-without y x l (o .0), k)
+
+-- ---- the free names of a term stand in order
+
+pub ordered-free : (t : Term) → Ordered (free t)
+unfolding free
+ordered-free (var x) = (tt, tt)
+ordered-free (leaf k) = tt
+ordered-free (one k e) = ordered-free e
+ordered-free (two k a b) = ordered-union (free a) (free b) (ordered-free b)
+ordered-free (abs x e) = ordered-without x (free e) (ordered-free e)
+ordered-free (both k x y e b) = ordered-union (free e) _ (ordered-without x _ (ordered-without y (free b) (ordered-free b)))
+ordered-free (branch x y e l r) = ordered-union (free e) _ (ordered-union _ _ (ordered-without y (free r) (ordered-free r)))

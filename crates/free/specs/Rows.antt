@@ -1,16 +1,28 @@
 -- What the rows of places hold. Assumes nothing: these are definitions.
-use Prim.Native.Nat.{ℕ, _+_, _≤_, _<_}
+use Prim.Native.Nat.{ℕ, _+_, _*_, _≤_, _<_}
 use mathlib.Core.Path.{_≡_}
 use mathlib.Core.Bool.{true, false}
 use mathlib.Core.List.{List, _∷_, _++_}
 use lib.ListN.{length, getD, take, drop}
 use Rattle.rules.specs.Basic.{Bytes}
 use Rattle.rules.specs.Name.{Name, encodeNames}
+use Rattle.rules.specs.Limits.{limits}
 use Rattle.rules.specs.Free.{insert}
 use Rattle.term.specs.Place.{NameAt}
-use Rattle.free.specs.Ordered.{Ordered, elem}
+use Rattle.laws.specs.free.Occurrences.{among}
+use Rattle.free.specs.Ordered.{Ordered}
 use Rattle.free.specs.Search.{at}
 use Rattle.free.specs.declared.slot.Slot.{Slot}
+
+-- where the places of the binders end in a row; how many guesses stand behind them, and where the row ends
+abbrev pub binders : ℕ
+binders = 2 * limits .nodes
+
+abbrev pub guesses : ℕ
+guesses = 64
+
+abbrev pub rowEnd : ℕ
+rowEnd = binders + guesses
 
 -- the first n places of a row are those of the names xs in s
 pub record Held (s : Bytes) (row : List ℕ) (n : ℕ) (xs : List Name) : Type 0 where
@@ -30,16 +42,16 @@ pub record Goes (x : Name) (xs : List Name) (r : Slot) : Type 0 where
   pub there : r .there ≡ true → insert x xs ≡ xs
   pub new : r .there ≡ false → insert x xs ≡ take (r .at) xs ++ x ∷ drop (r .at) xs
 
--- the places from low on up to 1024 are those of the binders xs in s, the nearest first
+-- the places from low on are those of the binders xs in s, the nearest first
 pub record Passed (s : Bytes) (row : List ℕ) (low : ℕ) (xs : List Name) : Type 0 where
-  pub many : low + length xs ≡ 1024
+  pub many : low + length xs ≡ binders
   pub each : (i : ℕ) → i < length xs → NameAt s (getD row (low + i) 0) (at xs i)
 
--- a search through the binders xs, which stand up to 1024, has found x there or come to their end
+-- a search through the binders xs has found x there or come to their end
 pub record Scanned (x : Name) (xs : List Name) (r : ℕ) : Type 0 where
-  pub within : r ≤ 1024
-  pub hit : r < 1024 → elem x xs ≡ true
-  pub missed : 1024 ≤ r → elem x xs ≡ false
+  pub within : r ≤ binders
+  pub hit : r < binders → among x xs ≡ true
+  pub missed : binders ≤ r → among x xs ≡ false
 
 -- the row with p put in at i, and the entries from i to n moved up by one
 pub record Opened (row row′ : List ℕ) (n i p : ℕ) : Type 0 where

@@ -2,7 +2,7 @@
 -- and what putting the name there makes of the list. By induction on the list. Assumes nothing.
 use Prim.Native.Nat.{ℕ, zero, suc, _<_, _≤_}
 use mathlib.Core.Path.{_≡_, refl, sym, ap, _∙_}
-use mathlib.Core.Bool.{Bool, true, false, _||_}
+use mathlib.Core.Bool.{Bool, true, false, _||_, or-true}
 use mathlib.Core.List.{List, [], _∷_, _++_}
 use mathlib.Core.Logic.{⊎-elim}
 use native.Mathlib.Nat.{le-of-suc-le-suc, not-suc-le-zero, eq-or-lt-of-le}
@@ -10,11 +10,10 @@ use native.Mathlib.Omega.{arith}
 use lib.ListN.{length, getD, take, drop}
 use Rattle.rules.specs.Name.{Name, same, before}
 use Rattle.rules.specs.Free.{insert}
-use Rattle.free.specs.Ordered.{same-eq, Trichotomy, is, below, above, compare, before-trans, elem, Below, Ordered, by-members}
-use Rattle.free.specs.Members.{elem-insert, ordered-insert}
-
-true-false : {P : Type 0} → _≡_ {A = Bool} true false → P
-true-false q = absurd (let z : _≡_ {A = ℕ} 0 1 = cc in omega arith)
+use Rattle.laws.specs.free.Same.{same-equal, same-turned}
+use Rattle.laws.specs.free.Occurrences.{among, among-insert}
+use Rattle.laws.specs.order.Compare.{never, before-trans, before-apart, before-one-way, Trichotomy, is, below, above, compare}
+use Rattle.free.specs.Ordered.{Below, Ordered, by-members, ordered-insert}
 
 -- the name at i
 abbrev pub at : List Name → ℕ → Name
@@ -53,44 +52,31 @@ module _ (x : Name) (l : List Name) (o : Ordered l) (lo hi m : ℕ) (w : Between
     where
       go : (i : ℕ) → i < length l → m < i → (b : Bool) → before (at l i) x ≡ b → before (at l i) x ≡ false
       go i k q false d = d
-      go i k q true d = true-false (sym (before-trans (at l m) (at l i) x (ordered-at l o m i q k) d) ∙ e)
+      go i k q true d = never (sym (before-trans (at l m) (at l i) x (ordered-at l o m i q k) d) ∙ e)
 
 -- ---- a name that is there already
 
-pub elem-at : (x : Name) (l : List Name) (i : ℕ) → i < length l → same x (at l i) ≡ true → elem x l ≡ true
-unfolding elem
-elem-at x [] i h e = absurd (not-suc-le-zero h)
-elem-at x (y ∷ l) zero h e = rw e
-elem-at x (y ∷ l) (suc i) h e = or-right (same x y) _ (elem-at x l i (le-of-suc-le-suc h) e)
-  where
-    or-right : (a b : Bool) → b ≡ true → (a || b) ≡ true
-    or-right true b e = refl
-    or-right false b e = e
+pub among-at : (x : Name) (l : List Name) (i : ℕ) → i < length l → same x (at l i) ≡ true → among x l ≡ true
+among-at x [] i h e = absurd (not-suc-le-zero h)
+among-at x (y ∷ l) zero h e = rw e
+among-at x (y ∷ l) (suc i) h e = rw (among-at x l i (le-of-suc-le-suc h) e) (or-true (same x y))
 
 pub insert-there : (x : Name) (l : List Name) → Ordered l → (i : ℕ) → i < length l → same x (at l i) ≡ true → insert x l ≡ l
-insert-there x l o i h e = by-members (insert x l) l (ordered-insert x l o) o (λ z. elem-insert z x l ∙ go z (same z x) refl)
+insert-there x l o i h e = by-members (insert x l) l (ordered-insert x l o) o (λ z. among-insert z x l ∙ go z (same z x) refl)
   where
-    go : (z : Name) (b : Bool) → same z x ≡ b → (same z x || elem z l) ≡ elem z l
-    go z true d = let q : elem z l ≡ true = rw (same-eq z x d) (elem-at x l i h e) in rw (d, q)
+    go : (z : Name) (b : Bool) → same z x ≡ b → (same z x || among z l) ≡ among z l
+    go z true d = let q : among z l ≡ true = rw (same-equal z x d) (among-at x l i h e) in rw (d, q)
     go z false d = rw d
 
 -- ---- a name that is new
-
-before-sorts : (x y : Name) → before y x ≡ true → (same x y ≡ false) × (before x y ≡ false)
-before-sorts x y e = go (compare x y)
-  where
-    go : Trichotomy x y → (same x y ≡ false) × (before x y ≡ false)
-    go (is i m n) = true-false (sym e ∙ n)
-    go (below i m n) = true-false (sym e ∙ n)
-    go (above i m n) = (i, m)
 
 new-first : (x y : Name) → before y x ≡ false → same x y ≡ false → before x y ≡ true
 new-first x y e d = go (compare x y)
   where
     go : Trichotomy x y → before x y ≡ true
-    go (is i m n) = true-false (sym i ∙ d)
+    go (is i m n) = never (sym i ∙ d)
     go (below i m n) = m
-    go (above i m n) = true-false (sym n ∙ e)
+    go (above i m n) = never (sym n ∙ e)
 
 pub insert-new : (x : Name) (l : List Name) (i : ℕ) → i ≤ length l → Between x l i i → (i < length l → same x (at l i) ≡ false) → insert x l ≡ take i l ++ x ∷ drop i l
 unfolding insert
@@ -101,7 +87,7 @@ insert-new x (y ∷ l) zero h w f =
     let b : before x y ≡ true = new-first x y (w .right 0 (omega arith) (omega arith)) s in
     rw (s, b)
 insert-new x (y ∷ l) (suc i) h w f =
-    let b = before-sorts x y (w .left 0 (omega arith)) in
-    rw (b .0, b .1) (ap (λ z. y ∷ z) (insert-new x l i (le-of-suc-le-suc h)
+    let b : before y x ≡ true = w .left 0 (omega arith) in
+    rw (same-turned x y ∙ before-apart y x b, before-one-way y x b) (ap (λ z. y ∷ z) (insert-new x l i (le-of-suc-le-suc h)
     (record { left = λ j k. w .left (suc j) (omega arith); right = λ j k k′. w .right (suc j) (omega arith) (omega arith) })
     (λ k. f (omega arith))))

@@ -9,20 +9,21 @@ use Rattle.rules.specs.Basic.{Bytes, if_then_else_}
 use Rattle.rules.specs.Name.{Name}
 use Rattle.rules.specs.Free.{insert}
 use Rattle.term.specs.Place.{NameAt}
-use Rattle.free.specs.Ordered.{Ordered, elem}
-use Rattle.free.specs.Rows.{Held, Passed}
+use Rattle.laws.specs.free.Occurrences.{among}
+use Rattle.free.specs.Ordered.{Ordered}
+use Rattle.free.specs.Rows.{binders, rowEnd, Held, Passed}
 
--- the binders passed are xs, the nearest first, and the names found so far are l, in order; 64 guesses follow
+-- the binders passed are xs, the nearest first, and the names found so far are l, in order; the guesses follow
 pub record State (s : Bytes) (row : List ℕ) (low n : ℕ) (xs l : List Name) : Type 0 where
   pub passed : Passed s row low xs
   pub found : Held s row n l
   pub ordered : Ordered l
   pub short : length s ≤ 65536
-  pub long : length row ≡ 1088
+  pub long : length row ≡ rowEnd
 
 -- an entry g that is said to be in use is that of a name found or of a binder passed
 abbrev pub Live : ℕ → ℕ → ℕ → Bool → Type 0
-Live g low n true = (g < n) ⊎ ((low ≤ g) × (g < 1024))
+Live g low n true = (g < n) ⊎ ((low ≤ g) × (g < binders))
 Live g low n false = Unit {0}
 
 -- a variable of the name x is met
@@ -32,5 +33,5 @@ pub record Meets (s : Bytes) (p : ℕ) (row : List ℕ) (low n : ℕ) (x : Name)
   pub room : n < low
 
 pub record Met (s : Bytes) (row : List ℕ) (low n : ℕ) (x : Name) (xs l : List Name) (r : ℕ) : Type 0 where
-  pub state : State s row low r xs (if elem x xs then l else insert x l)
+  pub state : State s row low r xs (if among x xs then l else insert x l)
   pub few : r ≤ n + 1

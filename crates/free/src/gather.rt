@@ -4,14 +4,16 @@ ghost use mathlib.Core.List.{List};
 ghost use Prim.Native.Nat.{_/_, _%_, _≤_};
 ghost use Rattle.rules.specs.Name.{Name};
 ghost use Rattle.rules.specs.Term.{Term};
+ghost use Rattle.free.specs.Rows.{rowEnd};
 ghost use Rattle.free.specs.Walk.{Task, Done};
+use crate::row::ROW_END;
 use crate::row::meet;
 use crate::row::push;
 use term::node;
 
 // The place that a walk has come to, and how many names the row then holds: in one number, which comes back in a register.
 fn come_to(next: usize, count: usize) -> usize
-    requires { ⌜ (next ≤ 65536) × (count ≤ 1088) ⌝ }
+    requires { ⌜ (next ≤ 65536) × (count ≤ rowEnd) ⌝ }
     ensures { λ r. ⌜ (r % 131072 ≡ next) × (r / 131072 ≡ count) ⌝ }
 {
     count * 131072 + next
@@ -20,7 +22,7 @@ fn come_to(next: usize, count: usize) -> usize
 // Puts the free names of the term at `at` into the row, but for those of the binders passed, which stand from low on.
 // It calls itself on each part. What it hands on are numbers and thin references, so that a call on the last part is a jump.
 // Nodes with one part are told apart before the match, so that a chain of them goes by no jump table.
-pub fn gather(s: &&[u8], at: usize, row: &mut [u16; 1088], low: usize, n: usize) -> usize
+pub fn gather(s: &&[u8], at: usize, row: &mut [u16; ROW_END], low: usize, n: usize) -> usize
     requires { ⌜ ((t : Term) × (xs : List Name) × (l : List Name) × Task (now (now s)) at (now row) low n t xs l) ⌝ }
     ensures { λ r. ⌜ ((t : Term) → (xs : List Name) → (l : List Name) → Task (now (now (s .entry))) at (now (row .entry)) low n t xs l → Done (now (now (s .entry))) at (now (row .exit)) low n t xs l (r % 131072) (r / 131072)) ⌝ }
 {

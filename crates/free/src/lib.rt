@@ -11,6 +11,7 @@ ghost use Rattle.free.specs.Rows.{Writes};
 ghost use Rattle.free.specs.Whole.{Lists, Listed};
 use buffer::run;
 use gather::gather;
+use row::ROW_END;
 use rules::Answer;
 use rules::OUTPUT_ROOM;
 use rules::Refusal;
@@ -42,7 +43,7 @@ fn list_names(term: &[u8], out: &mut [u8]) -> usize
     requires { ⌜ ((t : Term) × Lists (now term) (now out) t) ⌝ }
     ensures { λ r. ⌜ ((t : Term) → Lists (now (term .entry)) (now (out .entry)) t → Listed t (now (out .entry)) (now (out .exit)) r) ⌝ }
 {
-    let mut row = [0u16; 1088];
+    let mut row = [0u16; ROW_END];
     let found = gather(&term, 0, &mut row, BINDERS, 0);
     let end = write_names(term, &row, found / 131072, out);
     run::clear(out, end);
@@ -55,11 +56,7 @@ pub fn free_vars(term: &[u8], out: &mut [u8]) -> Answer
     ensures { λ _. ⌜ now (out .exit) ≡ freeVarsCall limits (now (term .entry)) (now (out .entry)) .output ⌝ }
 {
     if out.len() < OUTPUT_ROOM {
-        return Answer::Refused(Refusal {
-            number: 1,
-            place: 0,
-            input: 0,
-        });
+        return Answer::Refused(Refusal::of_no_input(1));
     }
     match reader::term_input(term, 1) {
         Answer::Refused(r) => Answer::Refused(r),

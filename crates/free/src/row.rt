@@ -1,5 +1,5 @@
 // Names kept by their places, in one row: those found from its start on, in order; those of the binders passed up to BINDERS, the nearest
-// first; behind them a guess for each kind of name where in the row it stands.
+// first; behind them guesses at where a name stands.
 ghost use mathlib.Core.Path.{_≡_};
 ghost use mathlib.Core.Bool.{true};
 ghost use mathlib.Core.List.{List};
@@ -9,13 +9,19 @@ ghost use Rattle.rules.specs.Basic.{if_then_else_};
 ghost use Rattle.rules.specs.Name.{Name};
 ghost use Rattle.rules.specs.Free.{insert};
 ghost use Rattle.term.specs.Place.{NameAt};
-ghost use Rattle.free.specs.Ordered.{elem};
+ghost use Rattle.laws.specs.free.Occurrences.{among};
+ghost use Rattle.free.specs.Rows.{binders, guesses, rowEnd};
 ghost use Rattle.free.specs.State.{Live, Meets, Met};
 use crate::order::same_at;
 use crate::slot::BINDERS;
+use crate::slot::open_at;
 use crate::slot::passed;
-use crate::slot::put_in;
 use crate::slot::slot_for;
+
+// How many guesses stand behind the binders, and where the row ends.
+pub const GUESSES: usize = 64;
+
+pub const ROW_END: usize = BINDERS + GUESSES;
 
 // Whether an entry of the row is a name found or a binder passed.
 fn live(g: usize, low: usize, n: usize) -> bool
@@ -36,7 +42,7 @@ fn live(g: usize, low: usize, n: usize) -> bool
 // Whether the entry g of the row shows that meeting the name at `at` changes nothing: it is found already, or a binder passed is of that name.
 fn known(s: &[u8], at: usize, row: &[u16], low: usize, n: usize, g: usize) -> bool
     requires { ⌜ ((x : Name) × (xs : List Name) × (l : List Name) × Meets (now s) at (now row) low n x xs l) ⌝ }
-    ensures { λ r. ⌜ ((x : Name) → (xs : List Name) → (l : List Name) → Meets (now (s .entry)) at (now (row .entry)) low n x xs l → r ≡ true → (if elem x xs then l else insert x l) ≡ l) ⌝ }
+    ensures { λ r. ⌜ ((x : Name) → (xs : List Name) → (l : List Name) → Meets (now (s .entry)) at (now (row .entry)) low n x xs l → r ≡ true → (if among x xs then l else insert x l) ≡ l) ⌝ }
 {
     if live(g, low, n) {
         let p = row[g] as usize;
@@ -45,21 +51,21 @@ fn known(s: &[u8], at: usize, row: &[u16], low: usize, n: usize, g: usize) -> bo
     false
 }
 
-// The kind of the name at `at`, of 64.
-fn kind_of(s: &[u8], at: usize) -> usize
+// Which guess is that of the name at `at`.
+fn guess_of(s: &[u8], at: usize) -> usize
     requires { ⌜ ((x : Name) × NameAt (now s) at x) ⌝ }
-    ensures { λ r. ⌜ r < 64 ⌝ }
+    ensures { λ r. ⌜ r < guesses ⌝ }
 {
     let len = s[at] as usize;
     let last = at + len;
     let middle = at + (len + 1) / 2;
-    (s[middle] as usize + s[last] as usize * 4 + len) % 64
+    (s[middle] as usize + s[last] as usize * 4 + len) % GUESSES
 }
 
 // The name at `at`, of a variable: put into the row unless it is there already or a binder passed is of that name. Where it stands is kept as the guess.
-fn seek(s: &[u8], at: usize, row: &mut [u16], low: usize, n: usize, guess: usize) -> usize
+fn find_or_put(s: &[u8], at: usize, row: &mut [u16], low: usize, n: usize, guess: usize) -> usize
     requires { ⌜ ((x : Name) × (xs : List Name) × (l : List Name) × Meets (now s) at (now row) low n x xs l) ⌝ }
-    requires { ⌜ (1024 ≤ guess) × (guess < 1088) ⌝ }
+    requires { ⌜ (binders ≤ guess) × (guess < rowEnd) ⌝ }
     ensures { λ r. ⌜ ((x : Name) → (xs : List Name) → (l : List Name) → Meets (now (s .entry)) at (now (row .entry)) low n x xs l → Met (now (s .entry)) (now (row .exit)) low n x xs l r) ⌝ }
 {
     let slot = slot_for(s, at, row, n);
@@ -73,7 +79,7 @@ fn seek(s: &[u8], at: usize, row: &mut [u16], low: usize, n: usize, guess: usize
         row[guess] = b as u16;
         return n;
     }
-    put_in(row, n, i, at as u16);
+    open_at(row, n, i, at as u16);
     row[guess] = i as u16;
     n + 1
 }
@@ -83,12 +89,12 @@ pub fn meet(s: &[u8], at: usize, row: &mut [u16], low: usize, n: usize) -> usize
     requires { ⌜ ((x : Name) × (xs : List Name) × (l : List Name) × Meets (now s) at (now row) low n x xs l) ⌝ }
     ensures { λ r. ⌜ ((x : Name) → (xs : List Name) → (l : List Name) → Meets (now (s .entry)) at (now (row .entry)) low n x xs l → Met (now (s .entry)) (now (row .exit)) low n x xs l r) ⌝ }
 {
-    let guess = BINDERS + kind_of(s, at);
+    let guess = BINDERS + guess_of(s, at);
     let g = row[guess] as usize;
     if known(s, at, row, low, n, g) {
         return n;
     }
-    seek(s, at, row, low, n, guess)
+    find_or_put(s, at, row, low, n, guess)
 }
 
 // Puts the place of a binder's name before those from low on, and says where it stands.

@@ -4,18 +4,19 @@ ghost use Prim.Native.Nat.{_≤_, _<_};
 ghost use lib.ListN.{length};
 ghost use Rattle.rules.specs.Name.{Name};
 ghost use Rattle.term.specs.Place.{NameAt};
-ghost use Rattle.free.specs.Rows.{Passed, Scanned, Sought, Goes, Opened};
+ghost use Rattle.free.specs.Rows.{binders, Passed, Scanned, Sought, Goes, Opened};
 use crate::order::Stands;
 use crate::order::order_at;
 use crate::order::same_at;
+use rules::MOST_NODES;
 
-// Where the places of the binders end in the row.
-pub const BINDERS: usize = 1024;
+// Where the places of the binders end in the row: a node brings at most two names.
+pub const BINDERS: usize = 2 * MOST_NODES;
 
 // Where in the row the nearest binder passed of the name at `at` stands; BINDERS if there is none.
 pub fn passed(s: &[u8], at: usize, row: &[u16], low: usize) -> usize
     requires { ⌜ ((x : Name) × (xs : List Name) × NameAt (now s) at x × Passed (now s) (now row) low xs) ⌝ }
-    requires { ⌜ 1024 ≤ length (now row) ⌝ }
+    requires { ⌜ binders ≤ length (now row) ⌝ }
     ensures { λ r. ⌜ ((x : Name) → (xs : List Name) → NameAt (now (s .entry)) at x → Passed (now (s .entry)) (now (row .entry)) low xs → Scanned x xs r) ⌝ }
 {
     let mut i = low;
@@ -77,7 +78,7 @@ pub fn slot_for(s: &[u8], at: usize, row: &[u16], n: usize) -> Slot
 }
 
 // Puts p into the row at i; the entries from i to n move up by one.
-pub fn put_in(row: &mut [u16], n: usize, i: usize, p: u16)
+pub fn open_at(row: &mut [u16], n: usize, i: usize, p: u16)
     requires { ⌜ (i ≤ n) × (n < length (now row)) ⌝ }
     ensures { λ _. ⌜ Opened (now (row .entry)) (now (row .exit)) n i p ⌝ }
 {

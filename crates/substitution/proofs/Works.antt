@@ -9,9 +9,8 @@ use lib.ListN.{length, take, replicate}
 use lib.Seq.{sets}
 use Rattle.rules.specs.Basic.{Bytes}
 use Rattle.rules.specs.Limits.{limits}
-use Rattle.rules.specs.Refusal.{refuse, answered}
-use Rattle.rules.specs.declared.Answer.{Answer}
-use Rattle.rules.specs.declared.Answer.the-variants.{Good}
+use Rattle.rules.specs.declared.Refusal.{Refusal}
+use Rattle.rules.specs.declared.Answer.the-variants.{Good, Refused}
 use Rattle.rules.specs.Term.{Term, encode, size, fits}
 use Rattle.rules.specs.Substitution.{subst}
 use Rattle.laws.specs.reading.Fits.{within}
@@ -54,7 +53,7 @@ module _ {term name value out : Bytes} {n m : ℕ} {t v : Term} (j : Job term na
 
   module _ (b : Bool) (e : b ≡ fits limits (subst name v t)) where
     module _ (y : b ≡ true) where
-      fit : size (subst name v t) ≤ 4096
+      fit : size (subst name v t) ≤ limits .bytes
       fit = within limits (subst name v t) (sym e ∙ y) .1
 
       pub splice-left : Left term (take (count - 0) row₁) (2 + length name) value 0 out 0
@@ -80,7 +79,7 @@ module _ {term name value out : Bytes} {n m : ℕ} {t v : Term} (j : Job term na
               clears = q ∙ zeros scratch (length scratch) refl;
             }
 
-    pub outgrown : b ≡ false → (a : Answer) → a ≡ answered (refuse 8 0 0) → (scratch scratch₁ : Bytes) → scratch₁ ≡ sets scratch 0 (replicate (length scratch - 0) 0)
-        → Done name t v out scratch a out scratch₁
-    outgrown y a r scratch scratch₁ q =
-        record { says = rw (sym e ∙ y) r; leaves = rw (sym e ∙ y); clears = q ∙ zeros scratch (length scratch) refl }
+    pub outgrown : b ≡ false → (r : Refusal) → r ≡ record { number = 8; place = 0; input = 0 } → (scratch scratch₁ : Bytes) → scratch₁ ≡ sets scratch 0 (replicate (length scratch - 0) 0)
+        → Done name t v out scratch (Refused r) out scratch₁
+    outgrown y r d scratch scratch₁ q =
+        record { says = rw (sym e ∙ y) (ap Refused d); leaves = rw (sym e ∙ y); clears = q ∙ zeros scratch (length scratch) refl }

@@ -1,17 +1,16 @@
 // Substitution: the places of the name are found in one walk, and the value is spliced in at them.
 ghost use mathlib.Core.Path.{_≡_};
 ghost use Rattle.rules.specs.Limits.{limits};
-ghost use Rattle.rules.specs.Refusal.{refuse, answered};
+ghost use Rattle.rules.specs.Refusal.{answered};
 ghost use Rattle.rules.specs.Term.{Term};
 ghost use Rattle.rules.specs.Reading.{readTerm, readName};
 ghost use Rattle.rules.specs.Calls.{substituteCall};
 ghost use Rattle.substitution.specs.Work.{inputs, Job, Done};
+use buffer::room;
 use buffer::run;
 use rules::Answer;
 use rules::MOST_NODES;
-use rules::OUTPUT_ROOM;
 use rules::Refusal;
-use rules::SCRATCH_ROOM;
 
 pub mod place;
 pub mod put;
@@ -40,17 +39,6 @@ fn read_inputs(term: &[u8], name: &[u8], value: &[u8]) -> Inputs
     }
 }
 
-// A refusal that is about no one input: 1 or 8.
-fn refused(number: u8) -> Answer
-    ensures { λ r. ⌜ r ≡ answered (refuse number 0 0) ⌝ }
-{
-    Answer::Refused(Refusal {
-        number,
-        place: 0,
-        input: 0,
-    })
-}
-
 // The sizes of the result are known before anything is written; then the runs between the places and the value go out in turn.
 fn replace(
     term: &[u8],
@@ -74,7 +62,7 @@ fn replace(
         run::clear(out, end);
         return Answer::Good(end);
     }
-    refused(8)
+    Answer::Refused(Refusal::of_no_input(8))
 }
 
 // The term with the value for the name, written to out, with zeros behind it.
@@ -89,11 +77,8 @@ pub fn substitute(
     ensures { λ _. ⌜ now (out .exit) ≡ substituteCall limits (now (term .entry)) (now (name .entry)) (now (value .entry)) (now (out .entry)) (now (scratch .entry)) .output ⌝ }
     ensures { λ _. ⌜ now (scratch .exit) ≡ substituteCall limits (now (term .entry)) (now (name .entry)) (now (value .entry)) (now (out .entry)) (now (scratch .entry)) .scratch ⌝ }
 {
-    if out.len() < OUTPUT_ROOM {
-        return refused(1);
-    }
-    if scratch.len() < SCRATCH_ROOM {
-        return refused(1);
+    if room::short(out.len(), scratch.len()) {
+        return Answer::Refused(Refusal::of_no_input(1));
     }
     match read_inputs(term, name, value) {
         Inputs::Refused(r) => Answer::Refused(r),

@@ -12,7 +12,7 @@ use term::node;
 
 // The place after a term, and after what was kept: in one number, which comes back in a register.
 fn come_to(next: usize, to: usize) -> usize
-    requires { ⌜ (next ≤ 4096) × (to ≤ 4096) ⌝ }
+    requires { ⌜ (next ≤ limits .bytes) × (to ≤ limits .nodes) ⌝ }
     ensures { λ r. ⌜ (r % 65536 ≡ next) × (r / 65536 ≡ to) ⌝ }
 {
     to * 65536 + next
@@ -60,19 +60,19 @@ fn find(
 }
 
 // The place after the term, and how many places were kept.
-pub struct Found {
+pub struct KeptPlaces {
     pub next: usize,
     pub count: usize,
 }
 
 // Keeps where `name` is free in the term at the start of s, and tells where that ends.
-pub fn find_places(s: &[u8], name: &[u8], places: &mut [u16; MOST_NODES]) -> Found
+pub fn find_places(s: &[u8], name: &[u8], places: &mut [u16; MOST_NODES]) -> KeptPlaces
     requires { ⌜ ((t : Term) × TermAt (now s) 0 t × (nodes t ≤ limits .nodes)) ⌝ }
     requires { ⌜ (length (now s) ≤ limits .bytes) × Row (now places) ⌝ }
     ensures { λ r. ⌜ ((t : Term) → TermAt (now (s .entry)) 0 t → (r .next ≡ size t) × Wrote (now (places .entry)) 0 (placesOf (now (name .entry)) t 0) (now (places .exit)) (r .count)) ⌝ }
 {
     let found = find(&s, 0, 0, &name, places, 0);
-    Found {
+    KeptPlaces {
         next: found % 65536,
         count: found / 65536,
     }

@@ -12,7 +12,7 @@ use Rattle.buffer.specs.Wrote.{Wrote}
 use Rattle.term.specs.Place.{TermAt}
 use Rattle.term.proofs.node.Terms.{at-end}
 use Rattle.substitution.specs.Places.{places}
-use Rattle.substitution.specs.declared.place.Found.{Found}
+use Rattle.substitution.specs.declared.place.KeptPlaces.{KeptPlaces}
 use Rattle.substitution.proofs.place.Writes.{held}
 use Rattle.contraction.specs.Parts.{Kept}
 
@@ -30,7 +30,7 @@ module _ (s : Bytes) (i : ℕ) (short : length s ≤ i + 4096) where
     pub found-room : (i ≤ length s) × (i + size e ≤ length s)
     found-room = let a = at-end s i e w in (omega arith, a)
 
-    pub is-kept : {name past : ℕ} {row row₁ : List ℕ} {f : Found} → name ≤ past → past ≤ length s → f .count ≤ length row
+    pub is-kept : {name past : ℕ} {row row₁ : List ℕ} {f : KeptPlaces} → name ≤ past → past ≤ length s → f .count ≤ length row
         → (f .next ≡ size e) × Wrote row 0 (places (take (past - name) (drop name s)) e 0) row₁ (f .count)
         → Kept i (take (past - name) (drop name s)) e row₁ (record { from = i; end = i + f .next; count = f .count; gap = past - name + 2 })
     is-kept {name} {past} hn hp within (n, o) =

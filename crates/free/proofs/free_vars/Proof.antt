@@ -5,8 +5,11 @@ use borrow.Author.Needs.{needs}
 use Rattle.free.proofs.free_vars.Statement.{statement}
 use Rattle.free.proofs.free_vars.Tie as tie
 
+of-no-input-requires : tie.Need-of-no-input-requires
+of-no-input-requires c κs = search needs
+
 returns : tie.Need-returns
-returns c = short-buffer (c .before .before .before .args .term .now) (c .before .before .before .args .out .now) (c .if1 .taken)
+returns c = short-buffer (c .before .before .before .before .args .term .now) (c .before .before .before .before .args .out .now) _ (c .of-no-input .ensures) (c .before .if1 .taken)
 
 term-input-requires : tie.Need-term-input-requires
 term-input-requires c κs = search needs
@@ -33,6 +36,7 @@ pub free-vars-spec : {M : Type 1} → statement M
 free-vars-spec =
     tie.close
     (tie.spec
+    of-no-input-requires
     returns
     term-input-requires
     enum-known-r

@@ -16,6 +16,7 @@ use Rattle.term.proofs.node.Names.{AfterIs, name-room, single}
 use Rattle.term.proofs.node.Terms.{at-inside, at-end, at-tag, at-names}
 use Rattle.free.specs.State.{State, Meets, Met}
 use Rattle.free.specs.Walk.{Task, Done}
+use Rattle.free.specs.Rows.{rowEnd}
 use Rattle.free.proofs.row.Meeting as meeting
 use Rattle.free.proofs.gather.Inverts.{Rest, twoTags, bothTags, is-var, is-leaf, is-one, is-two, is-abs, is-both, is-branch}
 use Rattle.free.proofs.gather.Moves.{leaf-done, var-meets, var-done, one-task, one-done, two-task, two-again, two-done, abs-room, abs-name, abs-task, abs-done, both-first, both-second, both-task, both-room, both-body, both-done, branch-first, branch-second, branch-task, branch-room, branch-left, branch-right, branch-done}
@@ -35,7 +36,7 @@ Onward s at p row low n = (at < p) × Some s p row low n
 abbrev pub Fits : List ℕ → ℕ → ℕ → Type 0
 Fits row b p = (0 < b) × (b ≤ length row) × (p < 65536)
 
-fits : {s : Bytes} {row : List ℕ} {b k : ℕ} {xs l : List Name} {p : ℕ} {x : Name} → State s row b k xs l → 0 < b → (row′ : List ℕ) → length row′ ≡ 1088 → NameAt s p x → Fits row′ b p
+fits : {s : Bytes} {row : List ℕ} {b k : ℕ} {xs l : List Name} {p : ℕ} {x : Name} → State s row b k xs l → 0 < b → (row′ : List ℕ) → length row′ ≡ rowEnd → NameAt s p x → Fits row′ b p
 fits {s} {p = p} {x = x} w h row′ e a = (h, omega (arith, w .passed .many), omega (arith, name-room s p (x, a), w .short))
 
 module _ {s : Bytes} {at : ℕ} {row : List ℕ} {low n : ℕ} (some : Some s at row low n) where
@@ -45,7 +46,7 @@ module _ {s : Bytes} {at : ℕ} {row : List ℕ} {low n : ℕ} (some : Some s at
   pub small : length s ≤ 65536
   small = let (t, xs, l, w) = some in w .state .short
 
-  few : n < 1088
+  few : n < rowEnd
   few = let (t, xs, l, w) = some in omega (arith, w .room, some-node t, w .state .passed .many)
 
   module _ (e : getD s at 0 ≡ 1) where
@@ -62,13 +63,13 @@ module _ {s : Bytes} {at : ℕ} {row : List ℕ} {low n : ℕ} (some : Some s at
       pub var-ends : All s at row row′ low n h r
       var-ends t xs l w = let (x, d) = var-is t (w .term) in let v : Task s at row low n (var x) xs l = rw d at w in rw d (var-done x v h f (m x xs l (var-meets x v)))
 
-      pub var-fits : (h ≤ 65536) × (r ≤ 1088)
+      pub var-fits : (h ≤ 65536) × (r ≤ rowEnd)
       var-fits = let (t, xs, l, w) = some in let z = var-ends t xs l w in (omega (arith, z .ends, at-end s at t (w .term), small), let (x, ys, k, v) = var-some in omega (arith, m x ys k v .few, few))
 
   pub leaf-ends : Rest (getD s at 0) → All s at row row low n (at + 1) n
   leaf-ends e t xs l w = let (j, d) = is-leaf t _ (at-tag s at t (w .term)) e in rw d (leaf-done j (rw d at w))
 
-  pub leaf-fits : (at + 1 ≤ 65536) × (n ≤ 1088)
+  pub leaf-fits : (at + 1 ≤ 65536) × (n ≤ rowEnd)
   leaf-fits = (omega (arith, inside, small), omega (arith, few))
 
   module _ (e : onePart (getD s at 0) ≡ 1) where
@@ -214,7 +215,7 @@ module _ {s : Bytes} {at : ℕ} {row : List ℕ} {low n : ℕ} (some : Some s at
         )
 
         module _ {row₁ : List ℕ} {m c : ℕ} (a : All s h row row₁ low n m c) where
-          fits-at : (row′ : List ℕ) (p : ℕ) → length row′ ≡ 1088 → ((x : Name) × NameAt s p x) → Fits row′ low p
+          fits-at : (row′ : List ℕ) (p : ℕ) → length row′ ≡ rowEnd → ((x : Name) × NameAt s p x) → Fits row′ low p
           fits-at row′ p long (z, here) =
               let (t, xs, l, w) = some in
               let (x, y, u, v, v′, d) = branch-is t (w .term) in

@@ -10,7 +10,7 @@ use Rattle.rules.specs.Basic.{Bytes}
 use Rattle.rules.specs.Name.{Name, same, encodeName}
 use Rattle.term.specs.Place.{NameAt}
 use Rattle.term.proofs.node.Names.{head-byte, name-part}
-use Rattle.free.specs.Ordered.{same-eq}
+use Rattle.laws.specs.free.Same.{same-equal}
 
 pub name-length : (s : Bytes) (i : ℕ) (x : Name) → NameAt s i x → getD s i 0 ≡ length x
 name-length s i x w = head-byte s _ i (length x) (w .bytes)
@@ -26,7 +26,7 @@ module _ (s : Bytes) (p q : ℕ) where
   differ x y f = go (same x y) refl
     where
       go : (b : Bool) → same x y ≡ b → false ≡ same x y
-      go true e = absurd (f (same-eq x y e))
+      go true e = absurd (f (same-equal x y e))
       go false e = sym e
 
   pub other-length : (getD s q 0 ≡ getD s p 0 → ⊥) → (x y : Name) → NameAt s p x → NameAt s q y → false ≡ same x y

@@ -10,7 +10,7 @@ use Rattle.rules.specs.Basic.{Bytes}
 use Rattle.rules.specs.Name.{Name}
 use Rattle.term.specs.Place.{NameAt}
 use Rattle.free.specs.Search.{at}
-use Rattle.free.specs.Rows.{Held, Passed, Opened}
+use Rattle.free.specs.Rows.{binders, Held, Passed, Opened}
 use Rattle.free.specs.State.{State}
 
 -- the names found stand before what changes
@@ -23,7 +23,7 @@ held-set s row n l g v h k =
     }
 
 -- a guess stands behind the binders
-pub noted : {s : Bytes} {row : List ℕ} {low n : ℕ} {xs l : List Name} → State s row low n xs l → (g v : ℕ) → 1024 ≤ g → n ≤ low → State s (set row g v) low n xs l
+pub noted : {s : Bytes} {row : List ℕ} {low n : ℕ} {xs l : List Name} → State s row low n xs l → (g v : ℕ) → binders ≤ g → n ≤ low → State s (set row g v) low n xs l
 noted {s} {row} {low} {n} {xs} {l} w g v b k =
     record {
       passed = record {

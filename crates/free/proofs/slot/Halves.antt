@@ -9,7 +9,7 @@ use lib.ListN.{length, getD}
 use Rattle.rules.specs.Basic.{Bytes}
 use Rattle.rules.specs.Name.{Name, same}
 use Rattle.term.specs.Place.{NameAt}
-use Rattle.free.specs.Members.{same-swap}
+use Rattle.laws.specs.free.Same.{same-turned}
 use Rattle.free.specs.Search.{at, Between, everywhere, go-right, go-left, insert-there, insert-new}
 use Rattle.free.specs.Order.{orderOf, is-before, is-same, is-after}
 use Rattle.free.specs.Rows.{Sought, Goes}
@@ -54,14 +54,14 @@ module _ (s : Bytes) (p : ℕ) (row : List ℕ) (n m : ℕ) (l : m < n) where
           let d = is-after (at xs m) x (sym (told x xs w) ∙ e) in
           record {
             between = go-left x xs (w .ordered) lo hi m (a .between) (omega (arith, w .held .many)) (d .0);
-            apart = λ h. same-swap x (at xs m) ∙ d .1;
+            apart = λ h. same-turned x (at xs m) ∙ d .1;
           }
 
     pub hits : o ≡ Same → (x : Name) (xs : List Name) → Sought s p row n x xs → Goes x xs (record { at = m; there = true })
     hits e x xs w =
         record {
           within = omega (arith, w .held .many);
-          there = λ t. insert-there x xs (w .ordered) m (omega (arith, w .held .many)) (same-swap x (at xs m) ∙ is-same (at xs m) x (sym (told x xs w) ∙ e));
+          there = λ t. insert-there x xs (w .ordered) m (omega (arith, w .held .many)) (same-turned x (at xs m) ∙ is-same (at xs m) x (sym (told x xs w) ∙ e));
           new = λ t. absurd (let z : _≡_ {A = ℕ} 0 1 = cc in omega arith);
         }
 

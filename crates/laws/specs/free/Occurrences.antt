@@ -48,7 +48,7 @@ hidden-twice true b n = refl
 hidden-twice false b n = refl
 
 module _ (z : Name) where
-  among-insert : (x : Name) (ys : List Name) → among z (insert x ys) ≡ (same z x || among z ys)
+  pub among-insert : (x : Name) (ys : List Name) → among z (insert x ys) ≡ (same z x || among z ys)
   unfolding insert
   among-insert x [] = refl
   among-insert x (y ∷ ys) = go (among-insert x ys) (same x y) (before x y) refl
@@ -59,12 +59,12 @@ module _ (z : Name) where
       go h false true e = refl
       go h false false e = rw h (swap (same z y) (same z x) (among z ys))
 
-  among-union : (xs ys : List Name) → among z (union xs ys) ≡ (among z xs || among z ys)
+  pub among-union : (xs ys : List Name) → among z (union xs ys) ≡ (among z xs || among z ys)
   unfolding union
   among-union [] ys = refl
   among-union (x ∷ xs) ys = among-insert x (union xs ys) ∙ rw (among-union xs ys) (sym (or-assoc (same z x) (among z xs) (among z ys)))
 
-  among-without : (x : Name) (ys : List Name) → among z (without x ys) ≡ (not (same z x) && among z ys)
+  pub among-without : (x : Name) (ys : List Name) → among z (without x ys) ≡ (not (same z x) && among z ys)
   unfolding without
   among-without x [] = sym (and-false (not (same z x)))
   among-without x (y ∷ ys) = go (among-without x ys) (same x y) refl

@@ -7,6 +7,7 @@ use native.Mathlib.Omega.{arith}
 use lib.ListN.{length, set, length-append}
 use borrow.Author.Tests.{eq-eqb, ne-eqb}
 use Rattle.rules.specs.Basic.{Bytes}
+use Rattle.rules.specs.Limits.{limits}
 use Rattle.rules.specs.Name.{Name}
 use Rattle.rules.specs.Term.{Term, var, leaf, one, two, abs, both, branch, encode, nodes, size, parts}
 use Rattle.laws.specs.size.SubstSize.{occurrences-nodes}
@@ -27,11 +28,11 @@ places-few : (x : Name) (t : Term) (i : ℕ) → length (places x t i) ≤ nodes
 places-few x t i = omega (arith, places-many x t i, occurrences-nodes x t)
 
 -- so a row has room for those of a term that breaks no limit
-pub begins : {s : Bytes} (x : Name) {t : Term} {row : List ℕ} → TermAt s 0 t → nodes t ≤ 512 → length s ≤ 4096 → Row row → Finding s 0 0 x row 0
+pub begins : {s : Bytes} (x : Name) {t : Term} {row : List ℕ} → TermAt s 0 t → nodes t ≤ limits .nodes → length s ≤ limits .bytes → Row row → Finding s 0 0 x row 0
 begins x {t} w h short long = record { term = t; stands = w; short = short; room = omega (arith, places-few x t 0); long = long }
 
 -- what was found in such a term is within the row
-pub count-within : (x : Name) (t : Term) {row row₁ : List ℕ} {count : ℕ} → nodes t ≤ 512 → Row row → Wrote row 0 (places x t 0) row₁ count → count ≤ length row
+pub count-within : (x : Name) (t : Term) {row row₁ : List ℕ} {count : ℕ} → nodes t ≤ limits .nodes → Row row → Wrote row 0 (places x t 0) row₁ count → count ≤ length row
 count-within x t few long w = omega (arith, w .ends, places-few x t 0)
 
 -- ---- what `find` ensures
@@ -60,8 +61,8 @@ PartIs s i k x out o next past out′ = (t : Term) → TermAt s i t → (next �
 record Left (s : Bytes) (i n k : ℕ) (x : Name) (out : List ℕ) (o : ℕ) : Type 0 where
   terms : List Term
   stand : TermsAt s i n terms
-  short : length s ≤ 4096
-  room : o + length (placesAll x k terms i) ≤ 512
+  short : length s ≤ limits .bytes
+  room : o + length (placesAll x k terms i) ≤ limits .nodes
   long : Row out
 
 -- the first of them, and then the others
@@ -69,7 +70,7 @@ module _ {s : Bytes} {i n k : ℕ} {x : Name} {out : List ℕ} {o : ℕ} (g : Le
   first-of : Finding s i k x out o
   first-of = go (g .terms) (g .stand) (g .room)
     where
-      go : (ts : List Term) → TermsAt s i n ts → o + length (placesAll x k ts i) ≤ 512 → Finding s i k x out o
+      go : (ts : List Term) → TermsAt s i n ts → o + length (placesAll x k ts i) ≤ limits .nodes → Finding s i k x out o
       go [] w r = absurd (omega (arith, w .many))
       go (t ∷ ts) w r =
           record {
@@ -90,7 +91,7 @@ module _ {s : Bytes} {i n k : ℕ} {x : Name} {out : List ℕ} {o : ℕ} (g : Le
     others-of : Left s m (n - 1) (k / 2) x out₁ o₁
     others-of = go (g .terms) (g .stand) (g .room)
       where
-        go : (ts : List Term) → TermsAt s i n ts → o + length (placesAll x k ts i) ≤ 512 → Left s m (n - 1) (k / 2) x out₁ o₁
+        go : (ts : List Term) → TermsAt s i n ts → o + length (placesAll x k ts i) ≤ limits .nodes → Left s m (n - 1) (k / 2) x out₁ o₁
         go [] w r = absurd (omega (arith, w .many))
         go (t ∷ ts) w r =
             let (e, v) = f t (first s i n t ts w) in
@@ -110,7 +111,7 @@ module _ {s : Bytes} {i n k : ℕ} {x : Name} {out : List ℕ} {o : ℕ} (g : Le
         let r = h ts (others s i n t ts w m e) in
         (omega (arith, r .0, length-append (encode t) (encodeAll ts)), chain (f t a .1) (rw e at (r .1)))
 
-pub inside : {s : Bytes} {i k : ℕ} {x : Name} {out : List ℕ} {o : ℕ} → Finding s i k x out o → (i < length s) × (length s ≤ 4096)
+pub inside : {s : Bytes} {i k : ℕ} {x : Name} {out : List ℕ} {o : ℕ} → Finding s i k x out o → (i < length s) × (length s ≤ limits .bytes)
 inside {s} {i} g = (at-inside s i (g .term) (g .stands), g .short)
 
 module _ {s : Bytes} {i k : ℕ} {x : Name} {out : List ℕ} {o : ℕ} (g : Finding s i k x out o) where
@@ -119,7 +120,7 @@ module _ {s : Bytes} {i k : ℕ} {x : Name} {out : List ℕ} {o : ℕ} (g : Find
     pub hidden-is : PartIs s i k x out o m o out
     hidden-is t w = (skip-one s i m f t w, rw (eq-eqb (k % 2) 1 odd) (wrote-none out o))
 
-    pub hidden-fits : (m ≤ 4096) × (o ≤ 4096)
+    pub hidden-fits : (m ≤ limits .bytes) × (o ≤ limits .nodes)
     hidden-fits = (omega (arith, hidden-is (g .term) (g .stands) .0, at-end s i (g .term) (g .stands), inside g), omega (arith, g .room))
 
   -- seen
@@ -131,13 +132,13 @@ module _ {s : Bytes} {i k : ℕ} {x : Name} {out : List ℕ} {o : ℕ} (g : Find
       hit-open : (t : Term) → TermAt s i t → openPlaces x k t i ≡ i ∷ []
       hit-open t w = open-is t ∙ var-places x t i (sym (f t w .is) ∙ hit)
 
-      pub hit-room : (o < 512) × (length out ≡ 512)
+      pub hit-room : (o < limits .nodes) × (length out ≡ limits .nodes)
       hit-room = (omega (arith, g .room, ap (λ (z : List ℕ). length z) (hit-open (g .term) (g .stands))), g .long)
 
       pub hit-is : PartIs s i k x out o (node .start) (o + 1) (set out o i)
       hit-is t w = (seen.hit-end s x i node t w (f t w) hit, rw (hit-open t w) (record { holds = refl; ends = refl }))
 
-      pub hit-fits : (node .start ≤ 4096) × (o + 1 ≤ 4096)
+      pub hit-fits : (node .start ≤ limits .bytes) × (o + 1 ≤ limits .nodes)
       hit-fits = (omega (arith, seen.start-far s x i node (g .term) (g .stands) (f (g .term) (g .stands)), inside g), omega (arith, hit-room))
 
     module _ (miss : node .is ≡ false) where
@@ -166,7 +167,7 @@ module _ {s : Bytes} {i k : ℕ} {x : Name} {out : List ℕ} {o : ℕ} (g : Find
       pub bare-is : node .parts ≡ 0 → PartIs s i k x out o (node .start) o out
       bare-is z = whole-is (find-none s (node .start) (node .parts) (node .hides) x out o z)
 
-      pub bare-fits : (node .start ≤ 4096) × (o ≤ 4096)
+      pub bare-fits : (node .start ≤ limits .bytes) × (o ≤ limits .nodes)
       bare-fits = (omega (arith, start-far, inside g), omega (arith, g .room))
 
       module _ (some : 0 < node .parts) where

@@ -10,7 +10,7 @@ use lib.ListN.{length, take}
 use lib.Seq.{length-take-le}
 use borrow.Author.Tests.{leb-true, le-leb, lt-leb}
 use Rattle.rules.specs.Basic.{Bytes, _≤?_}
-use Rattle.rules.specs.Limits.{limits}
+use Rattle.rules.specs.Limits.{limits, outputRoom}
 use Rattle.rules.specs.Name.{Name}
 use Rattle.rules.specs.Term.{Term, encode, nodes, size, fits}
 use Rattle.rules.specs.Free.{occurrences}
@@ -32,23 +32,23 @@ use Rattle.substitution.specs.declared.put.Put.the-variants.{Written, Ou
 -- ---- what breaks no limit
 
 module _ (others rest : ℕ) (u : Term) where
-  pub beside-yes : others + nodes u ≤ 512 → rest + size u ≤ 4096 → fitsBeside others rest u ≡ true
+  pub beside-yes : others + nodes u ≤ limits .nodes → rest + size u ≤ limits .bytes → fitsBeside others rest u ≡ true
   unfolding fitsBeside
-  beside-yes h k = rw (le-leb (others + nodes u) 512 h) (le-leb (rest + size u) 4096 k)
+  beside-yes h k = rw (le-leb (others + nodes u) (limits .nodes) h) (le-leb (rest + size u) (limits .bytes) k)
 
-  pub beside-within : fitsBeside others rest u ≡ true → (others + nodes u ≤ 512) × (rest + size u ≤ 4096)
+  pub beside-within : fitsBeside others rest u ≡ true → (others + nodes u ≤ limits .nodes) × (rest + size u ≤ limits .bytes)
   unfolding fitsBeside
   beside-within e =
-      let h = both-true (others + nodes u ≤? 512) (rest + size u ≤? 4096) e in
-      (leb-true (others + nodes u) 512 (h .0), leb-true (rest + size u) 4096 (h .1))
+      let h = both-true (others + nodes u ≤? limits .nodes) (rest + size u ≤? limits .bytes) e in
+      (leb-true (others + nodes u) (limits .nodes) (h .0), leb-true (rest + size u) (limits .bytes) (h .1))
 
-  pub beside-many : 512 < others + nodes u → fitsBeside others rest u ≡ false
+  pub beside-many : limits .nodes < others + nodes u → fitsBeside others rest u ≡ false
   unfolding fitsBeside
-  beside-many h = rw (lt-leb (others + nodes u) 512 h)
+  beside-many h = rw (lt-leb (others + nodes u) (limits .nodes) h)
 
-  beside-long : others + nodes u ≤ 512 → 4096 < rest + size u → fitsBeside others rest u ≡ false
+  beside-long : others + nodes u ≤ limits .nodes → limits .bytes < rest + size u → fitsBeside others rest u ≡ false
   unfolding fitsBeside
-  beside-long h k = rw (le-leb (others + nodes u) 512 h) (lt-leb (rest + size u) 4096 k)
+  beside-long h k = rw (le-leb (others + nodes u) (limits .nodes) h) (lt-leb (rest + size u) (limits .bytes) k)
 
   outgrown : (out : Bytes) → fitsBeside others rest u ≡ false → Puts others rest none u out out Outgrown
   outgrown out n = record { says = rw n; leaves = rw n }
@@ -98,17 +98,17 @@ module _ {body : Bytes} {row : List ℕ} {count gap : ℕ} {value : Bytes} {m n 
     total : p ≡ others + nodes (subst x v e)
     total = omega (arith, ep, nodes-after growth, nodes-go growth, j .nodes-in)
 
-    pub too-many : {out : Bytes} → 512 < p → Puts others rest none (subst x v e) out out Outgrown
+    pub too-many : {out : Bytes} → limits .nodes < p → Puts others rest none (subst x v e) out out Outgrown
     too-many {out} h = outgrown others rest (subst x v e) out (beside-many others rest (subst x v e) (omega (arith, total)))
 
-    module _ (few-enough : p ≤ 512) {q : ℕ} (eq : q ≡ l - count * gap + count * length value) where
+    module _ (few-enough : p ≤ limits .nodes) {q : ℕ} (eq : q ≡ l - count * gap + count * length value) where
       long : q ≡ rest + size (subst x v e)
       long = omega (arith, eq, bytes-after growth, bytes-go growth, body-long, j .bytes-in)
 
-      pub too-long : {out : Bytes} → 4096 < q → Puts others rest none (subst x v e) out out Outgrown
+      pub too-long : {out : Bytes} → limits .bytes < q → Puts others rest none (subst x v e) out out Outgrown
       too-long {out} h = outgrown others rest (subst x v e) out (beside-long others rest (subst x v e) (omega (arith, total)) (omega (arith, long)))
 
-      module _ (short-enough : q ≤ 4096) {out : Bytes} (room : 4096 ≤ length out) where
+      module _ (short-enough : q ≤ limits .bytes) {out : Bytes} (room : outputRoom limits ≤ length out) where
         pub splice-left : Left body (take (count - 0) row) gap value 0 out 0
         splice-left =
             record {

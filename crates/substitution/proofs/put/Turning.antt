@@ -11,7 +11,7 @@ use lib.ListN.{length, take}
 use lib.Seq.{sets}
 use borrow.Author.Tests.{lt-leb, leb-true, leb-false}
 use Rattle.rules.specs.Basic.{Bytes, _≤?_, if_then_else_}
-use Rattle.rules.specs.Limits.{limits}
+use Rattle.rules.specs.Limits.{limits, outputRoom}
 use Rattle.rules.specs.Name.{Name}
 use Rattle.rules.specs.Term.{Term, encode, nodes, size, fits}
 use Rattle.rules.specs.Free.{occurrences}
@@ -38,24 +38,24 @@ not-both : (a : Bool) {b : Bool} → b ≡ false → (a && b) ≡ false
 not-both true e = e
 not-both false e = refl
 
-fits-long : (u : Term) → 4096 < size u → fits limits u ≡ false
+fits-long : (u : Term) → limits .bytes < size u → fits limits u ≡ false
 unfolding fits
-fits-long u h = not-both (nodes u ≤? 512) (lt-leb (size u) 4096 h)
+fits-long u h = not-both (nodes u ≤? limits .nodes) (lt-leb (size u) (limits .bytes) h)
 
 -- what is too large halfway is too large in the end
 too-large : (others rest : ℕ) (u z : Term) → fitsBeside others 0 u ≡ false → nodes u ≤ nodes z → (fits limits u && fitsBeside others rest z) ≡ false
-too-large others rest u z e h = go (others + nodes u ≤? 512) refl (size u ≤? 4096) refl
+too-large others rest u z e h = go (others + nodes u ≤? limits .nodes) refl (size u ≤? limits .bytes) refl
   where
-    go : (b : Bool) → (others + nodes u ≤? 512) ≡ b → (d : Bool) → (size u ≤? 4096) ≡ d → (fits limits u && fitsBeside others rest z) ≡ false
-    go false q d r = not-both (fits limits u) (beside-many others rest z (omega (arith, leb-false (others + nodes u) 512 q)))
-    go true q false r = rw (fits-long u (leb-false (size u) 4096 r))
+    go : (b : Bool) → (others + nodes u ≤? limits .nodes) ≡ b → (d : Bool) → (size u ≤? limits .bytes) ≡ d → (fits limits u && fitsBeside others rest z) ≡ false
+    go false q d r = not-both (fits limits u) (beside-many others rest z (omega (arith, leb-false (others + nodes u) (limits .nodes) q)))
+    go true q false r = rw (fits-long u (leb-false (size u) (limits .bytes) r))
     go true q true r =
-        let y = beside-yes others 0 u (leb-true (others + nodes u) 512 q) (omega (arith, leb-true (size u) 4096 r)) in
+        let y = beside-yes others 0 u (leb-true (others + nodes u) (limits .nodes) q) (omega (arith, leb-true (size u) (limits .bytes) r)) in
         absurd (let f : false ≡ true = cc in let k : _≡_ {A = ℕ} 0 1 = cc in omega arith)
 
 -- what is known once the answer tells which way the first went
 record Went (others : ℕ) (u : Term) (half₀ half₁ : Bytes) (l c : ℕ) : Type 0 where
-  fit : (others + nodes u ≤ 512) × (0 + size u ≤ 4096)
+  fit : (others + nodes u ≤ limits .nodes) × (0 + size u ≤ limits .bytes)
   long : l ≡ size u
   count : c ≡ others + nodes u
   leaves : half₁ ≡ sets half₀ 0 (encode u)
@@ -113,14 +113,14 @@ module _ {body : Bytes} {row : List ℕ} {many gap : ℕ} {a : Bytes} {k : ℕ} 
       fit : fits limits u ≡ true
       fit = fits-yes limits u (omega (arith, half .fit)) (omega (arith, half .fit))
 
-      pub half-short : l ≤ 4096
+      pub half-short : l ≤ limits .bytes
       half-short = omega (arith, half .long, half .fit)
 
-      module _ (h : 4096 ≤ length half₀) where
+      module _ (h : outputRoom limits ≤ length half₀) where
         pub half-is : take (l - 0) half₁ ≡ encode u
         half-is = from-start l half₁ ∙ wrote-part (record { holds = half .leaves; ends = half .long ∙ omega arith }) (omega (arith, half-short))
 
-        pub half-within : (nodes u ≤ 512) × (length (take (l - 0) half₁) ≤ 4096)
+        pub half-within : (nodes u ≤ limits .nodes) × (length (take (l - 0) half₁) ≤ limits .bytes)
         half-within = (omega (arith, half .fit), omega (arith, ap (λ (z : Bytes). length z) half-is, half .fit))
 
         pub second-job : (y : Name) {row₁ row₂ : List ℕ} {count : ℕ} → Row row₁ → Wrote row₁ 0 (places y u 0) row₂ count

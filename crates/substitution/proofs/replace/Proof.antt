@@ -48,8 +48,8 @@ returns c = λ t v j.
     let f = c .before .before .before .before .before .before .before .before .before .before .before .before .find-places .ensures t (whole t _ (j .term-in .bytes)) .1 in
     done j refl f _ (c .before .before .before .before .before .before .before .before .before .before .before .stays .ensures _ _ _ (growth j refl f)) (c .before .before .before .before .before .before .before .before .before .before .if1 .taken) _ _ (c .before .before .before .before .before .before .splice .ensures) _ _ _ (c .before .before .clear2 .ensures) (c .before .before .before .before .before .before .before .before .before .before .before .before .before .before .before .before .clear .ensures)
 
-refused-requires : tie.Need-refused-requires
-refused-requires c κs = search needs
+of-no-input-requires : tie.Need-of-no-input-requires
+of-no-input-requires c κs = search needs
 
 same-length-3 : tie.Need-same-length-3
 same-length-3 c = search needs
@@ -57,7 +57,7 @@ same-length-3 c = search needs
 returns-2 : tie.Need-returns-2
 returns-2 c = λ t v j.
     let f = c .before .before .before .find-places .ensures t (whole t _ (j .term-in .bytes)) .1 in
-    outgrown j refl f _ (c .before .before .stays .ensures _ _ _ (growth j refl f)) (c .before .if1 .left) _ (c .refused .ensures) _ _ (c .before .before .before .before .before .before .before .clear .ensures)
+    outgrown j refl f _ (c .before .before .stays .ensures _ _ _ (growth j refl f)) (c .before .if1 .left) _ (c .of-no-input .ensures) _ _ (c .before .before .before .before .before .before .before .clear .ensures)
 
 pub replace-spec : {M : Type 1} → statement M
 replace-spec =
@@ -75,6 +75,6 @@ replace-spec =
     same-length
     same-length-2
     returns
-    refused-requires
+    of-no-input-requires
     same-length-3
     returns-2)

@@ -42,10 +42,10 @@ module _ {bytes n count gap value added : ℕ} {x : Name} {t v : Term} (h : Grow
       let e : count * value ≡ occurrences x t * size v = rw (h .count-is, h .value-is) in
       omega (arith, e, gaps, bytes-go, h .bytes-are, subst-bytes x v t)
 
-  pub too-many : (r : ℕ) → r ≡ n - count * 1 + count * added → 512 < r → false ≡ fits limits (subst x v t)
+  pub too-many : (r : ℕ) → r ≡ n - count * 1 + count * added → limits .nodes < r → false ≡ fits limits (subst x v t)
   unfolding fits
-  too-many r e l = rw (lt-leb (nodes (subst x v t)) 512 (omega (arith, nodes-after, e)))
+  too-many r e l = rw (lt-leb (nodes (subst x v t)) (limits .nodes) (omega (arith, nodes-after, e)))
 
-  pub few-enough : (r q : ℕ) → r ≡ n - count * 1 + count * added → r ≤ 512 → q ≡ bytes - count * gap + count * value → leb q 4096 ≡ fits limits (subst x v t)
+  pub few-enough : (r q : ℕ) → r ≡ n - count * 1 + count * added → r ≤ limits .nodes → q ≡ bytes - count * gap + count * value → leb q (limits .bytes) ≡ fits limits (subst x v t)
   unfolding fits
-  few-enough r q e l d = rw (le-leb (nodes (subst x v t)) 512 (omega (arith, nodes-after, e)), d ∙ bytes-after)
+  few-enough r q e l d = rw (le-leb (nodes (subst x v t)) (limits .nodes) (omega (arith, nodes-after, e)), d ∙ bytes-after)

@@ -1,13 +1,14 @@
--- `row::meet` meets its contract, by what `known` and `seek` ensure. Assumes nothing.
+-- `row::meet` meets its contract, by what `known` and `find_or_put` ensure. Assumes nothing.
 use native.Mathlib.Omega.{arith}
 use Prim.Native.Nat.{_+_}
+use Rattle.free.specs.Rows.{binders}
 use Rattle.free.proofs.row.Meeting.{met-kept}
 use borrow.Author.Needs.{needs}
 use Rattle.free.proofs.row.meet.Statement.{statement}
 use Rattle.free.proofs.row.meet.Tie as tie
 
-kind-of-requires : tie.Need-kind-of-requires
-kind-of-requires c κs = let (x, xs, l, w) = c .before .before .pre in (x, w .name)
+guess-of-requires : tie.Need-guess-of-requires
+guess-of-requires c κs = let (x, xs, l, w) = c .before .before .pre in (x, w .name)
 
 add-guess : tie.Need-add-guess
 add-guess c = search needs
@@ -19,7 +20,7 @@ slice-read-g : tie.Need-slice-read-g
 slice-read-g c = let (x, xs, l, w) = c .before .before .before .before .pre in omega (arith, w .state .long)
 
 cast-g : tie.Need-cast-g
-cast-g c = omega (arith, c .slice-known2 .given (1024 + c .before .kind-of .result))
+cast-g c = omega (arith, c .slice-known2 .given (binders + c .before .guess-of .result))
 
 known-requires : tie.Need-known-requires
 known-requires c κs = search needs
@@ -30,8 +31,8 @@ same-length c = search needs
 returns : tie.Need-returns
 returns c = λ x xs l w. met-kept w (c .before .known .ensures x xs l w (c .if1 .taken))
 
-seek-requires : tie.Need-seek-requires
-seek-requires c κs = search needs
+find-or-put-requires : tie.Need-find-or-put-requires
+find-or-put-requires c κs = search needs
 
 same-length-2 : tie.Need-same-length-2
 same-length-2 c = search needs
@@ -43,7 +44,7 @@ pub meet-spec : {M : Type 1} → statement M
 meet-spec =
     tie.close
     (tie.spec
-    kind-of-requires
+    guess-of-requires
     add-guess
     mul-g
     slice-read-g
@@ -51,6 +52,6 @@ meet-spec =
     known-requires
     same-length
     returns
-    seek-requires
+    find-or-put-requires
     same-length-2
     returns-2)

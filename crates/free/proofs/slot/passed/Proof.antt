@@ -1,15 +1,16 @@
 -- `slot::passed` meets its contract: the binders that are left decide. Assumes nothing.
 use Prim.Native.Nat.{_≤_, _-_}
 use native.Mathlib.Omega.{arith}
+use Rattle.free.specs.Rows.{binders}
 use Rattle.free.proofs.slot.Scanning.{Left, low-small, left-all, left-none, entry, left-found, left-less}
 use Rattle.free.proofs.slot.passed.Statement.{statement}
 use Rattle.free.proofs.slot.passed.Tie as tie
 
 abbrev Inv-loop : tie.InvT-loop
-Inv-loop s at row low i₀ i = (low ≤ i) × (i ≤ 1024) × Left s at row low i
+Inv-loop s at row low i₀ i = (low ≤ i) × (i ≤ binders) × Left s at row low i
 
 abbrev μ-loop : tie.MeasureT-loop
-μ-loop s at row low i₀ i = 1024 - i
+μ-loop s at row low i₀ i = binders - i
 
 loop-holds : tie.Need-loop-holds Inv-loop μ-loop
 loop-holds c = (omega arith, low-small _ _ _ _ (c .before .before .pre .0), left-all _ _ _ _)

@@ -1,10 +1,10 @@
--- `slot::put_in` meets its contract: what has moved up so far, and what stands as it did. Assumes nothing.
+-- `slot::open_at` meets its contract: what has moved up so far, and what stands as it did. Assumes nothing.
 use Prim.Native.Nat.{_≤_, _-_}
 use native.Mathlib.Omega.{arith}
 use lib.ListN.{length-set}
 use Rattle.free.proofs.slot.Opening.{Moved, moved-none, moved-more, moved-all}
-use Rattle.free.proofs.slot.put_in.Statement.{statement}
-use Rattle.free.proofs.slot.put_in.Tie as tie
+use Rattle.free.proofs.slot.open_at.Statement.{statement}
+use Rattle.free.proofs.slot.open_at.Tie as tie
 
 abbrev Inv-loop : tie.InvT-loop
 Inv-loop row₀ n i p j₀ row j = (i ≤ j) × (j ≤ n) × Moved row₀ row n j
@@ -51,8 +51,8 @@ same-length c = simp length-set (c .before .loop .inv .2 .long)
 returns : tie.Need-returns Inv-loop μ-loop
 returns c = moved-all _ _ _ (c .before .before .args .i) (c .before .loop .j) (c .before .loop .inv .2) (c .before .loop .inv .0) (c .loop-test .left) (c .before .before .pre .0) (omega (arith, c .before .before .pre .1)) (c .before .before .args .p)
 
-pub put-in-spec : {M : Type 1} → statement M
-put-in-spec =
+pub open-at-spec : {M : Type 1} → statement M
+open-at-spec =
     tie.close
     (tie.spec
     Inv-loop

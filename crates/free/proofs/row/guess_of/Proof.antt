@@ -1,11 +1,11 @@
--- `row::kind_of` meets its contract: a rest by 64 is below 64. Assumes nothing.
+-- `row::guess_of` meets its contract: a rest by the number of guesses is below it. Assumes nothing.
 use Prim.Native.Nat.{_+_, _/_}
 use native.Mathlib.Omega.{arith}
 use lib.ListN.{getD}
 use Rattle.term.proofs.node.Names.{name-room}
 use borrow.Author.Needs.{needs}
-use Rattle.free.proofs.row.kind_of.Statement.{statement}
-use Rattle.free.proofs.row.kind_of.Tie as tie
+use Rattle.free.proofs.row.guess_of.Statement.{statement}
+use Rattle.free.proofs.row.guess_of.Tie as tie
 
 shared-slice-read-len : tie.Need-shared-slice-read-len
 shared-slice-read-len c = omega (arith, name-room _ (c .before .args .at) (c .before .pre))
@@ -46,8 +46,8 @@ add-result-2 c = omega (arith, c .shared-slice-known3 .given (c .before .before 
 returns : tie.Need-returns
 returns c = search needs
 
-pub kind-of-spec : {M : Type 1} → statement M
-kind-of-spec =
+pub guess-of-spec : {M : Type 1} → statement M
+guess-of-spec =
     tie.close
     (tie.spec
     shared-slice-read-len
