@@ -7,7 +7,7 @@ use crate::place::Place;
 use crate::place::SECOND;
 use buffer::run;
 use contraction::part::Contracted;
-use redex::find::reduces;
+use redex::tags::reduces;
 use rules::MOST_NODES;
 use rules::Rule;
 
