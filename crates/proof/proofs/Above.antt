@@ -21,7 +21,7 @@ use Rattle.proof.specs.OneNumber.{Far}
 
 -- What stands before a rule's premises, as `read_conclusion` tells it.
 module _ (s : Bytes) (from : Reached) (far : Far s from) (r : Conclusion)
-    (says : r ≡ countSeen (λ x. x .premises) (found (topOf (within (record { rules = 512; formulas = 1024 }))) s from)) where
+    (says : r ≡ countSeen (λ x. x .premises) (found (topOf (within (record { rules = limits .rules; formulas = limits .formulas }))) s from)) where
   abbrev top : Conclusion
   top = countSeen (λ x. x .premises) (found (topOf limits) s from)
 

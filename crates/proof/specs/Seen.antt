@@ -51,11 +51,11 @@ carries aCut = Cut
 carries (aFocus k) = Focus
 
 -- the same as a number, 0 for no head
-abbrev pub kindAt : Option RuleHead → ℕ
-kindAt none = 0
-kindAt (some (aPlain k)) = 1
-kindAt (some aCut) = 2
-kindAt (some (aFocus k)) = 3
+abbrev pub carriedBy : Option RuleHead → ℕ
+carriedBy none = 0
+carriedBy (some (aPlain k)) = 1
+carriedBy (some aCut) = 2
+carriedBy (some (aFocus k)) = 3
 
 abbrev pub tagSeen : Got ℕ RuleHead → Tag
 tagSeen (got h u p r) = carries h

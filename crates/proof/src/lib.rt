@@ -11,9 +11,9 @@ use reached::Reading;
 use reached::at_end;
 use reader::class::Form;
 use reader::class::table_of;
+use reader::refused;
 use rules::Answer;
 use rules::MOST_BYTES;
-use rules::Refusal;
 
 pub mod conclusion;
 pub mod count;
@@ -28,20 +28,12 @@ pub fn proof_input(s: &[u8], input: u8) -> Answer
     ensures { λ r. ⌜ r ≡ answered (mapped ruleCount (readProof limits input (now (s .entry)))) ⌝ }
 {
     if MOST_BYTES < s.len() {
-        return Answer::Refused(Refusal {
-            number: 2,
-            place: MOST_BYTES,
-            input,
-        });
+        return refused(2, MOST_BYTES, input);
     }
     let t = table_of(Form::Formula);
     match told(read_rule(&s, &t, 0, 0, 0)) {
         Reading::To(end) => at_end(end, s.len(), input),
-        Reading::Fault { number, place } => Answer::Refused(Refusal {
-            number,
-            place,
-            input,
-        }),
+        Reading::Fault { number, place } => refused(number, place, input),
     }
 }
 

@@ -2,8 +2,8 @@
 ghost use mathlib.Core.Path.{_≡_};
 ghost use Prim.Native.Nat.{_+_, _^_, _<_};
 ghost use Rattle.proof.specs.Seen.{pastByte, pastTag, endOf};
+use reader::refused;
 use rules::Answer;
-use rules::Refusal;
 
 // How far a reading has come: the next place, and the rules and formula nodes met so far.
 pub struct Reached {
@@ -53,11 +53,7 @@ pub fn at_end(end: Reached, length: usize, input: u8) -> Answer
     ensures { λ r. ⌜ r ≡ endOf end length input ⌝ }
 {
     if end.next < length {
-        return Answer::Refused(Refusal {
-            number: 7,
-            place: end.next,
-            input,
-        });
+        return refused(7, end.next, input);
     }
     Answer::Good(end.rules)
 }

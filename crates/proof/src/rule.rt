@@ -8,12 +8,15 @@ ghost use Rattle.rules.specs.Proof.{Proof};
 ghost use Rattle.laws.specs.reading.WrittenProof.{carried};
 ghost use Rattle.proof.specs.Place.{FormulaAt, FormulasAt, ProofAt, ProofsAt, formulasLong, proofsLong};
 ghost use Rattle.proof.specs.Shape.{partsAfter, Spread, ruleOf, Sees};
+use crate::tag::FORMULA;
+use crate::tag::INDEX;
+use crate::tag::carried_by;
 use term::node::Row;
 
 // How many parts follow each tag of a formula: two bits a tag.
 const PARTS: usize = 155353728;
 
-fn parts_of(tag: usize) -> usize
+fn formula_parts(tag: usize) -> usize
     requires { ⌜ tag < 32 ⌝ }
     ensures { λ r. ⌜ r ≡ partsAfter tag ⌝ }
 {
@@ -36,7 +39,7 @@ fn look_formula(s: &[u8], at: usize) -> Row
     }
     Row {
         start: past,
-        parts: parts_of(tag),
+        parts: formula_parts(tag),
     }
 }
 
@@ -60,15 +63,12 @@ fn past_own(s: &[u8], at: usize) -> usize
     requires { ⌜ ((p : Proof) × ProofAt (now s) at p) ⌝ }
     ensures { λ r. ⌜ ((p : Proof) → ProofAt (now (s .entry)) at p → r ≡ at + 1 + length (carried (ruleOf p))) ⌝ }
 {
-    let tag = s[at] as usize;
     let own = at + 1;
-    if tag == 2 {
+    let carries = carried_by(s[at]);
+    if carries == FORMULA {
         return skip_formulas(s, own, 1);
     }
-    if tag == 16 {
-        return own + 2;
-    }
-    if tag == 17 {
+    if carries == INDEX {
         return own + 2;
     }
     own

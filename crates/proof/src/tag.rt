@@ -4,7 +4,7 @@ ghost use lib.ListN.{drop};
 ghost use Rattle.rules.specs.Layout.{headAt};
 ghost use Rattle.rules.specs.Proof.{ruleHeads};
 ghost use Rattle.rules.specs.Reading.{tag as tagOf};
-ghost use Rattle.proof.specs.Seen.{kindAt, tagSeen};
+ghost use Rattle.proof.specs.Seen.{carriedBy, tagSeen};
 
 // Nothing, a formula, or an index; or a fault.
 pub enum Tag {
@@ -14,26 +14,34 @@ pub enum Tag {
     Fault { number: u8, place: usize },
 }
 
-// The same as a number: 1 for nothing, 2 for a formula, 3 for an index, and 0 where there is no such rule.
-fn kind_of(tag: u8) -> u8
-    ensures { λ r. ⌜ r ≡ kindAt (headAt ruleHeads tag) ⌝ }
+// The same as a number.
+const NO_RULE: u8 = 0;
+
+const NOTHING: u8 = 1;
+
+pub const FORMULA: u8 = 2;
+
+pub const INDEX: u8 = 3;
+
+pub fn carried_by(tag: u8) -> u8
+    ensures { λ r. ⌜ r ≡ carriedBy (headAt ruleHeads tag) ⌝ }
 {
     if tag < 1 {
-        return 0;
+        return NO_RULE;
     }
     if 18 < tag {
-        return 0;
+        return NO_RULE;
     }
     if tag == 2 {
-        return 2;
+        return FORMULA;
     }
     if tag == 16 {
-        return 3;
+        return INDEX;
     }
     if tag == 17 {
-        return 3;
+        return INDEX;
     }
-    1
+    NOTHING
 }
 
 // The tag at a place, where `used` rules were met before.
@@ -52,17 +60,17 @@ pub fn read_tag(s: &[u8], at: usize, used: usize, most: usize) -> Tag
             place: at,
         };
     }
-    let kind = kind_of(s[at]);
-    if kind == 0 {
+    let carries = carried_by(s[at]);
+    if carries == NO_RULE {
         return Tag::Fault {
             number: 4,
             place: at,
         };
     }
-    if kind == 1 {
+    if carries == NOTHING {
         return Tag::Plain;
     }
-    if kind == 2 {
+    if carries == FORMULA {
         return Tag::Cut;
     }
     Tag::Focus

@@ -5,7 +5,7 @@ use mathlib.Core.Path.{_≡_}
 use mathlib.Core.Bool.{true}
 use lib.ListN.{length, getD, drop}
 use Rattle.rules.specs.Basic.{Bytes}
-use Rattle.rules.specs.Name.{leads}
+use Rattle.rules.specs.Name.{nameMost, leads}
 use Rattle.rules.specs.Layout.{Layout}
 use Rattle.rules.specs.Reading.{times, name, node}
 use Rattle.reader.specs.declared.class.Read.the-variants.{Whole}
@@ -27,7 +27,7 @@ jumped s at (suc k) = jumped s (at + 1 + getD s at 0) k
 -- k names from `at` on end at r, if what stands in them is letters: all of their bytes but the k lengths
 pub record NamesTo (s : Bytes) (longest at k r : ℕ) : Type 0 where
   pub past : at + k ≤ r
-  pub near : r ≤ at + 25 * k
+  pub near : r ≤ at + (nameMost + 1) * k
   pub jumps : r ≡ jumped s at k
   pub few : lettersFrom s at (r - at) ≤ r - at - k
   pub reads : (u : ℕ) → r ≤ length s → lettersFrom s at (r - at) ≡ r - at - k → view (times (name longest) k u at (drop at s)) ≡ Whole r u

@@ -25,12 +25,11 @@ use rules::Refusal;
 
 pub mod ahead;
 pub mod class;
-pub mod going;
 pub mod letters;
 pub mod name;
 pub mod node;
 
-fn refused(number: u8, place: usize, input: u8) -> Answer
+pub fn refused(number: u8, place: usize, input: u8) -> Answer
     ensures { λ r. ⌜ r ≡ answered (refuse number place input) ⌝ }
 {
     Answer::Refused(Refusal {

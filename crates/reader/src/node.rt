@@ -11,6 +11,8 @@ use crate::class::Read;
 use crate::class::code_of;
 use crate::name::Skip;
 use crate::name::skip_names;
+use rules::LONGEST_ATOM;
+use rules::LONGEST_NAME;
 
 pub fn bad(number: u8, place: usize) -> Read
     ensures { λ r. ⌜ r ≡ Read.Bad number place ⌝ }
@@ -23,8 +25,8 @@ pub fn longest_name(form: Form) -> usize
     ensures { λ r. ⌜ r ≡ layoutOf form .longest ⌝ }
 {
     match form {
-        Form::Term => 24,
-        Form::Formula => 16,
+        Form::Term => LONGEST_NAME,
+        Form::Formula => LONGEST_ATOM,
     }
 }
 

@@ -10,18 +10,18 @@ use Rattle.rules.specs.Reading.{readTerm}
 use Rattle.rules.specs.Step.{step, isNormal}
 use Rattle.rules.specs.declared.Answer.{Answer}
 use Rattle.rules.specs.declared.Answer.the-variants.{Good, Refused as NotRead}
-use Rattle.redex.specs.declared.read.Reading.{Reading}
-use Rattle.redex.specs.declared.read.Reading.the-variants.{Calm, Unsure, Refused}
+use Rattle.redex.specs.declared.read.Resting.{Resting}
+use Rattle.redex.specs.declared.read.Resting.the-variants.{Calm, Unsure, Refused}
 
-abbrev pub answerOf : Reading → Answer
+abbrev pub answerOf : Resting → Answer
 answerOf (Calm n) = Good n
 answerOf (Unsure n) = Good n
 answerOf (Refused r) = NotRead r
 
 -- a calm term is normal
-abbrev pub CalmRead : Bytes → Reading → Type 0
+abbrev pub CalmRead : Bytes → Resting → Type 0
 CalmRead s r = (n : ℕ) → r ≡ Calm n → (t : Term) → s ≡ encode t → isNormal (step t) ≡ true
 
-pub record Reads (s : Bytes) (input : ℕ) (r : Reading) : Type 0 where
+pub record Reads (s : Bytes) (input : ℕ) (r : Resting) : Type 0 where
   pub says : answerOf r ≡ answered (mapped nodes (readTerm limits input s))
   pub calm : CalmRead s r

@@ -9,13 +9,13 @@ ghost use Rattle.reader.specs.Classes.{Classes};
 ghost use Rattle.reader.specs.Count.{Gone};
 ghost use Rattle.redex.specs.Swept.{Swept};
 ghost use Rattle.redex.specs.After.{CalmAt};
-use crate::find;
+use crate::tags::reduces;
+use reader::ahead::Ahead;
+use reader::ahead::last_pair;
+use reader::ahead::names_end;
+use reader::ahead::stopped;
 use reader::class::Form;
 use reader::class::code_of;
-use reader::going::Ahead;
-use reader::going::last_pair;
-use reader::going::names_end;
-use reader::going::stopped;
 use reader::node::longest_name;
 
 // What was gone over, and whether no node of it is a redex.
@@ -52,7 +52,7 @@ fn calm_with(s: &[u8], calm: bool, tag: usize, names: usize, past: usize) -> boo
     if 19 < first {
         return false;
     }
-    if find::reduces(tag, first) {
+    if reduces(tag, first) {
         return false;
     }
     calm

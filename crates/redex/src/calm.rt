@@ -4,7 +4,7 @@ ghost use mathlib.Core.Bool.{true};
 ghost use Rattle.rules.specs.Term.{Term, encode};
 ghost use Rattle.rules.specs.Step.{step as stepOf, isNormal};
 ghost use Rattle.redex.specs.Swept.{Swept};
-use crate::find;
+use crate::tags::reduces;
 use term::node;
 
 // Whether no node is a redex, where none is before `from`. A node's first part follows its names, so each tag is held against the one
@@ -18,7 +18,7 @@ pub fn calm(s: &[u8], from: usize) -> bool
     let mut last = 0;
     while i < s.len() {
         let tag = s[i] as usize;
-        if find::reduces(last, tag) {
+        if reduces(last, tag) {
             return false;
         }
         i = node::after_names(s, i + 1, node::names_of(tag));

@@ -5,37 +5,15 @@ ghost use Rattle.rules.specs.Term.{Term};
 ghost use Rattle.term.specs.Place.{TermAt};
 ghost use lib.ListN.{length};
 ghost use Rattle.redex.specs.declared.find.Sought.the-variants.{Redex, After};
-ghost use Rattle.redex.specs.Searched.{entersAfter, reduces as reducesOf, sought, told};
+ghost use Rattle.redex.specs.Searched.{sought, told};
+use crate::tags::enters_of;
+use crate::tags::reduces;
 use term::node;
 
 // The place of the redex; or, where there is none, the place after the term.
 pub enum Sought {
     Redex(usize),
     After(usize),
-}
-
-// How many parts the search enters: two bits a tag.
-const ENTERS: usize = 27133306496;
-
-pub fn enters_of(tag: usize) -> usize
-    requires { ⌜ tag < 32 ⌝ }
-    ensures { λ r. ⌜ r ≡ entersAfter tag ⌝ }
-{
-    (ENTERS >> (tag * 2)) % 4
-}
-
-// What a node wants its first part to be: 1 Pair, 2 Abs, 3 Inl or Inr, 4 Promote, 7 nothing that there is; and what that part is.
-// Three bits a tag.
-const WANTS: usize = 10308556627353599;
-
-const GIVES: usize = 17592242733568;
-
-// Whether a node is a redex, by its tag and its first part's.
-pub fn reduces(tag: usize, first: usize) -> bool
-    requires { ⌜ (tag < 20) × (first < 20) ⌝ }
-    ensures { λ r. ⌜ r ≡ reducesOf tag first ⌝ }
-{
-    (WANTS >> (tag * 3)) % 8 == (GIVES >> (first * 3)) % 8
 }
 
 // What a search tells, in one number, which comes back in a register: twice the place, and one more where a redex is there.

@@ -3,3 +3,4 @@ pub mod ahead;
 pub mod calm;
 pub mod find;
 pub mod read;
+pub mod tags;

@@ -3,6 +3,7 @@ ghost use mathlib.Core.Path.{_≡_};
 ghost use mathlib.Core.Bool.{true};
 ghost use Prim.Native.Nat.{_≤_};
 ghost use lib.ListN.{drop};
+ghost use Rattle.rules.specs.Limits.{limits};
 ghost use Rattle.rules.specs.Term.{Term as TermOf, encode};
 ghost use Rattle.rules.specs.Reading.{times, node};
 ghost use Rattle.rules.specs.Step.{step as stepOf, isNormal};
@@ -18,27 +19,27 @@ use crate::ahead::go_calmly;
 use crate::calm;
 use crate::find::Sought;
 use crate::find::find;
+use reader::ahead::Ahead;
 use reader::ahead::holds;
 use reader::class::Form;
 use reader::class::Read;
 use reader::class::table_of;
-use reader::going::Ahead;
 use reader::node;
 use rules::MOST_BYTES;
 use rules::MOST_NODES;
 use rules::Refusal;
 
 // A term of so many nodes that has no redex, or one that may have some; or a refusal.
-pub enum Reading {
+pub enum Resting {
     Calm(usize),
     Unsure(usize),
     Refused(Refusal),
 }
 
-fn refused(number: u8, place: usize, input: u8) -> Reading
-    ensures { λ r. ⌜ r ≡ Reading.Refused (record { number = number; place = place; input = input }) ⌝ }
+fn not_read(number: u8, place: usize, input: u8) -> Resting
+    ensures { λ r. ⌜ r ≡ Resting.Refused (record { number = number; place = place; input = input }) ⌝ }
 {
-    Reading::Refused(Refusal {
+    Resting::Refused(Refusal {
         number,
         place,
         input,
@@ -46,24 +47,24 @@ fn refused(number: u8, place: usize, input: u8) -> Reading
 }
 
 // A term that was read with nothing seen that is a redex before `from`, if it was calm so far: the few nodes that are left are looked at too.
-fn accepted(s: &[u8], nodes: usize, calm: bool, from: usize) -> Reading
+fn accepted(s: &[u8], nodes: usize, calm: bool, from: usize) -> Resting
     requires { ⌜ ((t : TermOf) × (now s ≡ encode t)) ⌝ }
     requires { ⌜ (calm ≡ true → Swept (now s) from 0) ⌝ }
     ensures { λ r. ⌜ (answerOf r ≡ Good nodes) × CalmRead (now (s .entry)) r ⌝ }
 {
     if calm {
         if calm::calm(s, from) {
-            return Reading::Calm(nodes);
+            return Resting::Calm(nodes);
         }
     }
-    Reading::Unsure(nodes)
+    Resting::Unsure(nodes)
 }
 
 // What reading one node finds, where some were gone over. `ahead` does the same in its read_row: said once for both, it would be a call in every reader.
 fn read_on(s: &[u8], t: &[u8; 256], gone: Ahead) -> Read
     requires { ⌜ Classes (layoutOf Term) (now t) ⌝ }
     requires { ⌜ Gone (layoutOf Term) (now s) 0 1 (gone .next) (gone .met) (gone .known) (gone .names) × (gone .met ≤ 65600) ⌝ }
-    ensures { λ r. ⌜ r ≡ view (times (node (layoutOf Term) 512 512) 1 0 0 (drop 0 (now (s .entry)))) ⌝ }
+    ensures { λ r. ⌜ r ≡ view (times (node (layoutOf Term) (limits .nodes) (limits .nodes)) 1 0 0 (drop 0 (now (s .entry)))) ⌝ }
 {
     if holds(s, 0, gone, MOST_NODES) {
         return node::read_row(
@@ -80,23 +81,23 @@ fn read_on(s: &[u8], t: &[u8; 256], gone: Ahead) -> Read
 }
 
 // The reading of an input of a call.
-pub fn read_resting(s: &[u8], input: u8) -> Reading
+pub fn read_resting(s: &[u8], input: u8) -> Resting
     ensures { λ r. ⌜ Reads (now (s .entry)) input r ⌝ }
 {
     if MOST_BYTES < s.len() {
-        return refused(2, MOST_BYTES, input);
+        return not_read(2, MOST_BYTES, input);
     }
     let t = table_of(Form::Term);
     let passed = go_calmly(s, &t);
     match read_on(s, &t, passed.gone) {
         Read::Whole { next, met } => {
             if next < s.len() {
-                refused(7, next, input)
+                not_read(7, next, input)
             } else {
                 accepted(s, met, passed.calm, passed.gone.next)
             }
         }
-        Read::Bad { number, place } => refused(number, place, input),
+        Read::Bad { number, place } => not_read(number, place, input),
     }
 }
 

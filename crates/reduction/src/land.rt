@@ -8,7 +8,7 @@ use crate::place::SECOND;
 use buffer::run;
 use contraction::part::Contracted;
 use contraction::part::Contraction;
-use redex::find::reduces;
+use redex::tags::reduces;
 use rules::MOST_NODES;
 
 // What the contraction made, and where the search goes on; or the step would outgrow the limits.

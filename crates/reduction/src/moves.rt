@@ -6,7 +6,7 @@ use crate::place::SECOND;
 use crate::sight::Seen;
 use crate::sight::see;
 use buffer::run;
-use redex::find::enters_of;
+use redex::tags::enters_of;
 use term::node;
 
 // Into the node at i: its head is carried over, and the search stands at its first part.

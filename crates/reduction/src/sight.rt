@@ -2,8 +2,8 @@
 ghost use Rattle.rules.specs.Term.{Term};
 ghost use Rattle.term.specs.Place.{TermAt};
 ghost use Rattle.reduction.specs.Seen.{Sees};
-use redex::find::enters_of;
-use redex::find::reduces;
+use redex::tags::enters_of;
+use redex::tags::reduces;
 use term::node;
 
 // The term has no step, and ends there; or is a redex; or is entered at its first part, which starts there.

@@ -10,7 +10,7 @@ ghost use Rattle.rules.specs.Calls.{stepCall, isNormalCall};
 ghost use Rattle.term.specs.Given.{Reads};
 ghost use Rattle.step.specs.Answers.{stepAnswered, normalAnswered, Stepping};
 use buffer::run;
-use redex::read::Reading;
+use redex::read::Resting;
 use redex::read::none_left;
 use redex::read::read_resting;
 use rules::Answer;
@@ -93,8 +93,8 @@ pub fn is_normal(term: &[u8]) -> Normality
     ensures { λ r. ⌜ r ≡ normalAnswered (isNormalCall limits (now (term .entry))) ⌝ }
 {
     match read_resting(term, 1) {
-        Reading::Refused(r) => Normality::Refused(r),
-        Reading::Unsure(_) => Normality::Known(none_left(term)),
-        Reading::Calm(_) => Normality::Known(true),
+        Resting::Refused(r) => Normality::Refused(r),
+        Resting::Unsure(_) => Normality::Known(none_left(term)),
+        Resting::Calm(_) => Normality::Known(true),
     }
 }

@@ -5,7 +5,7 @@ ghost use Rattle.rules.specs.Term.{Term};
 ghost use Rattle.rules.specs.Straight.{_over_, once as onceIn};
 ghost use Rattle.straight.specs.Node.{plainTag};
 ghost use Rattle.straight.specs.Place.{Binds};
-use crate::uses::seek;
+use crate::uses::uses_in;
 
 const CASE: usize = 9;
 
@@ -47,13 +47,13 @@ pub fn once(s: &[u8], name: usize, covers: usize) -> bool
     let len = s[name] as usize;
     let from = name + 1;
     let end = from + len;
-    let all = seek(s, 0, &s[from..end]);
+    let all = uses_in(s, 0, &s[from..end]);
     if all.stands != 1 {
         return false;
     }
     if all.uses != 1 {
         return false;
     }
-    let inside = seek(s, covers, &s[from..end]);
+    let inside = uses_in(s, covers, &s[from..end]);
     inside.uses == 1
 }

@@ -22,12 +22,12 @@ fn is_it(s: &[u8], at: usize, name: &[u8]) -> usize
 }
 
 // Names in a row: the place after them, and how many of them are the name sought.
-pub struct Passed {
+pub struct SameNames {
     pub next: usize,
     pub same: usize,
 }
 
-fn pass(s: &[u8], at: usize, n: usize, name: &[u8]) -> Passed
+fn same_names(s: &[u8], at: usize, n: usize, name: &[u8]) -> SameNames
     requires { ⌜ ((xs : List Name) × NamesAt (now s) at n xs) ⌝ }
     ensures { λ r. ⌜ ((xs : List Name) → NamesAt (now (s .entry)) at n xs → PastNames (now (name .entry)) at xs r) ⌝ }
 {
@@ -39,34 +39,34 @@ fn pass(s: &[u8], at: usize, n: usize, name: &[u8]) -> Passed
         i = node::after_names(s, i, 1);
         left -= 1;
     }
-    Passed { next: i, same }
+    SameNames { next: i, same }
 }
 
 // A node: where its parts start, how many there are, and how often the node itself uses the name and has it at a binder.
-pub struct Met {
+pub struct NodeUses {
     pub start: usize,
     pub parts: usize,
     pub uses: usize,
     pub stands: usize,
 }
 
-fn meet(s: &[u8], at: usize, name: &[u8]) -> Met
+fn uses_at(s: &[u8], at: usize, name: &[u8]) -> NodeUses
     requires { ⌜ ((t : Term) × TermAt (now s) at t) ⌝ }
     ensures { λ r. ⌜ ((t : Term) → TermAt (now (s .entry)) at t → AtNode (now (name .entry)) at t r) ⌝ }
 {
     let tag = s[at] as usize;
     let parts = node::parts_of(tag);
     let names = node::names_of(tag);
-    let p = pass(s, at + 1, names, name);
+    let p = same_names(s, at + 1, names, name);
     if tag == VAR {
-        return Met {
+        return NodeUses {
             start: p.next,
             parts,
             uses: p.same,
             stands: 0,
         };
     }
-    Met {
+    NodeUses {
         start: p.next,
         parts,
         uses: 0,
@@ -75,12 +75,12 @@ fn meet(s: &[u8], at: usize, name: &[u8]) -> Met
 }
 
 // A whole term.
-pub struct Found {
+pub struct TermUses {
     pub uses: usize,
     pub stands: usize,
 }
 
-pub fn seek(s: &[u8], at: usize, name: &[u8]) -> Found
+pub fn uses_in(s: &[u8], at: usize, name: &[u8]) -> TermUses
     requires { ⌜ ((t : Term) × TermAt (now s) at t) ⌝ }
     ensures { λ r. ⌜ ((t : Term) → TermAt (now (s .entry)) at t → InTerm (now (name .entry)) t r) ⌝ }
 {
@@ -89,11 +89,11 @@ pub fn seek(s: &[u8], at: usize, name: &[u8]) -> Found
     let mut uses = 0;
     let mut stands = 0;
     while 0 < left {
-        let m = meet(s, i, name);
+        let m = uses_at(s, i, name);
         left = left - 1 + m.parts;
         uses += m.uses;
         stands += m.stands;
         i = m.start;
     }
-    Found { uses, stands }
+    TermUses { uses, stands }
 }

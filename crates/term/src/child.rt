@@ -22,11 +22,7 @@ pub fn locate(term: &[u8], k: usize) -> Piece
         Answer::Good(_) => {
             let row = parts_at(term, 0);
             if row.parts <= k {
-                return Piece::Missing(Refusal {
-                    number: 14,
-                    place: 0,
-                    input: 0,
-                });
+                return Piece::Missing(Refusal::of_no_input(14));
             }
             let from = skip(term, row.start, k);
             let end = skip(term, from, 1);

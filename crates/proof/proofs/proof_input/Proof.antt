@@ -8,8 +8,11 @@ use borrow.Author.Needs.{needs}
 use Rattle.proof.proofs.proof_input.Statement.{statement}
 use Rattle.proof.proofs.proof_input.Tie as tie
 
+refused-requires : tie.Need-refused-requires
+refused-requires c κs = search needs
+
 returns : tie.Need-returns
-returns c = let a = c .before .before .args in sym (whole-long (a .input) (a .t1 .now) (c .if1 .taken))
+returns c = let a = c .before .before .before .args in c .refused .ensures ∙ sym (whole-long (a .input) (a .t1 .now) (c .before .if1 .taken))
 
 table-of-requires : tie.Need-table-of-requires
 table-of-requires c κs = search needs
@@ -29,6 +32,9 @@ at-end-requires c κs = search needs
 enum-known-number : tie.Need-enum-known-number
 enum-known-number c = search needs
 
+refused-requires-2 : tie.Need-refused-requires-2
+refused-requires-2 c κs = search needs
+
 returns-2 : tie.Need-returns-2
 returns-2 c = let a = c .before .before .before .before .before .before .before .before .before .before .before .args in
     c .at-end .ensures
@@ -36,12 +42,13 @@ returns-2 c = let a = c .before .before .before .before .before .before .before 
     (octets (a .t1 .now) (λ i. c .before .before .before .before .before .before .before .before .before .before .shared-slice-known .given i .fits)))
 
 returns-3 : tie.Need-returns-3
-returns-3 c = let a = c .before .before .before .before .before .before .before .before .before .before .args in sym (whole-bad (a .input) (a .t1 .now) (omega arith) (sym (c .before .before .before .before .read-rule .ensures (limits .rules) (omega arith)) ∙ sym (c .before .before .before .told .ensures) ∙ c .before .number .given .1))
+returns-3 c = let a = c .before .before .before .before .before .before .before .before .before .before .before .args in c .refused2 .ensures ∙ sym (whole-bad (a .input) (a .t1 .now) (omega arith) (sym (c .before .before .before .before .before .read-rule .ensures (limits .rules) (omega arith)) ∙ sym (c .before .before .before .before .told .ensures) ∙ c .before .before .number .given .1))
 
 pub proof-input-spec : {M : Type 1} → statement M
 proof-input-spec =
     tie.close
     (tie.spec
+    refused-requires
     returns
     table-of-requires
     read-rule-requires
@@ -49,5 +56,6 @@ proof-input-spec =
     enum-known-end
     at-end-requires
     enum-known-number
+    refused-requires-2
     returns-2
     returns-3)

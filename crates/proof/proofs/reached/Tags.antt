@@ -15,7 +15,7 @@ use Rattle.rules.specs.Reading.{Got, got, bad, byte, listed, tag}
 use Rattle.laws.specs.free.Same.{both-true}
 use Rattle.laws.specs.reading.Holds.{Holds, chosen, told as read}
 use Rattle.laws.specs.reading.Steady.{steady-got, steady-tag}
-use Rattle.proof.specs.Seen.{Tag, Plain, Cut, Focus, NoTag, carries, kindAt, tagSeen}
+use Rattle.proof.specs.Seen.{Tag, Plain, Cut, Focus, NoTag, carries, carriedBy, tagSeen}
 use Rattle.proof.proofs.reached.Places.{rest-in, rest-out}
 
 module _ (f : ℕ → Bool) where
@@ -32,20 +32,20 @@ module _ (f : ℕ → Bool) where
       go false q g = g (omega (arith, eqb-false k n q))
 
 -- what a tag carries, by the tests of the code
-abbrev pub kindBy : ℕ → ℕ
-kindBy b = if b <? 1 then 0 else (if 18 <? b then 0 else (if b == 2 then 2 else (if b == 16 then 3 else (if b == 17 then 3 else 1))))
+abbrev pub carriedTests : ℕ → ℕ
+carriedTests b = if b <? 1 then 0 else (if 18 <? b then 0 else (if b == 2 then 2 else (if b == 16 then 3 else (if b == 17 then 3 else 1))))
 
-pub kind-is : (b : ℕ) → b < 256 → kindAt (headAt ruleHeads b) ≡ kindBy b
-kind-is b h = eqb-true _ _ (below (λ b. kindAt (headAt ruleHeads b) == kindBy b) 256 refl b h)
+pub carried-is : (b : ℕ) → b < 256 → carriedBy (headAt ruleHeads b) ≡ carriedTests b
+carried-is b h = eqb-true _ _ (below (λ b. carriedBy (headAt ruleHeads b) == carriedTests b) 256 refl b h)
 
-abbrev pub shown : (at kind : ℕ) → Tag
+abbrev pub shown : (at carried : ℕ) → Tag
 shown at k = if k == 0 then NoTag 4 at else (if k == 1 then Plain else (if k == 2 then Cut else Focus))
 
-by-kind : (used at next : ℕ) (r : Bytes) (o : Option RuleHead) → tagSeen (listed used at next r o) ≡ shown at (kindAt o)
-by-kind used at next r none = refl
-by-kind used at next r (some (aPlain k)) = refl
-by-kind used at next r (some aCut) = refl
-by-kind used at next r (some (aFocus k)) = refl
+by-carried : (used at next : ℕ) (r : Bytes) (o : Option RuleHead) → tagSeen (listed used at next r o) ≡ shown at (carriedBy o)
+by-carried used at next r none = refl
+by-carried used at next r (some (aPlain k)) = refl
+by-carried used at next r (some aCut) = refl
+by-carried used at next r (some (aFocus k)) = refl
 
 module _ (s : Bytes) (at used most : ℕ) where
   abbrev told : Tag
@@ -59,9 +59,9 @@ module _ (s : Bytes) (at used most : ℕ) where
   unfolding tag byte
   tag-full h l = rw (rest-in s at h) (simp (le-ltb used most l))
 
-  pub tag-is : at < length s → used < most → told ≡ shown at (kindAt (headAt ruleHeads (getD s at 0)))
+  pub tag-is : at < length s → used < most → told ≡ shown at (carriedBy (headAt ruleHeads (getD s at 0)))
   unfolding tag byte
-  tag-is h l = rw (rest-in s at h) (simp (lt-ltb used most l) (by-kind used at (at + 1) (drop (at + 1) s) (headAt ruleHeads (getD s at 0))))
+  tag-is h l = rw (rest-in s at h) (simp (lt-ltb used most l) (by-carried used at (at + 1) (drop (at + 1) s) (headAt ruleHeads (getD s at 0))))
 
 -- A tag that was read: it was there, and not one too many.
 pub record Tagged (most u at : ℕ) (r : Bytes) (v p : ℕ) (r′ : Bytes) : Type 0 where

@@ -9,11 +9,12 @@ use lib.ListN.{length, getD, drop, length-append}
 use Rattle.rules.specs.Basic.{Bytes}
 use Rattle.rules.specs.Layout.{headAt}
 use Rattle.rules.specs.Formula.{Formula, encodeFormula}
-use Rattle.rules.specs.Proof.{Proof, proof, Premises, done, _then_, premiseCount, Rule, plain, cut, focus, FocusPositive, FocusNegative, ruleHeads, encodeProof, encodePremises}
+use Rattle.rules.specs.Proof.{Proof, proof, Premises, done, _then_, premiseCount, Rule, plain, cut, focus, ruleHeads, encodeProof, encodePremises}
 use Rattle.laws.specs.reading.Lists.{joined, formulas-joined}
 use Rattle.laws.specs.reading.WrittenProof.{headOf, head-at, carried, rule-bytes}
 use Rattle.term.proofs.node.Names.{drop-app, head-byte, long}
 use Rattle.proof.specs.Place.{FormulaAt, FormulasAt, ProofAt, formulasLong}
+use Rattle.proof.specs.Seen.{carriedBy}
 use Rattle.proof.specs.Shape.{ruleOf, linearOf, premisesOf, listed, ruleTag, proofHead, Sees}
 use Rattle.proof.specs.declared.rule.Looked.{Looked}
 use Rattle.proof.proofs.rule.Items.{Spelt, Some, SkipIs, skip-one, at-bytes, at-inside, some-alone}
@@ -41,37 +42,31 @@ proof-apart (proof x l ps) =
 pub proofs-spelt : Spelt encodeProof proofHead premisesOf
 proofs-spelt = record { apart = proof-apart; big = λ p. omega arith }
 
--- ---- which rule has a tag
+-- ---- what a rule carries, by the number that its tag has for it
+
+abbrev number : Rule → ℕ
+number x = carriedBy (some (headOf x))
+
+number-at : (x : Rule) (t : ℕ) → t ≡ ruleTag x → carriedBy (headAt ruleHeads t) ≡ number x
+number-at x t e = ap (λ (k : ℕ). carriedBy (headAt ruleHeads k)) e ∙ ap carriedBy (head-at (headOf x))
+
+carries-formula : (x : Rule) → number x ≡ 2 → (f : Formula) × (x ≡ cut f)
+carries-formula (plain k) e = absurd (omega (arith, e))
+carries-formula (cut f) e = (f, refl)
+carries-formula (focus k n) e = absurd (omega (arith, e))
+
+carries-index : (x : Rule) → number x ≡ 3 → length (carried x) ≡ 2
+carries-index (plain k) e = absurd (omega (arith, e))
+carries-index (cut f) e = absurd (omega (arith, e))
+carries-index (focus k n) e = refl
+
+carries-nothing : (x : Rule) → (number x ≡ 2 → ⊥) → (number x ≡ 3 → ⊥) → length (carried x) ≡ 0
+carries-nothing (plain k) a b = refl
+carries-nothing (cut f) a b = absurd (a refl)
+carries-nothing (focus k n) a b = absurd (b refl)
 
 pub is-cut : (x : Rule) → ruleTag x ≡ 2 → (f : Formula) × (x ≡ cut f)
-is-cut x e = go x (ap (headAt ruleHeads) (sym e) ∙ head-at (headOf x))
-  where
-    go : (x : Rule) → headAt ruleHeads 2 ≡ some (headOf x) → (f : Formula) × (x ≡ cut f)
-    go (plain k) q = absurd (let z : _≡_ {A = ℕ} 0 1 = cc in omega arith)
-    go (cut f) q = (f, refl)
-    go (focus k n) q = absurd (let z : _≡_ {A = ℕ} 0 1 = cc in omega arith)
-
-positive-long : (x : Rule) → ruleTag x ≡ 16 → length (carried x) ≡ 2
-positive-long x e = go x (ap (headAt ruleHeads) (sym e) ∙ head-at (headOf x))
-  where
-    go : (x : Rule) → headAt ruleHeads 16 ≡ some (headOf x) → length (carried x) ≡ 2
-    go (plain k) q = absurd (let z : _≡_ {A = ℕ} 0 1 = cc in omega arith)
-    go (cut f) q = absurd (let z : _≡_ {A = ℕ} 0 1 = cc in omega arith)
-    go (focus k n) q = refl
-
-negative-long : (x : Rule) → ruleTag x ≡ 17 → length (carried x) ≡ 2
-negative-long x e = go x (ap (headAt ruleHeads) (sym e) ∙ head-at (headOf x))
-  where
-    go : (x : Rule) → headAt ruleHeads 17 ≡ some (headOf x) → length (carried x) ≡ 2
-    go (plain k) q = absurd (let z : _≡_ {A = ℕ} 0 1 = cc in omega arith)
-    go (cut f) q = absurd (let z : _≡_ {A = ℕ} 0 1 = cc in omega arith)
-    go (focus k n) q = refl
-
-bare-long : (x : Rule) → (ruleTag x ≡ 2 → ⊥) → (ruleTag x ≡ 16 → ⊥) → (ruleTag x ≡ 17 → ⊥) → length (carried x) ≡ 0
-bare-long (plain k) a b c = refl
-bare-long (cut f) a b c = absurd (a refl)
-bare-long (focus FocusPositive n) a b c = absurd (b refl)
-bare-long (focus FocusNegative n) a b c = absurd (c refl)
+is-cut x e = carries-formula x (sym (number-at x 2 (sym e)))
 
 -- ---- at a place
 
@@ -156,28 +151,28 @@ module _ (s : Bytes) (i : ℕ) where
   pub here-inside : Here s i → i < length s
   here-inside (p, w) = rule-inside s i p w
 
-  some-cut : getD s i 0 ≡ 2 → (p : Proof) (w : ProofAt s i p) → (f : Formula) × (ruleOf p ≡ cut f)
-  some-cut e p w = is-cut (ruleOf p) (sym (rule-tag s i p w) ∙ e)
+  -- what the code makes of the tag
+  module _ (k : ℕ) (is : k ≡ carriedBy (headAt ruleHeads (getD s i 0))) where
+    is-number : (p : Proof) → ProofAt s i p → k ≡ number (ruleOf p)
+    is-number p w = is ∙ number-at (ruleOf p) (getD s i 0) (rule-tag s i p w)
 
-  pub cut-some : getD s i 0 ≡ 2 → Here s i → Some encodeFormula s (i + 1) 1
-  cut-some e (p, w) = let (f, g) = some-cut e p w in some-alone encodeFormula s (i + 1) (f, cut-formula s i p w f g)
+    some-cut : k ≡ 2 → (p : Proof) → ProofAt s i p → (f : Formula) × (ruleOf p ≡ cut f)
+    some-cut e p w = carries-formula (ruleOf p) (sym (is-number p w) ∙ e)
 
-  pub cut-past : getD s i 0 ≡ 2 → (q : ℕ) → SkipIs encodeFormula s (i + 1) 1 q → OwnIs s i q
-  cut-past e q h p w =
-      let (f, g) = some-cut e p w in
-      let a : q ≡ i + 1 + length (encodeFormula f) = skip-one encodeFormula s (i + 1) q h f (cut-formula s i p w f g) in
-      a ∙ ap (λ (x : Rule). i + 1 + length (carried x)) (sym g)
+    pub formula-some : k ≡ 2 → Here s i → Some encodeFormula s (i + 1) 1
+    formula-some e (p, w) = let (f, g) = some-cut e p w in some-alone encodeFormula s (i + 1) (f, cut-formula s i p w f g)
 
-  pub positive-past : getD s i 0 ≡ 16 → OwnIs s i (i + 1 + 2)
-  positive-past e p w = omega (arith, positive-long (ruleOf p) (sym (rule-tag s i p w) ∙ e))
+    pub formula-past : k ≡ 2 → (q : ℕ) → SkipIs encodeFormula s (i + 1) 1 q → OwnIs s i q
+    formula-past e q h p w =
+        let (f, g) = some-cut e p w in
+        let a : q ≡ i + 1 + length (encodeFormula f) = skip-one encodeFormula s (i + 1) q h f (cut-formula s i p w f g) in
+        a ∙ ap (λ (x : Rule). i + 1 + length (carried x)) (sym g)
 
-  pub negative-past : getD s i 0 ≡ 17 → OwnIs s i (i + 1 + 2)
-  negative-past e p w = omega (arith, negative-long (ruleOf p) (sym (rule-tag s i p w) ∙ e))
+    pub index-past : k ≡ 3 → OwnIs s i (i + 1 + 2)
+    index-past e p w = omega (arith, carries-index (ruleOf p) (sym (is-number p w) ∙ e))
 
-  pub bare-past : (getD s i 0 ≡ 2 → ⊥) → (getD s i 0 ≡ 16 → ⊥) → (getD s i 0 ≡ 17 → ⊥) → OwnIs s i (i + 1)
-  bare-past a b c p w =
-      let t = rule-tag s i p w in
-      omega (arith, bare-long (ruleOf p) (λ e. a (t ∙ e)) (λ e. b (t ∙ e)) (λ e. c (t ∙ e)))
+    pub nothing-past : (k ≡ 2 → ⊥) → (k ≡ 3 → ⊥) → OwnIs s i (i + 1)
+    nothing-past a b p w = omega (arith, carries-nothing (ruleOf p) (λ e. a (is-number p w ∙ e)) (λ e. b (is-number p w ∙ e)))
 
   pub own-room : (q : ℕ) → OwnIs s i q → Here s i → q < length s
   own-room q f (p, w) = omega (arith, f p w, own-fits s i p w)

@@ -7,7 +7,7 @@ use mathlib.Core.List.{List, [], _∷_}
 use mathlib.Core.Option.{some}
 use lib.ListN.{length, getD, getElem?, drop}
 use Rattle.rules.specs.Basic.{Bytes}
-use Rattle.rules.specs.Name.{follows}
+use Rattle.rules.specs.Name.{nameMost, follows}
 use Rattle.rules.specs.Layout.{Layout, headAt}
 use Rattle.rules.specs.Reading.{times, name}
 use Rattle.reader.specs.declared.class.Form.{Form}
@@ -90,7 +90,7 @@ inside-all end stop next all e h i = omega arith
 pub closer : (end stop next past k : ℕ) → stop ≡ end - 2 → next < stop → next + 1 + k ≤ past → end - past < end - next
 closer end stop next past k e h i = let z : next < end = omega arith in omega arith
 
-pub not-far : (end stop next past k : ℕ) → stop ≡ end - 2 → next < stop → past ≤ next + 1 + 25 * k → k ≤ 2 → past ≤ end + 60
+pub not-far : (end stop next past k : ℕ) → stop ≡ end - 2 → next < stop → past ≤ next + 1 + (nameMost + 1) * k → k ≤ 2 → past ≤ end + 60
 not-far end stop next past k e h i f = omega arith
 
 -- ---- one node more
@@ -150,6 +150,6 @@ module _ (f : Form) (s : Bytes) (at n p met known names : ℕ) (w : Gone (layout
         }
 
 -- names are short
-pub short : (f : Form) (longest : ℕ) → longest ≡ layoutOf f .longest → longest ≤ 24
+pub short : (f : Form) (longest : ℕ) → longest ≡ layoutOf f .longest → longest ≤ nameMost
 short Term longest e = omega arith
 short Formula longest e = omega arith

@@ -5,7 +5,7 @@ use mathlib.Core.Path.{_≡_, refl, sym, ap, _∙_}
 use mathlib.Core.Bool.{true}
 use lib.ListN.{length, getD, drop}
 use Rattle.rules.specs.Basic.{Bytes}
-use Rattle.rules.specs.Name.{leads, follows}
+use Rattle.rules.specs.Name.{nameMost, leads, follows}
 use Rattle.rules.specs.Reading.{name}
 use Rattle.laws.specs.reading.Steady.{steady-name}
 use Rattle.reader.specs.declared.class.Read.the-variants.{Whole}
@@ -33,7 +33,7 @@ none-to s longest at =
     ap-few = let z : at - at ≡ 0 = omega arith in rw (z, count-none s at) (omega arith)
 
 -- a name with n bytes
-module _ (s : Bytes) (longest at n : ℕ) (small : longest ≤ 24) (is : n ≡ getD s at 0) (least : 1 ≤ n) (most : n ≤ longest) (lead : leads (getD s (at + 1) 0) ≡ true) where
+module _ (s : Bytes) (longest at n : ℕ) (small : longest ≤ nameMost) (is : n ≡ getD s at 0) (least : 1 ≤ n) (most : n ≤ longest) (lead : leads (getD s (at + 1) 0) ≡ true) where
   length-first : lettersFrom s at (suc n) ≡ lettersFrom s (at + 1) n
   length-first = count-next s at n (suc n) refl ∙ rw (low (getD s at 0) (omega (arith, is))) (omega arith)
 
@@ -72,7 +72,7 @@ module _ (s : Bytes) (longest at n : ℕ) (small : longest ≤ 24) (is : n ≡ g
             times-on (name longest) (suc k) u at (drop at s) k refl (p .value) u (at + 1 + n) _ (p .is) ∙ w .reads u h y;
       }
 
-module _ (s : Bytes) (longest at m : ℕ) (small : longest ≤ 24) (w : NameTo s longest at m) where
+module _ (s : Bytes) (longest at m : ℕ) (small : longest ≤ nameMost) (w : NameTo s longest at m) where
   pub then-to : (k r : ℕ) → NamesTo s longest m k r → NamesTo s longest at (suc k) r
   then-to k r v = more-to s longest at (getD s at 0) small refl (w .least) (w .most) (w .lead) k r (rw (← w .ends) v)
 

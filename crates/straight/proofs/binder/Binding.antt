@@ -11,7 +11,7 @@ use Rattle.rules.specs.Term.{Term}
 use Rattle.rules.specs.Straight.{_over_, stands, uses, once}
 use Rattle.term.specs.Place.{TermAt}
 use Rattle.term.proofs.node.Names.{name-room, name-part}
-use Rattle.straight.specs.declared.uses.Found.{Found}
+use Rattle.straight.specs.declared.uses.TermUses.{TermUses}
 use Rattle.straight.specs.Place.{Binds}
 use Rattle.straight.specs.Counts.{InTerm}
 
@@ -19,15 +19,15 @@ use Rattle.straight.specs.Counts.{InTerm}
 abbrev nameAt : List ℕ → ℕ → Name
 nameAt s i = take (i + 1 + getD s i 0 - (i + 1)) (drop (i + 1) s)
 
--- what `seek` ensures
-abbrev FoundIs : List ℕ → ℕ → Name → Found → Type 0
-FoundIs s j x r = (t : Term) → TermAt s j t → InTerm x t r
+-- what `uses_in` ensures
+abbrev UsesInIs : List ℕ → ℕ → Name → TermUses → Type 0
+UsesInIs s j x r = (t : Term) → TermAt s j t → InTerm x t r
 
 module _ {s : List ℕ} {i j : ℕ} where
   pub name-inside : ((w : Term) × (x : Name) × (e : Term) × Binds s i j w x e) → i + 1 + getD s i 0 ≤ length s
   name-inside (w, x, e, b) = name-room s i (x, b .named)
 
-  module _ (all : Found) (f : FoundIs s 0 (nameAt s i) all) {w : Term} {x : Name} {e : Term} (b : Binds s i j w x e) where
+  module _ (all : TermUses) (f : UsesInIs s 0 (nameAt s i) all) {w : Term} {x : Name} {e : Term} (b : Binds s i j w x e) where
     in-whole : InTerm x w all
     in-whole = rw (name-part s i x (b .named)) at (f w (b .whole))
 
@@ -44,7 +44,7 @@ module _ {s : List ℕ} {i j : ℕ} where
       not-once h =
           sym (ap₂ _&&_ placed (ap (λ (z : Bool). z && (uses x e == uses x w)) (ne-eqb (uses x w) 1 (λ z. h (in-whole .uses ∙ z)))))
 
-      pub inside : all .uses ≡ 1 → (there : Found) → FoundIs s j (nameAt s i) there → (there .uses == 1) ≡ once w (x over e)
+      pub inside : all .uses ≡ 1 → (there : TermUses) → UsesInIs s j (nameAt s i) there → (there .uses == 1) ≡ once w (x over e)
       unfolding once
       inside q there g =
           let u : uses x w ≡ 1 = sym (in-whole .uses) ∙ q in

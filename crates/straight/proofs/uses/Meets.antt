@@ -12,7 +12,7 @@ use Rattle.term.specs.Place.{TermAt}
 use Rattle.term.proofs.node.Terms.{at-tag, at-names, at-count-names, at-count-parts}
 use Rattle.straight.specs.Node.{ownVariables, ownBinders}
 use Rattle.straight.specs.Counts.{PastNames, AtNode}
-use Rattle.straight.proofs.uses.NameRows.{PassIs}
+use Rattle.straight.proofs.uses.NameRows.{SameNamesIs}
 
 abbrev ownNames : Term → List Name
 ownNames t = map (λ b. b .name) (ownBinders t)
@@ -27,7 +27,7 @@ of-variable (abs x e) n p = absurd (omega (arith, p))
 of-variable (both k x y e b) n p = absurd (omega (arith, p))
 of-variable (branch x y e l r) n p = absurd (omega (arith, p))
 
-module _ {s : List ℕ} {i q p : ℕ} {x : Name} (eq : q ≡ namesAfter (getD s i 0)) (ep : p ≡ partsAfter (getD s i 0)) (next same : ℕ) (f : PassIs s (i + 1) q x next same) where
+module _ {s : List ℕ} {i q p : ℕ} {x : Name} (eq : q ≡ namesAfter (getD s i 0)) (ep : p ≡ partsAfter (getD s i 0)) (next same : ℕ) (f : SameNamesIs s (i + 1) q x next same) where
   past : (t : Term) → TermAt s i t → PastNames x (i + 1) (names t) (record { next = next; same = same })
   past t w = f (names t) (rw (eq ∙ at-count-names s i t w) (at-names s i t w))
 

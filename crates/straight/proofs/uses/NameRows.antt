@@ -20,14 +20,14 @@ abbrev pub ItIs : List ℕ → ℕ → Name → ℕ → Type 0
 ItIs s i x d = (y : Name) → NameAt s i y → d ≡ (if same x y then 1 else 0)
 
 -- the n names at i end at r, and m of them are x
-abbrev pub PassIs : List ℕ → ℕ → ℕ → Name → ℕ → ℕ → Type 0
-PassIs s i n x r m = (xs : List Name) → NamesAt s i n xs → PastNames x i xs (record { next = r; same = m })
+abbrev pub SameNamesIs : List ℕ → ℕ → ℕ → Name → ℕ → ℕ → Type 0
+SameNamesIs s i n x r m = (xs : List Name) → NamesAt s i n xs → PastNames x i xs (record { next = r; same = m })
 
 -- `done` of the names up to i are x; whatever the rest has, the whole has that and them
 pub record Passing (s : List ℕ) (at n : ℕ) (x : Name) (i left done : ℕ) : Type 0 where
   pub some : Some s i left
   pub past : at + done ≤ i
-  pub rest : (r m : ℕ) → PassIs s i left x r m → PassIs s at n x r (done + m)
+  pub rest : (r m : ℕ) → SameNamesIs s i left x r m → SameNamesIs s at n x r (done + m)
 
 pub begin : (s : List ℕ) (at n : ℕ) (x : Name) → Some s at n → Passing s at n x at n 0
 begin s at n x w = record { some = w; past = omega arith; rest = λ r m f xs v. record { next = f xs v .next; same = omega (arith, f xs v .same) } }
@@ -41,7 +41,7 @@ module _ {s : List ℕ} {at n : ℕ} {x : Name} {i left done : ℕ} (g : Passing
   unfolding count
   finish z xs w = let e = g .rest i 0 none xs w in record { next = e .next; same = omega (arith, e .same) }
     where
-      none : PassIs s i left x i 0
+      none : SameNamesIs s i left x i 0
       none [] v = record { next = omega arith; same = refl }
       none (y ∷ ys) v = absurd (omega (arith, v .many))
 
@@ -63,7 +63,7 @@ module _ {s : List ℕ} {at n : ℕ} {x : Name} {i left done : ℕ} (g : Passing
       some-next ([], w) = absurd (omega (arith, w .many))
       some-next (y ∷ ys, w) = (ys, next y ys w)
 
-      so-rest : (r m : ℕ) → PassIs s j (left - 1) x r m → PassIs s i left x r (d + m)
+      so-rest : (r m : ℕ) → SameNamesIs s j (left - 1) x r m → SameNamesIs s i left x r (d + m)
       unfolding count
       so-rest r m f [] w = absurd (omega (arith, w .many))
       so-rest r m f (y ∷ ys) w =

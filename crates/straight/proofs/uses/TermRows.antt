@@ -11,7 +11,7 @@ use Rattle.term.specs.Node.{names}
 use Rattle.term.specs.Place.{TermAt, TermsAt}
 use Rattle.term.proofs.node.Terms.{Some, some-first, some-fits, first, unrolled, alone, at-end, apart-size}
 use Rattle.laws.specs.straight.Weights.{weigh, usesOf, standsOf, uses-weigh, stands-weigh}
-use Rattle.straight.specs.declared.uses.Met.{Met}
+use Rattle.straight.specs.declared.uses.NodeUses.{NodeUses}
 use Rattle.straight.specs.Node.{ownVariables, ownBinders}
 use Rattle.straight.specs.Counts.{AtNode, InTerm}
 use Rattle.straight.proofs.uses.NameRows.{at-most-one}
@@ -84,9 +84,9 @@ own-most x (branch y z e l r) = omega (arith, count-most x (y ∷ z ∷ []))
 
 -- ---- the loop
 
--- what `meet` ensures
-abbrev pub MetIs : List ℕ → ℕ → Name → Met → Type 0
-MetIs s i x m = (t : Term) → TermAt s i t → AtNode x i t m
+-- what `uses_at` ensures
+abbrev pub UsesAtIs : List ℕ → ℕ → Name → NodeUses → Type 0
+UsesAtIs s i x m = (t : Term) → TermAt s i t → AtNode x i t m
 
 -- the n terms at i use x so often, and have it at so many binders
 abbrev SeekIs : List ℕ → ℕ → ℕ → Name → ℕ → ℕ → Type 0
@@ -118,7 +118,7 @@ module _ {s : List ℕ} {at : ℕ} {x : Name} {i left u v : ℕ} (g : Going s at
     pub one-here : (t : Term) × TermAt s i t
     one-here = some-first s i left l (g .some)
 
-    module _ (m : Met) (f : MetIs s i x m) where
+    module _ (m : NodeUses) (f : UsesAtIs s i x m) where
       turned : (t : Term) (ts : List Term) → TermsAt s i left (t ∷ ts) → TermsAt s (m .start) (left - 1 + m .parts) (parts t ++ ts)
       turned t ts w =
           let e = f t (first s i left t ts w) in

@@ -29,11 +29,11 @@ add-t12 c = omega (arith, name-end _ _ (c .before .before .before .before .pre) 
 returns : tie.Need-returns
 returns c = spread-atom _ _ (c .before .if1 .taken)
 
-parts-of-requires : tie.Need-parts-of-requires
-parts-of-requires c κs = formula-small _ _ (c .before .before .before .pre .0) (c .before .before .before .pre .1)
+formula-parts-requires : tie.Need-formula-parts-requires
+formula-parts-requires c κs = formula-small _ _ (c .before .before .before .pre .0) (c .before .before .before .pre .1)
 
 returns-2 : tie.Need-returns-2
-returns-2 c = spread-other _ _ (omega (arith, c .before .if1 .left)) _ (c .parts-of .ensures)
+returns-2 c = spread-other _ _ (omega (arith, c .before .if1 .left)) _ (c .formula-parts .ensures)
 
 pub look-formula-spec : {M : Type 1} → statement M
 look-formula-spec =
@@ -47,5 +47,5 @@ look-formula-spec =
     add-t11
     add-t12
     returns
-    parts-of-requires
+    formula-parts-requires
     returns-2)

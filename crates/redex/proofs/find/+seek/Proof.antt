@@ -12,9 +12,9 @@ use Rattle.redex.proofs.find.seek.Reads as seek
 use Rattle.redex.proofs.find.seek.Kinds as seek-kinds
 use Rattle.redex.proofs.find.+seek.Lts-seek as seek-lts
 use Rattle.redex.proofs.find.after.Reads as after-reads
-use Rattle.redex.proofs.find.enters_of.Reads as enters-of-reads
+use Rattle.redex.proofs.tags.enters_of.Reads as enters-of-reads
 use Rattle.redex.proofs.find.redex.Reads as redex-reads
-use Rattle.redex.proofs.find.reduces.Reads as reduces-reads
+use Rattle.redex.proofs.tags.reduces.Reads as reduces-reads
 use Rattle.term.proofs.node.after_names.Reads as after-names-reads
 use Rattle.term.proofs.node.names_of.Reads as names-of-reads
 use Rattle.term.proofs.node.parts_of.Reads as parts-of-reads

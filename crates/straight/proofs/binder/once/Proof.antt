@@ -17,40 +17,40 @@ add-from c = omega (arith, name-inside (c .before .before .pre))
 add-end : tie.Need-add-end
 add-end c = omega (arith, name-inside (c .before .before .pre))
 
-sub-seek : tie.Need-sub-seek
-sub-seek c = search needs
+sub-uses-in : tie.Need-sub-uses-in
+sub-uses-in c = search needs
 
-part-seek-start : tie.Need-part-seek-start
-part-seek-start c = search needs
+part-uses-in-start : tie.Need-part-uses-in-start
+part-uses-in-start c = search needs
 
-part-seek-end : tie.Need-part-seek-end
-part-seek-end c = name-inside (c .before .before .pre)
+part-uses-in-end : tie.Need-part-uses-in-end
+part-uses-in-end c = name-inside (c .before .before .pre)
 
-seek-requires : tie.Need-seek-requires
-seek-requires c κs = search needs
+uses-in-requires : tie.Need-uses-in-requires
+uses-in-requires c κs = search needs
 
 returns : tie.Need-returns
-returns c w x e b = elsewhere _ (c .before .before .seek .ensures) b (λ z. omega (arith, c .if1 .taken))
+returns c w x e b = elsewhere _ (c .before .before .uses-in .ensures) b (λ z. omega (arith, c .if1 .taken))
 
 returns-2 : tie.Need-returns-2
-returns-2 c w x e b = not-once _ (c .before .before .before .before .seek .ensures) b (omega (arith, c .before .before .if1 .left)) (λ z. omega (arith, c .if2 .taken))
+returns-2 c w x e b = not-once _ (c .before .before .before .before .uses-in .ensures) b (omega (arith, c .before .before .if1 .left)) (λ z. omega (arith, c .if2 .taken))
 
-sub-seek-2 : tie.Need-sub-seek-2
-sub-seek-2 c = search needs
+sub-uses-in-2 : tie.Need-sub-uses-in-2
+sub-uses-in-2 c = search needs
 
-part-seek-start-2 : tie.Need-part-seek-start-2
-part-seek-start-2 c = search needs
+part-uses-in-start-2 : tie.Need-part-uses-in-start-2
+part-uses-in-start-2 c = search needs
 
-part-seek-end-2 : tie.Need-part-seek-end-2
-part-seek-end-2 c = name-inside (c .before .before .before .before .before .before .before .before .pre)
+part-uses-in-end-2 : tie.Need-part-uses-in-end-2
+part-uses-in-end-2 c = name-inside (c .before .before .before .before .before .before .before .before .pre)
 
-seek-requires-2 : tie.Need-seek-requires-2
-seek-requires-2 c κs = search needs
+uses-in-requires-2 : tie.Need-uses-in-requires-2
+uses-in-requires-2 c κs = search needs
 
 returns-3 : tie.Need-returns-3
 returns-3 c w x e b =
-    inside _ (c .before .before .before .before .before .before .before .seek .ensures) b (omega (arith, c .before .before .before .before .before .if1 .left))
-    (omega (arith, c .before .before .before .if2 .left)) _ (c .before .seek2 .ensures)
+    inside _ (c .before .before .before .before .before .before .before .uses-in .ensures) b (omega (arith, c .before .before .before .before .before .if1 .left))
+    (omega (arith, c .before .before .before .if2 .left)) _ (c .before .uses-in2 .ensures)
 
 pub once-spec : {M : Type 1} → statement M
 once-spec =
@@ -60,14 +60,14 @@ once-spec =
     cast-len
     add-from
     add-end
-    sub-seek
-    part-seek-start
-    part-seek-end
-    seek-requires
+    sub-uses-in
+    part-uses-in-start
+    part-uses-in-end
+    uses-in-requires
     returns
     returns-2
-    sub-seek-2
-    part-seek-start-2
-    part-seek-end-2
-    seek-requires-2
+    sub-uses-in-2
+    part-uses-in-start-2
+    part-uses-in-end-2
+    uses-in-requires-2
     returns-3)

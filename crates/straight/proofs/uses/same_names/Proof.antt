@@ -1,10 +1,10 @@
--- `uses::pass` meets its contract: whatever the names that are left have, all of them have that and what was met.
+-- `uses::same_names` meets its contract: whatever the names that are left have, all of them have that and what was met.
 -- Assumes nothing.
 use native.Mathlib.Omega.{arith}
 use Rattle.term.proofs.node.Names.{name-room, some-single}
 use Rattle.straight.proofs.uses.NameRows.{Passing, begin, finish, one-here, small, turn}
-use Rattle.straight.proofs.uses.pass.Statement.{statement}
-use Rattle.straight.proofs.uses.pass.Tie as tie
+use Rattle.straight.proofs.uses.same_names.Statement.{statement}
+use Rattle.straight.proofs.uses.same_names.Tie as tie
 
 abbrev Inv-loop : tie.InvT-loop
 Inv-loop s at n name i₀ left₀ same₀ i left same = Passing s at n name i left same
@@ -36,8 +36,8 @@ loop-again c = turn (c .before .before .before .loop .inv) (c .before .before .l
 returns : tie.Need-returns Inv-loop μ-loop
 returns c = finish (c .before .loop .inv) (omega arith)
 
-pub pass-spec : {M : Type 1} → statement M
-pass-spec =
+pub same-names-spec : {M : Type 1} → statement M
+same-names-spec =
     tie.close
     (tie.spec
     Inv-loop

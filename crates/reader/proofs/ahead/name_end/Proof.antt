@@ -1,4 +1,4 @@
--- `going::name_end` meets its contract: each test says a field of it. Assumes nothing.
+-- `ahead::name_end` meets its contract: each test says a field of it. Assumes nothing.
 use Prim.Native.Nat.{_+_}
 use native.Mathlib.Omega.{arith}
 use mathlib.Core.Path.{_≡_}
@@ -6,8 +6,8 @@ use mathlib.Core.Bool.{true}
 use lib.ListN.{getD}
 use Rattle.rules.specs.Name.{leads}
 use borrow.Author.Needs.{needs}
-use Rattle.reader.proofs.going.name_end.Statement.{statement}
-use Rattle.reader.proofs.going.name_end.Tie as tie
+use Rattle.reader.proofs.ahead.name_end.Statement.{statement}
+use Rattle.reader.proofs.ahead.name_end.Tie as tie
 
 shared-slice-read-n : tie.Need-shared-slice-read-n
 shared-slice-read-n c = search needs

@@ -1,4 +1,4 @@
--- `going::go_ahead` meets its contract: what was gone over stays good with each node more. Assumes nothing.
+-- `ahead::go_ahead` meets its contract: what was gone over stays good with each node more. Assumes nothing.
 use Prim.Native.Nat.{_+_, _-_, _≤_}
 use native.Mathlib.Omega.{arith}
 use mathlib.Core.Path.{refl}
@@ -6,8 +6,8 @@ use borrow.Author.Needs.{needs}
 use Rattle.reader.specs.Form.{layoutOf}
 use Rattle.reader.specs.Count.{Gone}
 use Rattle.reader.proofs.ahead.Further.{begun, same-gone, few-names, few-parts, gone-more, short, inside-all, closer, not-far}
-use Rattle.reader.proofs.going.go_ahead.Statement.{statement}
-use Rattle.reader.proofs.going.go_ahead.Tie as tie
+use Rattle.reader.proofs.ahead.go_ahead.Statement.{statement}
+use Rattle.reader.proofs.ahead.go_ahead.Tie as tie
 
 abbrev Inv-loop : tie.InvT-loop
 Inv-loop s form t at end n longest stop next₀ met₀ known₀ names₀ next met known names = Gone (layoutOf form) s at n next met known names × (next ≤ end + 60)

@@ -1,9 +1,9 @@
--- `going::names_end` meets its contract: no name, one, or one and then one more. Assumes nothing.
+-- `ahead::names_end` meets its contract: no name, one, or one and then one more. Assumes nothing.
 use native.Mathlib.Omega.{arith}
 use Rattle.reader.proofs.ahead.Named.{none-to, one-to, then-to}
 use borrow.Author.Needs.{needs}
-use Rattle.reader.proofs.going.names_end.Statement.{statement}
-use Rattle.reader.proofs.going.names_end.Tie as tie
+use Rattle.reader.proofs.ahead.names_end.Statement.{statement}
+use Rattle.reader.proofs.ahead.names_end.Tie as tie
 
 returns : tie.Need-returns
 returns c = λ h. rw (c .if1 .taken) (none-to (c .before .before .args .s .now) (c .before .before .args .longest) (c .before .before .args .at))
