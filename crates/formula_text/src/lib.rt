@@ -18,11 +18,7 @@ pub fn pretty(formula: &[u8], out: &mut [u8]) -> Answer
     ensures { λ _. ⌜ now (out .exit) ≡ formulaTextCall limits (now (formula .entry)) (now (out .entry)) .output ⌝ }
 {
     if out.len() < FORMULA_TEXT_ROOM {
-        return Answer::Refused(Refusal {
-            number: 1,
-            place: 0,
-            input: 0,
-        });
+        return Answer::Refused(Refusal::of_no_input(1));
     }
     match reader::check_formula(formula) {
         Answer::Good(_) => {

@@ -10,7 +10,7 @@ use lib.ListN.{length, set, take, drop, replicate, length-append, length-take, l
 use lib.Seq.{drop-drop, sets, sets-eq, length-sets, slice, take-all, take-at, drop-at, take-add, length-take-le}
 use borrow.Author.Tests.{ltb-true, ltb-false}
 use Rattle.rules.specs.Basic.{Bytes, if_then_else_, low-high}
-use Rattle.rules.specs.Limits.{blocksFor}
+use Rattle.rules.specs.Limits.{blockBytes, blockContent, blocksFor}
 use Rattle.rules.specs.declared.Kind.{Kind}
 use Rattle.rules.specs.Stored.{kindByte, usedIn, padded, allZero, check, blockBody, block, blocks, stored}
 use Rattle.buffer.specs.Writing.{sets-app}
@@ -27,51 +27,51 @@ sets-whole l vs h =
 
 -- the lesser of a number and a block's content
 abbrev least : ℕ → ℕ
-least x = if ltb x 506 then x else 506
+least x = if ltb x blockContent then x else blockContent
 
-least-sub : (x : ℕ) (t : Bool) → ltb x 506 ≡ t → 506 - (if t then x else 506) ≡ 506 - x
+least-sub : (x : ℕ) (t : Bool) → ltb x blockContent ≡ t → blockContent - (if t then x else blockContent) ≡ blockContent - x
 least-sub x true e = refl
-least-sub x false e = let h = ltb-false x 506 e in omega arith
+least-sub x false e = let h = ltb-false x blockContent e in omega arith
 
-take-least : (s : Bytes) (t : Bool) → ltb (length s) 506 ≡ t → take (if t then length s else 506) s ≡ take 506 s
-take-least s true e = let h = ltb-true (length s) 506 e in take-all (length s) s (omega arith) ∙ sym (take-all 506 s (omega arith))
+take-least : (s : Bytes) (t : Bool) → ltb (length s) blockContent ≡ t → take (if t then length s else blockContent) s ≡ take blockContent s
+take-least s true e = let h = ltb-true (length s) blockContent e in take-all (length s) s (omega arith) ∙ sym (take-all blockContent s (omega arith))
 take-least s false e = refl
 
-least-in : (x : ℕ) (t : Bool) → ltb x 506 ≡ t → (if t then x else 506) ≤ x
+least-in : (x : ℕ) (t : Bool) → ltb x blockContent ≡ t → (if t then x else blockContent) ≤ x
 least-in x true e = omega arith
-least-in x false e = let h = ltb-false x 506 e in omega arith
+least-in x false e = let h = ltb-false x blockContent e in omega arith
 
-pub used-in : (n i : ℕ) → usedIn n i ≤ n - 506 * i
-used-in n i = least-in (n - 506 * i) (ltb (n - 506 * i) 506) refl
+pub used-in : (n i : ℕ) → usedIn n i ≤ n - blockContent * i
+used-in n i = least-in (n - blockContent * i) (ltb (n - blockContent * i) blockContent) refl
 
 pub slice-part : (from u : ℕ) (s : Bytes) → from ≤ length s → slice from (from + u) s ≡ take u (drop from s)
 slice-part from u s h = ap (drop from) (take-add from u s) ∙ drop-at (take from s) (take u (drop from s)) from (length-take-le from s h)
 
 -- a block's part of the content, and zeros
 module _ (i : ℕ) (s : Bytes) where
-  pub take-used : take (usedIn (length s) i) (drop (506 * i) s) ≡ take 506 (drop (506 * i) s)
-  take-used = ap (λ (n : ℕ). take (least n) (drop (506 * i) s)) (sym (length-drop (506 * i) s)) ∙ take-least (drop (506 * i) s) (ltb (length (drop (506 * i) s)) 506) refl
+  pub take-used : take (usedIn (length s) i) (drop (blockContent * i) s) ≡ take blockContent (drop (blockContent * i) s)
+  take-used = ap (λ (n : ℕ). take (least n) (drop (blockContent * i) s)) (sym (length-drop (blockContent * i) s)) ∙ take-least (drop (blockContent * i) s) (ltb (length (drop (blockContent * i) s)) blockContent) refl
 
-  pub padded-used : padded 506 (drop (506 * i) s) ≡ take (usedIn (length s) i) (drop (506 * i) s) ++ replicate (506 - usedIn (length s) i) 0
+  pub padded-used : padded blockContent (drop (blockContent * i) s) ≡ take (usedIn (length s) i) (drop (blockContent * i) s) ++ replicate (blockContent - usedIn (length s) i) 0
   padded-used =
-      ap (λ (r : Bytes). r ++ replicate (506 - length (drop (506 * i) s)) 0) (sym take-used)
-      ∙ ap (λ (n : ℕ). take (usedIn (length s) i) (drop (506 * i) s) ++ replicate n 0)
-      (ap (λ (n : ℕ). 506 - n) (length-drop (506 * i) s) ∙ sym (least-sub (length s - 506 * i) (ltb (length s - 506 * i) 506) refl))
+      ap (λ (r : Bytes). r ++ replicate (blockContent - length (drop (blockContent * i) s)) 0) (sym take-used)
+      ∙ ap (λ (n : ℕ). take (usedIn (length s) i) (drop (blockContent * i) s) ++ replicate n 0)
+      (ap (λ (n : ℕ). blockContent - n) (length-drop (blockContent * i) s) ∙ sym (least-sub (length s - blockContent * i) (ltb (length s - blockContent * i) blockContent) refl))
 
--- a head of 4 bytes, content and zeros, written to a block of 512
-module _ (head xs b : Bytes) (four : length head ≡ 4) (few : length xs ≤ 506) (room : length b ≡ 512) where
+-- a head of 4 bytes, content and zeros, written to a block
+module _ (head xs b : Bytes) (four : length head ≡ 4) (few : length xs ≤ blockContent) (room : length b ≡ blockBytes) where
   abbrev body : Bytes
-  body = head ++ (xs ++ replicate (506 - length xs) 0)
+  body = head ++ (xs ++ replicate (blockContent - length xs) 0)
 
   pub length-body : length body ≡ 510
   length-body = simp (length-append, length-replicate) (omega arith)
 
-  wrote-all : sets (sets (sets b 0 head) 4 xs) (4 + length xs) (replicate (512 - (4 + length xs)) 0) ≡ body ++ (0 ∷ 0 ∷ [])
+  wrote-all : sets (sets (sets b 0 head) 4 xs) (4 + length xs) (replicate (blockBytes - (4 + length xs)) 0) ≡ body ++ (0 ∷ 0 ∷ [])
   wrote-all =
       let u = length xs in
-      let n : 512 - (4 + u) ≡ 506 - u + 2 = omega arith in
-      let zs : Bytes = replicate (512 - (4 + u)) 0 in
-      let z : zs ≡ replicate (506 - u) 0 ++ (0 ∷ 0 ∷ []) = ap {B = Bytes} (λ (k : ℕ). replicate k 0) n ∙ sym (replicate-append-replicate (506 - u) 2 0) in
+      let n : blockBytes - (4 + u) ≡ blockContent - u + 2 = omega arith in
+      let zs : Bytes = replicate (blockBytes - (4 + u)) 0 in
+      let z : zs ≡ replicate (blockContent - u) 0 ++ (0 ∷ 0 ∷ []) = ap {B = Bytes} (λ (k : ℕ). replicate k 0) n ∙ sym (replicate-append-replicate (blockContent - u) 2 0) in
       let l : length (head ++ (xs ++ zs)) ≡ length b = simp (length-append, length-replicate) (omega arith) in
       sym
       (sets-app head (xs ++ zs) b 0
@@ -79,61 +79,61 @@ module _ (head xs b : Bytes) (four : length head ≡ 4) (few : length xs ≤ 506
       ∙ sets-app xs zs (sets b 0 head) 4)
       ∙ sets-whole b (head ++ (xs ++ zs)) l
       ∙ ap (λ (r : Bytes). head ++ (xs ++ r)) z
-      ∙ ap (λ (r : Bytes). head ++ r) (sym (append-assoc xs (replicate (506 - u) 0) (0 ∷ 0 ∷ [])))
-      ∙ sym (append-assoc head (xs ++ replicate (506 - u) 0) (0 ∷ 0 ∷ []))
+      ∙ ap (λ (r : Bytes). head ++ r) (sym (append-assoc xs (replicate (blockContent - u) 0) (0 ∷ 0 ∷ [])))
+      ∙ sym (append-assoc head (xs ++ replicate (blockContent - u) 0) (0 ∷ 0 ∷ []))
 
-  pub wrote-body : take 510 (sets (sets (sets b 0 head) 4 xs) (4 + length xs) (replicate (512 - (4 + length xs)) 0)) ≡ body
+  pub wrote-body : take 510 (sets (sets (sets b 0 head) 4 xs) (4 + length xs) (replicate (blockBytes - (4 + length xs)) 0)) ≡ body
   wrote-body = ap (take 510) wrote-all ∙ take-at body (0 ∷ 0 ∷ []) 510 length-body
 
 -- the body of a block from what its writes left
-module _ (k : Kind) (i : ℕ) (s b₀ b₁ b₂ b₃ : Bytes) (u past : ℕ) (room : length b₀ ≡ 512) (there : 506 * i ≤ length s) (used : u ≡ usedIn (length s) i)
+module _ (k : Kind) (i : ℕ) (s b₀ b₁ b₂ b₃ : Bytes) (u past : ℕ) (room : length b₀ ≡ blockBytes) (there : blockContent * i ≤ length s) (used : u ≡ usedIn (length s) i)
     (h₁ : b₁ ≡ sets b₀ 0 (kindByte k ∷ i ∷ low-high (length s)))
-    (h₂ : b₂ ≡ sets b₁ 4 (slice (506 * i) (506 * i + u) s))
-    (p₂ : past ≡ 4 + length (slice (506 * i) (506 * i + u) s))
+    (h₂ : b₂ ≡ sets b₁ 4 (slice (blockContent * i) (blockContent * i + u) s))
+    (p₂ : past ≡ 4 + length (slice (blockContent * i) (blockContent * i + u) s))
     (h₃ : b₃ ≡ sets b₂ past (replicate (length b₂ - past) 0)) where
   abbrev part : Bytes
-  part = take (usedIn (length s) i) (drop (506 * i) s)
+  part = take (usedIn (length s) i) (drop (blockContent * i) s)
 
   abbrev head : Bytes
   head = kindByte k ∷ i ∷ low-high (length s)
 
   length-part : length part ≡ usedIn (length s) i
-  length-part = length-take-le (usedIn (length s) i) (drop (506 * i) s) (omega (arith, length-drop (506 * i) s, used-in (length s) i))
+  length-part = length-take-le (usedIn (length s) i) (drop (blockContent * i) s) (omega (arith, length-drop (blockContent * i) s, used-in (length s) i))
 
-  part-is : slice (506 * i) (506 * i + u) s ≡ part
-  part-is = ap (λ (n : ℕ). slice (506 * i) (506 * i + n) s) used ∙ slice-part (506 * i) (usedIn (length s) i) s there
+  part-is : slice (blockContent * i) (blockContent * i + u) s ≡ part
+  part-is = ap (λ (n : ℕ). slice (blockContent * i) (blockContent * i + n) s) used ∙ slice-part (blockContent * i) (usedIn (length s) i) s there
 
   past-is : past ≡ 4 + length part
   past-is = p₂ ∙ ap (λ (r : Bytes). 4 + length r) part-is
 
-  writes : b₃ ≡ sets (sets (sets b₀ 0 head) 4 part) (4 + length part) (replicate (512 - (4 + length part)) 0)
+  writes : b₃ ≡ sets (sets (sets b₀ 0 head) 4 part) (4 + length part) (replicate (blockBytes - (4 + length part)) 0)
   writes =
       let e : b₂ ≡ sets (sets b₀ 0 head) 4 part = h₂ ∙ ap (sets b₁ 4) part-is ∙ ap (λ (b : Bytes). sets b 4 part) h₁ in
-      let l : length b₂ ≡ 512 = ap length e ∙ length-sets (sets b₀ 0 head) 4 part ∙ length-sets b₀ 0 head ∙ room in
+      let l : length b₂ ≡ blockBytes = ap length e ∙ length-sets (sets b₀ 0 head) 4 part ∙ length-sets b₀ 0 head ∙ room in
       h₃
       ∙ ap (λ (p : ℕ). sets b₂ p (replicate (length b₂ - p) 0)) past-is
       ∙ ap (λ (n : ℕ). sets b₂ (4 + length part) (replicate (n - (4 + length part)) 0)) l
-      ∙ ap (λ (b : Bytes). sets b (4 + length part) (replicate (512 - (4 + length part)) 0)) e
+      ∙ ap (λ (b : Bytes). sets b (4 + length part) (replicate (blockBytes - (4 + length part)) 0)) e
 
-  few : length part ≤ 506
+  few : length part ≤ blockContent
   few = omega (arith, length-part, used-le (length s) i)
 
-  body-is : take 510 b₃ ≡ head ++ (part ++ replicate (506 - length part) 0)
+  body-is : take 510 b₃ ≡ head ++ (part ++ replicate (blockContent - length part) 0)
   body-is = ap (take 510) writes ∙ wrote-body head part b₀ refl few room
 
   pub put-body : PutBody k i s b₃ past
   put-body =
       record {
-        body = body-is ∙ ap (λ (n : ℕ). head ++ (part ++ replicate (506 - n) 0)) length-part ∙ ap (λ (r : Bytes). head ++ r) (sym (padded-used i s));
+        body = body-is ∙ ap (λ (n : ℕ). head ++ (part ++ replicate (blockContent - n) 0)) length-part ∙ ap (λ (r : Bytes). head ++ r) (sym (padded-used i s));
         within = omega (arith, past-is, few);
         clean =
-            ap (λ (r : Bytes). allZero (drop past r)) (body-is ∙ sym (append-assoc head part (replicate (506 - length part) 0)))
-            ∙ ap allZero (drop-at (head ++ part) (replicate (506 - length part) 0) past (length-append head part ∙ sym past-is))
-            ∙ are-zeros (506 - length part);
+            ap (λ (r : Bytes). allZero (drop past r)) (body-is ∙ sym (append-assoc head part (replicate (blockContent - length part) 0)))
+            ∙ ap allZero (drop-at (head ++ part) (replicate (blockContent - length part) 0) past (length-append head part ∙ sym past-is))
+            ∙ are-zeros (blockContent - length part);
       }
 
 -- two bytes behind the first 510
-pub put-last : (b : Bytes) (x y : ℕ) → length b ≡ 512 → x ≡ y → set (set b 510 (x % 256)) 511 (x / 256) ≡ take 510 b ++ low-high y
+pub put-last : (b : Bytes) (x y : ℕ) → length b ≡ blockBytes → x ≡ y → set (set b 510 (x % 256)) 511 (x / 256) ≡ take 510 b ++ low-high y
 put-last b x y room e =
     sets-eq (low-high x) b 510 (omega arith)
     ∙ ap (λ (r : Bytes). take 510 b ++ low-high x ++ r) (drop-of-length-le b {i = 510 + 2} (omega arith))
@@ -145,14 +145,14 @@ pub length-padded : (n : ℕ) (t : Bytes) → length (padded n t) ≡ n
 length-padded n t = simp (length-append, length-take, length-replicate) (omega arith)
 
 pub length-blockBody : (k : Kind) (i n : ℕ) (s : Bytes) → length (blockBody k i n s) ≡ 510
-length-blockBody k i n s = let p = length-padded 506 (drop (506 * i) s) in omega arith
+length-blockBody k i n s = let p = length-padded blockContent (drop (blockContent * i) s) in omega arith
 
-pub length-block : (k : Kind) (i : ℕ) (s : Bytes) → length (block k i s) ≡ 512
+pub length-block : (k : Kind) (i : ℕ) (s : Bytes) → length (block k i s) ≡ blockBytes
 length-block k i s =
     length-append (blockBody k i (length s) s) (low-high (check (blockBody k i (length s) s)))
     ∙ ap (λ (n : ℕ). n + 2) (length-blockBody k i (length s) s)
 
-pub length-blocks : (k : Kind) (i n : ℕ) (s : Bytes) → length (blocks k i n s) ≡ 512 * n
+pub length-blocks : (k : Kind) (i n : ℕ) (s : Bytes) → length (blocks k i n s) ≡ blockBytes * n
 unfolding blocks
 length-blocks k i zero s = refl
 length-blocks k i (suc n) s =
@@ -160,36 +160,36 @@ length-blocks k i (suc n) s =
     let f = length-blocks k (suc i) n s in
     length-append (block k i s) (blocks k (suc i) n s) ∙ omega arith
 
-pub length-stored : (k : Kind) (s : Bytes) → length (stored k s) ≡ 512 * blocksFor (length s)
+pub length-stored : (k : Kind) (s : Bytes) → length (stored k s) ≡ blockBytes * blocksFor (length s)
 unfolding stored
 length-stored k s = length-blocks k 0 (blocksFor (length s)) s
 
 -- a block put in the middle of a buffer, with more of them to come
-module _ (k : Kind) (s out ys all : Bytes) (i many at : ℕ) (more : i < many) (room : at + 512 ≤ length out) (new : ys ≡ block k i s) where
+module _ (k : Kind) (s out ys all : Bytes) (i many at : ℕ) (more : i < many) (room : at + blockBytes ≤ length out) (new : ys ≡ block k i s) where
   abbrev middle : Bytes
-  middle = take at out ++ (ys ++ drop (at + 512 - at) (drop at out))
+  middle = take at out ++ (ys ++ drop (at + blockBytes - at) (drop at out))
 
-  length-new : length ys ≡ 512
+  length-new : length ys ≡ blockBytes
   length-new = ap length new ∙ length-block k i s
 
   middle-is : middle ≡ sets out at ys
   middle-is =
-      let e : at + (at + 512 - at) ≡ at + length ys = omega (arith, length-new) in
+      let e : at + (at + blockBytes - at) ≡ at + length ys = omega (arith, length-new) in
       sym
       (sets-eq ys out at (omega (arith, length-new))
       ∙ append-assoc (take at out) ys (drop (at + length ys) out)
       ∙ ap (λ (n : ℕ). take at out ++ (ys ++ drop n out)) (sym e)
-      ∙ ap (λ (r : Bytes). take at out ++ (ys ++ r)) (sym (drop-drop (at + 512 - at) at out)))
+      ∙ ap (λ (r : Bytes). take at out ++ (ys ++ r)) (sym (drop-drop (at + blockBytes - at) at out)))
 
   pub length-middle : length middle ≡ length out
   length-middle = ap length middle-is ∙ length-sets out at ys
 
-  pub more-blocks : sets out at (blocks k i (many - i) s) ≡ all → sets middle (at + 512) (blocks k (i + 1) (many - (i + 1)) s) ≡ all
+  pub more-blocks : sets out at (blocks k i (many - i) s) ≡ all → sets middle (at + blockBytes) (blocks k (i + 1) (many - (i + 1)) s) ≡ all
   unfolding blocks
   more-blocks e =
       let q : many - i ≡ suc (many - (i + 1)) = omega arith in
-      ap (λ (r : Bytes). sets r (at + 512) (blocks k (i + 1) (many - (i + 1)) s)) (middle-is ∙ ap (sets out at) new)
-      ∙ ap (λ (n : ℕ). sets (sets out at (block k i s)) (at + 512) (blocks k n (many - (i + 1)) s)) (add-one i)
+      ap (λ (r : Bytes). sets r (at + blockBytes) (blocks k (i + 1) (many - (i + 1)) s)) (middle-is ∙ ap (sets out at) new)
+      ∙ ap (λ (n : ℕ). sets (sets out at (block k i s)) (at + blockBytes) (blocks k n (many - (i + 1)) s)) (add-one i)
       ∙ ap (λ (n : ℕ). sets (sets out at (block k i s)) (at + n) (blocks k (suc i) (many - (i + 1)) s)) (sym (length-block k i s))
       ∙ sym (sets-app (block k i s) (blocks k (suc i) (many - (i + 1)) s) out at)
       ∙ sym (ap (λ (n : ℕ). sets out at (blocks k i n s)) q)

@@ -10,7 +10,7 @@ use lib.ListN.{length, getD, set, take, drop, length-set, length-drop}
 use lib.Seq.{take-set-lt, take-set-le, drop-set-add, getD-set-same, getD-set-other, getD-take, getD-drop, length-take-le}
 use borrow.Author.Tests.{ltb-true, ltb-false, eqb-true, eqb-false}
 use Rattle.rules.specs.Basic.{Bytes}
-use Rattle.rules.specs.Limits.{Limits}
+use Rattle.rules.specs.Limits.{Limits, blockBytes}
 use Rattle.rules.specs.Refusal.{Outcome, good, refuse}
 use Rattle.rules.specs.declared.Kind.{Kind}
 use Rattle.rules.specs.Stored.{check, blockAt, two-bytes, lengthIn, openBlock, openBlocks, opened, stored, readKind}
@@ -23,7 +23,7 @@ use Rattle.stored.specs.Undone.{opened-stored}
 use Rattle.stored.specs.Tells.{check-tells}
 
 -- a block with its check right, and one byte of it changed
-module _ (b : Bytes) (p v : ℕ) (long : length b ≡ 512) (in-it : p < 512) (old : getD b p 0 < 256) (new : v < 256) (sum : two-bytes b 510 ≡ check (take 510 b))
+module _ (b : Bytes) (p v : ℕ) (long : length b ≡ blockBytes) (in-it : p < blockBytes) (old : getD b p 0 < 256) (new : v < 256) (sum : two-bytes b 510 ≡ check (take 510 b))
     (still : two-bytes (set b p v) 510 ≡ check (take 510 (set b p v))) where
   in-body : p < 510 → v ≡ getD b p 0
   in-body h =
@@ -67,33 +67,33 @@ unfolding openBlock
 alike L k f g i b e l = rw (e, l)
 
 -- byte p of block q
-module _ (L : Limits) (k : Kind) (f : Bytes) (many q p v : ℕ) (octets : Octets f) (whole : length f ≡ 512 * many) (there : q < many) (in-it : p < 512) (new : v < 256)
-    (other : v ≡ getD f (512 * q + p) 0 → ⊥) where
+module _ (L : Limits) (k : Kind) (f : Bytes) (many q p v : ℕ) (octets : Octets f) (whole : length f ≡ blockBytes * many) (there : q < many) (in-it : p < blockBytes) (new : v < 256)
+    (other : v ≡ getD f (blockBytes * q + p) 0 → ⊥) where
   abbrev changed : Bytes
-  changed = set f (512 * q + p) v
+  changed = set f (blockBytes * q + p) v
 
   before : (i : ℕ) → i < q → blockAt changed i ≡ blockAt f i
   before i h =
-      let j : ℕ = 512 * q + p - 512 * i in
-      let e : 512 * q + p ≡ 512 * i + j = omega arith in
-      let far : 512 ≤ j = omega arith in
-      ap (λ (n : ℕ). take 512 (drop (512 * i) (set f n v))) e
-      ∙ ap (take 512) (drop-set-add (512 * i) f j v)
-      ∙ take-set-le 512 (drop (512 * i) f) j v far
+      let j : ℕ = blockBytes * q + p - blockBytes * i in
+      let e : blockBytes * q + p ≡ blockBytes * i + j = omega arith in
+      let far : blockBytes ≤ j = omega arith in
+      ap (λ (n : ℕ). take blockBytes (drop (blockBytes * i) (set f n v))) e
+      ∙ ap (take blockBytes) (drop-set-add (blockBytes * i) f j v)
+      ∙ take-set-le blockBytes (drop (blockBytes * i) f) j v far
 
   here : blockAt changed q ≡ set (blockAt f q) p v
-  here = ap (take 512) (drop-set-add (512 * q) f p v) ∙ take-set-lt 512 (drop (512 * q) f) p v in-it
+  here = ap (take blockBytes) (drop-set-add (blockBytes * q) f p v) ∙ take-set-lt blockBytes (drop (blockBytes * q) f) p v in-it
 
-  length-here : length (blockAt f q) ≡ 512
-  length-here = length-take-le 512 (drop (512 * q) f) (omega (arith, length-drop (512 * q) f))
+  length-here : length (blockAt f q) ≡ blockBytes
+  length-here = length-take-le blockBytes (drop (blockBytes * q) f) (omega (arith, length-drop (blockBytes * q) f))
 
-  byte-here : getD (blockAt f q) p 0 ≡ getD f (512 * q + p) 0
-  byte-here = getD-take 512 (drop (512 * q) f) p 0 in-it ∙ getD-drop (512 * q) f p 0
+  byte-here : getD (blockAt f q) p 0 ≡ getD f (blockBytes * q + p) 0
+  byte-here = getD-take blockBytes (drop (blockBytes * q) f) p 0 in-it ∙ getD-drop (blockBytes * q) f p 0
 
   told : (c : Bytes) → openBlock L k f q (blockAt f q) ≡ good c → openBlock L k changed q (blockAt changed q) ≡ refuse 11 q 1
   told c o =
       let right = block-right L k f q (blockAt f q) c o in
-      let old : getD (blockAt f q) p 0 < 256 = rw byte-here (octets (512 * q + p)) in
+      let old : getD (blockAt f q) p 0 < 256 = rw byte-here (octets (blockBytes * q + p)) in
       ap (openBlock L k changed q) here
       ∙ opens-11 L k changed q (set (blockAt f q) p v)
       (λ e. other (unchanged (blockAt f q) p v length-here in-it old new (right .sum) e ∙ byte-here))
@@ -103,7 +103,7 @@ module _ (L : Limits) (k : Kind) (f : Bytes) (many q p v : ℕ) (octets : Octets
   turn i true e h c first o rest =
       let l = ltb-true i q e in
       let same : openBlock L k changed i (blockAt changed i) ≡ good c =
-      ap (openBlock L k changed i) (before i l) ∙ alike L k f changed i (blockAt f i) (ap lengthIn (before 0 (omega arith))) (length-set f (512 * q + p) v) ∙ first in
+      ap (openBlock L k changed i) (before i l) ∙ alike L k f changed i (blockAt f i) (ap lengthIn (before 0 (omega arith))) (length-set f (blockBytes * q + p) v) ∙ first in
       ap (λ (x : Outcome Bytes). joined x o) same ∙ ap (joined (good c)) (rest l)
   turn i false e h c first o rest =
       let l = ltb-false i q e in
@@ -120,23 +120,23 @@ module _ (L : Limits) (k : Kind) (f : Bytes) (many q p v : ℕ) (octets : Octets
 
 -- one changed byte of a file that loads
 pub changed-refused : (L : Limits) (k : Kind) (f s : Bytes) (j v : ℕ) → Octets f → opened L k f ≡ good s → j < length f → v < 256 → (v ≡ getD f j 0 → ⊥)
-    → opened L k (set f j v) ≡ refuse 11 (j / 512) 1
+    → opened L k (set f j v) ≡ refuse 11 (j / blockBytes) 1
 unfolding opened
 changed-refused L k f s j v octets o h new other =
     let g = opens L k f s o in
     let n = length-set f j v in
     let size = right-size L (length f) (g .size) in
-    let at : 512 * (j / 512) + j % 512 ≡ j = omega arith in
-    let whole : length f ≡ 512 * (length f / 512) = omega (arith, g .size .blocks) in
-    let r : openBlocks L k (set f j v) 0 (length f / 512) ≡ refuse 11 (j / 512) 1 =
-    ap (λ (m : ℕ). openBlocks L k (set f m v) 0 (length f / 512)) (sym at)
-    ∙ from L k f (length f / 512) (j / 512) (j % 512) v octets whole (omega arith) (omega arith) new (λ e. other (e ∙ ap (λ (m : ℕ). getD f m 0) at)) 0 (length f / 512) s
-    (zero-add (length f / 512)) (omega arith) (g .parts) in
+    let at : blockBytes * (j / blockBytes) + j % blockBytes ≡ j = omega arith in
+    let whole : length f ≡ blockBytes * (length f / blockBytes) = omega (arith, g .size .blocks) in
+    let r : openBlocks L k (set f j v) 0 (length f / blockBytes) ≡ refuse 11 (j / blockBytes) 1 =
+    ap (λ (m : ℕ). openBlocks L k (set f m v) 0 (length f / blockBytes)) (sym at)
+    ∙ from L k f (length f / blockBytes) (j / blockBytes) (j % blockBytes) v octets whole (omega arith) (omega arith) new (λ e. other (e ∙ ap (λ (m : ℕ). getD f m 0) at)) 0 (length f / blockBytes) s
+    (zero-add (length f / blockBytes)) (omega arith) (g .parts) in
     rw (n, size, r)
 
 -- so of every stored file
 pub stored-changed : (L : Limits) (k : Kind) (s : Bytes) (j v : ℕ) → L .bytes ≤ 65535 → Octets s → readKind L k 1 s ≡ good tt → j < length (stored k s) → v < 256
-    → (v ≡ getD (stored k s) j 0 → ⊥) → opened L k (set (stored k s) j v) ≡ refuse 11 (j / 512) 1
+    → (v ≡ getD (stored k s) j 0 → ⊥) → opened L k (set (stored k s) j v) ≡ refuse 11 (j / blockBytes) 1
 stored-changed L k s j v few octets read =
     let short = read-short L k 1 s read in
     changed-refused L k (stored k s) s j v (stored-octets k s octets (omega arith)) (opened-stored L k s read)

@@ -7,7 +7,7 @@ use native.Mathlib.Omega.{arith}
 use lib.ListN.{length, take, drop, length-append, length-drop}
 use lib.Seq.{sets-eq, slice, length-slice, take-at, length-take-le}
 use Rattle.rules.specs.Basic.{Bytes}
-use Rattle.rules.specs.Limits.{Limits}
+use Rattle.rules.specs.Limits.{Limits, blockBytes}
 use Rattle.rules.specs.Refusal.{Outcome, good, refused, mapped, _>>=_}
 use Rattle.rules.specs.declared.Refusal.{Refusal}
 use Rattle.rules.specs.declared.Answer.{Answer}
@@ -37,11 +37,11 @@ wrote-take {out} {out′} {xs} {at} {past} w h =
     ∙ ap (take (at + length xs)) (w .holds ∙ sets-eq xs out at h)
     ∙ take-at (take at out ++ xs) (drop (at + length xs) out) (at + length xs) (length-append (take at out) xs ∙ ap (λ (n : ℕ). n + length xs) (length-take-le at out (omega arith)))
 
-pub block-at : (f : Bytes) (i : ℕ) → take (512 * i + 512 - 512 * i) (drop (512 * i) f) ≡ blockAt f i
-block-at f i = let q : 512 * i + 512 - 512 * i ≡ 512 = omega arith in ap (λ (n : ℕ). take n (drop (512 * i) f)) q
+pub block-at : (f : Bytes) (i : ℕ) → take (blockBytes * i + blockBytes - blockBytes * i) (drop (blockBytes * i) f) ≡ blockAt f i
+block-at f i = let q : blockBytes * i + blockBytes - blockBytes * i ≡ blockBytes = omega arith in ap (λ (n : ℕ). take n (drop (blockBytes * i) f)) q
 
-pub length-block-at : (f : Bytes) (i : ℕ) → 512 * i + 512 ≤ length f → length (take (512 * i + 512 - 512 * i) (drop (512 * i) f)) ≡ 512
-length-block-at f i h = length-take-le (512 * i + 512 - 512 * i) (drop (512 * i) f) (omega (arith, length-drop (512 * i) f)) ∙ omega arith
+pub length-block-at : (f : Bytes) (i : ℕ) → blockBytes * i + blockBytes ≤ length f → length (take (blockBytes * i + blockBytes - blockBytes * i) (drop (blockBytes * i) f)) ≡ blockBytes
+length-block-at f i h = length-take-le (blockBytes * i + blockBytes - blockBytes * i) (drop (blockBytes * i) f) (omega (arith, length-drop (blockBytes * i) f)) ∙ omega arith
 
 -- the part of a block that is copied
 pub copied : (b : Bytes) (u : ℕ) → 4 + u ≤ length b → (slice 4 (4 + u) b ≡ take u (drop 4 b)) × (length (slice 4 (4 + u) b) ≡ u)

@@ -15,7 +15,7 @@ use Rattle.stored.specs.Weights.{and-left, and-right}
 
 -- the length in block 0
 pub first-length : (f : Bytes) → lengthIn (blockAt f 0) ≡ two-bytes f 2
-first-length f = rw (getD-take 512 f 2 0 (omega arith), getD-take 512 f 3 0 (omega arith))
+first-length f = rw (getD-take blockBytes f 2 0 (omega arith), getD-take blockBytes f 3 0 (omega arith))
 
 pub or-left : (a b : Bool) → (a || b) ≡ false → a ≡ false
 or-left true b e = e

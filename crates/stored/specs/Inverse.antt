@@ -9,7 +9,7 @@ use lib.ListN.{length, take, drop, length-drop}
 use lib.Seq.{length-take-le}
 use borrow.Author.Tests.{eqb-true, not-false}
 use Rattle.rules.specs.Basic.{Bytes, if_then_else_}
-use Rattle.rules.specs.Limits.{Limits}
+use Rattle.rules.specs.Limits.{Limits, blockBytes}
 use Rattle.rules.specs.Refusal.{Outcome, good, refused, _>>=_}
 use Rattle.rules.specs.declared.Refusal.{Refusal}
 use Rattle.rules.specs.declared.Kind.{Kind}
@@ -44,7 +44,7 @@ block-right L k f i b c e =
       content = p .3;
     }
 
-pub length-content : (i : ℕ) (b : Bytes) → length b ≡ 512 → length (contentIn i b) ≡ usedIn (lengthIn b) i
+pub length-content : (i : ℕ) (b : Bytes) → length b ≡ blockBytes → length (contentIn i b) ≡ usedIn (lengthIn b) i
 length-content i b h = length-take-le (usedIn (lengthIn b) i) (drop 4 b) (omega (arith, length-drop 4 b, used-le (lengthIn b) i))
 
 -- the first of the opened blocks, and the others
@@ -71,7 +71,7 @@ blocks-none L k f i t e = cc
 -- what a file that loads went through
 pub record Opens (L : Limits) (k : Kind) (f s : Bytes) : Type 0 where
   pub size : SizeRight L (length f)
-  pub parts : openBlocks L k f 0 (length f / 512) ≡ good s
+  pub parts : openBlocks L k f 0 (length f / blockBytes) ≡ good s
   pub read : readKind L k 1 s ≡ good tt
 
 accepts : (c s : Bytes) (x : Outcome (Unit {0})) → _>>=_ x (λ _. good c) ≡ good s → (x ≡ good tt) × (c ≡ s)
@@ -87,5 +87,5 @@ goes false r (good c) rd s e = let a = accepts c s (rd c) e in (refl, ap good (a
 pub opens : (L : Limits) (k : Kind) (f s : Bytes) → opened L k f ≡ good s → Opens L k f s
 unfolding opened
 opens L k f s e =
-    let g = goes (sizeWrong L (length f)) _ (openBlocks L k f 0 (length f / 512)) (readKind L k 1) s e in
+    let g = goes (sizeWrong L (length f)) _ (openBlocks L k f 0 (length f / blockBytes)) (readKind L k 1) s e in
     record { size = size-right L (length f) (g .0); parts = g .1; read = g .2 }

@@ -9,7 +9,7 @@ use lib.ListN.{length, getD, take, drop, replicate, List·getD-append}
 use lib.Seq.{getD-append-add, getD-drop}
 use borrow.Author.Tests.{ltb-true, ltb-false}
 use Rattle.rules.specs.Basic.{Bytes, low-high}
-use Rattle.rules.specs.Limits.{blocksFor}
+use Rattle.rules.specs.Limits.{blockContent, blocksFor}
 use Rattle.rules.specs.declared.Kind.{Kind}
 use Rattle.rules.specs.declared.Kind.the-variants.{Term, Proof}
 use Rattle.rules.specs.Stored.{kindByte, check, padded, blockBody, block, blocks, stored}
@@ -53,10 +53,10 @@ kind Proof = omega arith
 
 body-octets : (k : Kind) (i n : ℕ) (s : Bytes) → i < 256 → n ≤ 65535 → Octets s → Octets (blockBody k i n s)
 body-octets k i n s h l o =
-    let t = drop (506 * i) s in
-    cons (kindByte k) (i ∷ (low-high n ++ padded 506 t)) (kind k)
-    (cons i (low-high n ++ padded 506 t) h
-    (append (low-high n) (padded 506 t) (two n l) (append (take 506 t) (replicate (506 - length t) 0) (first 506 t (rest (506 * i) s o)) (zeros (506 - length t)))))
+    let t = drop (blockContent * i) s in
+    cons (kindByte k) (i ∷ (low-high n ++ padded blockContent t)) (kind k)
+    (cons i (low-high n ++ padded blockContent t) h
+    (append (low-high n) (padded blockContent t) (two n l) (append (take blockContent t) (replicate (blockContent - length t) 0) (first blockContent t (rest (blockContent * i) s o)) (zeros (blockContent - length t)))))
 
 block-octets : (k : Kind) (i : ℕ) (s : Bytes) → i < 256 → length s ≤ 65535 → Octets s → Octets (block k i s)
 block-octets k i s h l o =

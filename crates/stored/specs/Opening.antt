@@ -7,19 +7,23 @@ use lib.Dec.{ltb, eqb}
 use lib.ListN.{length, take, drop}
 use borrow.Author.Tests.{eq-eqb, ne-eqb, ltb-true}
 use Rattle.rules.specs.Basic.{Bytes, if_then_else_}
-use Rattle.rules.specs.Limits.{Limits}
+use Rattle.rules.specs.Limits.{Limits, blockBytes, blockContent, storedRoom}
 use Rattle.rules.specs.Refusal.{Outcome, good, refused, refuse}
 use Rattle.rules.specs.declared.Answer.{Answer}
 use Rattle.rules.specs.declared.Answer.the-variants.{Good, Refused}
 use Rattle.rules.specs.declared.Kind.{Kind}
 use Rattle.rules.specs.Stored.{check, two-bytes, lengthIn, usedIn, allZero, checkWrong, headWrong, restWrong, openBlock, openBlocks}
 
-least-le : (x : ℕ) (t : Bool) → ltb x 506 ≡ t → (if t then x else 506) ≤ 506
-least-le x true e = omega (arith, ltb-true x 506 e)
+least-le : (x : ℕ) (t : Bool) → ltb x blockContent ≡ t → (if t then x else blockContent) ≤ blockContent
+least-le x true e = omega (arith, ltb-true x blockContent e)
 least-le x false e = omega arith
 
-pub used-le : (n i : ℕ) → usedIn n i ≤ 506
-used-le n i = least-le (n - 506 * i) (ltb (n - 506 * i) 506) refl
+pub used-le : (n i : ℕ) → usedIn n i ≤ blockContent
+used-le n i = least-le (n - blockContent * i) (ltb (n - blockContent * i) blockContent) refl
+
+-- the content of as many blocks as a stored file may have
+abbrev pub gatherRoom : Limits → ℕ
+gatherRoom L = storedRoom L / blockBytes * blockContent
 
 -- the content of a block
 abbrev pub contentIn : (number : ℕ) → Bytes → Bytes
@@ -44,11 +48,11 @@ firstFault false false false = 0
 -- what opening a block answers
 pub record OpenedBlock (L : Limits) (k : Kind) (f : Bytes) (i : ℕ) (b : Bytes) (r : Answer) : Type 0 where
   pub outcome : openBlock L k f i b ≡ taken r (drop 4 b)
-  pub few : amount r ≤ 506
+  pub few : amount r ≤ blockContent
 
 -- what opening all blocks answers, with their content in a buffer
 pub record OpenedBlocks (L : Limits) (k : Kind) (f content : Bytes) (r : Answer) : Type 0 where
-  pub outcome : openBlocks L k f 0 (length f / 512) ≡ taken r content
+  pub outcome : openBlocks L k f 0 (length f / blockBytes) ≡ taken r content
   pub within : amount r ≤ length content
 
 faults : (t₁ t₂ t₃ : Bool) (i : ℕ) (s : Bytes)

@@ -8,7 +8,7 @@ use lib.Dec.{ltb, eqb}
 use lib.ListN.{length}
 use borrow.Author.Tests.{le-leb, lt-leb, le-ltb, eq-eqb, ne-eqb, ltb-false, eqb-true, eqb-false, not-false}
 use Rattle.rules.specs.Basic.{Bytes, if_then_else_, _==_, _<?_}
-use Rattle.rules.specs.Limits.{Limits, outputRoom, storedRoom, blockBytes}
+use Rattle.rules.specs.Limits.{Limits, blockBytes, outputRoom, storedRoom}
 use Rattle.rules.specs.Refusal.{Outcome, good, refused, mapped, answered}
 use Rattle.rules.specs.declared.Refusal.{Refusal}
 use Rattle.rules.specs.declared.Answer.{Answer}
@@ -70,11 +70,11 @@ module _ (L : Limits) (k : Kind) (f o : Bytes) where
     load-size h = load-open ∙ rw h
 
     module _ (size : sizeWrong L (length f) ≡ false) where
-      pub load-blocks : (r : Refusal) → openBlocks L k f 0 (length f / 512) ≡ refused r → loadCall L k f o ≡ left o r
+      pub load-blocks : (r : Refusal) → openBlocks L k f 0 (length f / blockBytes) ≡ refused r → loadCall L k f o ≡ left o r
       unfolding opened
       load-blocks r e = load-open ∙ rw (size, e)
 
-      module _ (s : Bytes) (got : openBlocks L k f 0 (length f / 512) ≡ good s) where
+      module _ (s : Bytes) (got : openBlocks L k f 0 (length f / blockBytes) ≡ good s) where
         pub load-content : (r : Refusal) → readKind L k 1 s ≡ refused r → loadCall L k f o ≡ left o r
         unfolding opened
         load-content r e = load-open ∙ rw (size, got, e)
@@ -90,22 +90,22 @@ pos (suc n) h = omega arith
 
 pub record SizeRight (L : Limits) (n : ℕ) : Type 0 where
   pub some : 0 < n
-  pub blocks : n % 512 ≡ 0
+  pub blocks : n % blockBytes ≡ 0
   pub most : n ≤ storedRoom L
 
 pub size-right : (L : Limits) (n : ℕ) → sizeWrong L n ≡ false → SizeRight L n
 size-right L n e =
-    let t : Bool = not (n % 512 == 0) in
+    let t : Bool = not (n % blockBytes == 0) in
     let u : Bool = storedRoom L <? n in
     let r = or-right (eqb n 0) (t || u) e in
     record {
       some = pos n (eqb-false n 0 (or-left (eqb n 0) (t || u) e));
-      blocks = eqb-true (n % 512) 0 (not-false (n % 512 == 0) (or-left t u r));
+      blocks = eqb-true (n % blockBytes) 0 (not-false (n % blockBytes == 0) (or-left t u r));
       most = ltb-false (storedRoom L) n (or-right t u r);
     }
 
 pub right-size : (L : Limits) (n : ℕ) → SizeRight L n → sizeWrong L n ≡ false
-right-size L n r = rw (ne-eqb n 0 (λ e. omega (arith, r .some)), eq-eqb (n % 512) 0 (r .blocks), le-ltb (storedRoom L) n (r .most))
+right-size L n r = rw (ne-eqb n 0 (λ e. omega (arith, r .some)), eq-eqb (n % blockBytes) 0 (r .blocks), le-ltb (storedRoom L) n (r .most))
 
 -- the two equations of a call from one
 pub ends : {call w : Wrote ℕ} {r : Answer} {o : Bytes} → call ≡ w → r ≡ answered (w .answer) → o ≡ w .output → (r ≡ answered (call .answer)) × (o ≡ call .output)

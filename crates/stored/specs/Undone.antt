@@ -9,7 +9,7 @@ use lib.ListN.{length, getD, take, drop, replicate, length-append, length-drop, 
 use lib.Seq.{take-append-seam, take-at, drop-at, getD-append-add, drop-append-add, drop-drop, length-take-le}
 use lib.Dec.{ltb}
 use Rattle.rules.specs.Basic.{Bytes, if_then_else_, low-high}
-use Rattle.rules.specs.Limits.{Limits, blocksFor, outputRoom, storedRoom}
+use Rattle.rules.specs.Limits.{Limits, blockBytes, blockContent, blocksFor, outputRoom, storedRoom}
 use Rattle.rules.specs.Refusal.{Outcome, good, refused, mapped}
 use Rattle.rules.specs.Term.{terms}
 use Rattle.rules.specs.Reading.{Got, bad, Met, byte, tag, tooMany, node, proofAt, ended, whole, readTerm, readProof}
@@ -30,13 +30,13 @@ use Rattle.stored.specs.Gathering.{joined, openBlocks-suc}
 pub blocks-at : (k : Kind) (i n j : ℕ) (s : Bytes) → j < n → blockAt (blocks k i n s) j ≡ block k (i + j) s
 unfolding blocks
 blocks-at k i zero j s h = absurd (omega arith)
-blocks-at k i (suc n) zero s h = take-at (block k i s) (blocks k (suc i) n s) 512 (length-block k i s) ∙ ap (λ (m : ℕ). block k m s) (sym (add-zero i))
+blocks-at k i (suc n) zero s h = take-at (block k i s) (blocks k (suc i) n s) blockBytes (length-block k i s) ∙ ap (λ (m : ℕ). block k m s) (sym (add-zero i))
 blocks-at k i (suc n) (suc j) s h =
     let l = length-block k i s in
-    let e : 512 * suc j ≡ length (block k i s) + 512 * j = omega arith in
+    let e : blockBytes * suc j ≡ length (block k i s) + blockBytes * j = omega arith in
     let m : suc i + j ≡ i + suc j = omega arith in
-    ap (λ (a : ℕ). take 512 (drop a (block k i s ++ blocks k (suc i) n s))) e
-    ∙ ap (take 512) (drop-append-add (block k i s) (blocks k (suc i) n s) (512 * j))
+    ap (λ (a : ℕ). take blockBytes (drop a (block k i s ++ blocks k (suc i) n s))) e
+    ∙ ap (take blockBytes) (drop-append-add (block k i s) (blocks k (suc i) n s) (blockBytes * j))
     ∙ blocks-at k (suc i) n j s (omega arith)
     ∙ ap (λ (a : ℕ). block k a s) m
 
@@ -61,29 +61,29 @@ module _ (k : Kind) (i : ℕ) (s : Bytes) where
   block-length = omega arith
 
   abbrev part : Bytes
-  part = take (usedIn (length s) i) (drop (506 * i) s)
+  part = take (usedIn (length s) i) (drop (blockContent * i) s)
 
   length-part : length part ≡ usedIn (length s) i
-  length-part = length-take-le (usedIn (length s) i) (drop (506 * i) s) (omega (arith, length-drop (506 * i) s, used-in (length s) i))
+  length-part = length-take-le (usedIn (length s) i) (drop (blockContent * i) s) (omega (arith, length-drop (blockContent * i) s, used-in (length s) i))
 
   abbrev head : Bytes
   head = kindByte k ∷ i ∷ low-high (length s)
 
-  body-is : body ≡ (head ++ part) ++ replicate (506 - usedIn (length s) i) 0
-  body-is = ap (λ (r : Bytes). head ++ r) (padded-used i s) ∙ sym (append-assoc head part (replicate (506 - usedIn (length s) i) 0))
+  body-is : body ≡ (head ++ part) ++ replicate (blockContent - usedIn (length s) i) 0
+  body-is = ap (λ (r : Bytes). head ++ r) (padded-used i s) ∙ sym (append-assoc head part (replicate (blockContent - usedIn (length s) i) 0))
 
   pub block-clean : allZero (drop (4 + usedIn (lengthIn (block k i s)) i) (take 510 (block k i s))) ≡ true
   block-clean =
       let u = usedIn (length s) i in
       ap (λ (n : ℕ). allZero (drop (4 + usedIn n i) (take 510 (block k i s)))) block-length
       ∙ ap (λ (r : Bytes). allZero (drop (4 + u) r)) (block-body ∙ body-is)
-      ∙ ap allZero (drop-at (head ++ part) (replicate (506 - u) 0) (4 + u) (length-append head part ∙ ap (λ (n : ℕ). 4 + n) length-part))
-      ∙ are-zeros (506 - u)
+      ∙ ap allZero (drop-at (head ++ part) (replicate (blockContent - u) 0) (4 + u) (length-append head part ∙ ap (λ (n : ℕ). 4 + n) length-part))
+      ∙ are-zeros (blockContent - u)
 
   pub block-content : contentIn i (block k i s) ≡ part
   block-content =
       let u = usedIn (length s) i in
-      let zs : Bytes = replicate (506 - u) 0 in
+      let zs : Bytes = replicate (blockContent - u) 0 in
       let rest : Bytes = low-high (check body) in
       ap (λ (n : ℕ). take (usedIn n i) (drop 4 (block k i s))) block-length
       ∙ ap (λ (r : Bytes). take u (r ++ rest)) (padded-used i s)
@@ -123,23 +123,23 @@ module _ (L : Limits) (k : Kind) (s : Bytes) (least : 1 ≤ length s) (most : le
       ∙ ap good (block-content k i s)
 
   -- the parts from a block on
-  parts-from : (i n : ℕ) → i + n ≡ many → openBlocks L k file i n ≡ good (drop (506 * i) s)
+  parts-from : (i n : ℕ) → i + n ≡ many → openBlocks L k file i n ≡ good (drop (blockContent * i) s)
   unfolding openBlocks
-  parts-from i zero e = ap good (sym (drop-of-length-le s {i = 506 * i} (omega arith)))
+  parts-from i zero e = ap good (sym (drop-of-length-le s {i = blockContent * i} (omega arith)))
   parts-from i (suc n) e =
-      let d : 506 * i + 506 ≡ 506 * suc i = omega arith in
+      let d : blockContent * i + blockContent ≡ blockContent * suc i = omega arith in
       openBlocks-suc L k file i n
       ∙ ap (λ (o : Outcome Bytes). joined o (openBlocks L k file (suc i) n)) (stored-opens i (omega arith))
       ∙ ap (joined (good (part k i s))) (parts-from (suc i) n (omega arith))
-      ∙ ap (λ (r : Bytes). good (r ++ drop (506 * suc i) s)) (take-used i s)
-      ∙ ap (λ (m : ℕ). good (take 506 (drop (506 * i) s) ++ drop m s)) (sym d)
-      ∙ ap (λ (r : Bytes). good (take 506 (drop (506 * i) s) ++ r)) (sym (drop-drop 506 (506 * i) s))
-      ∙ ap good (take-append-drop 506 (drop (506 * i) s))
+      ∙ ap (λ (r : Bytes). good (r ++ drop (blockContent * suc i) s)) (take-used i s)
+      ∙ ap (λ (m : ℕ). good (take blockContent (drop (blockContent * i) s) ++ drop m s)) (sym d)
+      ∙ ap (λ (r : Bytes). good (take blockContent (drop (blockContent * i) s) ++ r)) (sym (drop-drop blockContent (blockContent * i) s))
+      ∙ ap good (take-append-drop blockContent (drop (blockContent * i) s))
 
-  pub stored-blocks : openBlocks L k file 0 (length file / 512) ≡ good s
+  pub stored-blocks : openBlocks L k file 0 (length file / blockBytes) ≡ good s
   stored-blocks =
       let l = length-stored k s in
-      let e : length file / 512 ≡ many = omega arith in
+      let e : length file / blockBytes ≡ many = omega arith in
       ap (openBlocks L k file 0) e ∙ parts-from 0 many (zero-add many)
 
 -- nothing reads as a term or a proof

@@ -1,36 +1,26 @@
-// One block of a file: kind, number, content length, 506 content bytes, check. Its parts, and whether it opens.
+// One block of a file: kind, number, content length, content, check. Its parts, and whether it opens.
+use crate::check::CHECK_AT;
 use crate::check::check_of;
 use crate::check::zero_from;
 use rules::Answer;
+use rules::BLOCK_BYTES;
+use rules::BLOCK_CONTENT;
 use rules::Kind;
 use rules::MOST_BYTES;
 use rules::Refusal;
 ghost use mathlib.Core.Path.{_≡_};
 ghost use Prim.Native.Nat.{_+_, _≤_, _<_};
 ghost use lib.ListN.{length};
-ghost use Rattle.rules.specs.Limits.{limits, blocksFor};
-ghost use Rattle.rules.specs.Stored.{kindByte, two-bytes, usedIn, headWrong};
+ghost use Rattle.rules.specs.Limits.{limits, blockBytes, blocksFor};
+ghost use Rattle.rules.specs.Stored.{two-bytes, usedIn, headWrong};
 ghost use Rattle.stored.specs.Opening.{OpenedBlock, firstFault};
-
-pub const BLOCK_BYTES: usize = 512;
-
-pub const BLOCK_CONTENT: usize = 506;
-
-pub fn kind_byte(kind: Kind) -> u8
-    ensures { λ r. ⌜ r ≡ kindByte kind ⌝ }
-{
-    match kind {
-        Kind::Term => 1,
-        Kind::Proof => 2,
-    }
-}
 
 // How many blocks hold so much content.
 pub fn blocks_for(size: usize) -> usize
     requires { ⌜ size ≤ 65535 ⌝ }
     ensures { λ r. ⌜ r ≡ blocksFor size ⌝ }
 {
-    (size + 505) / BLOCK_CONTENT
+    (size + BLOCK_CONTENT - 1) / BLOCK_CONTENT
 }
 
 // How much of a block is content, of so many bytes in all.
@@ -63,7 +53,7 @@ pub fn head_wrong(kind: Kind, file: &[u8], number: usize, block: &[u8]) -> bool
     requires { ⌜ (4 ≤ length (now file)) × (4 ≤ length (now block)) ⌝ }
     ensures { λ r. ⌜ r ≡ headWrong limits kind (now (file .entry)) number (now (block .entry)) ⌝ }
 {
-    if block[0] != kind_byte(kind) {
+    if block[0] != kind.byte() {
         return true;
     }
     if block[1] as usize != number {
@@ -100,13 +90,13 @@ fn first_fault(sum: bool, head: bool, rest: bool) -> u8
 
 // Opens a block of a file: 11, 12, 13 in that order, or how much of it is content.
 pub fn open_block(kind: Kind, file: &[u8], number: usize, block: &[u8]) -> Answer
-    requires { ⌜ (number < 256) × (4 ≤ length (now file)) × (length (now block) ≡ 512) ⌝ }
+    requires { ⌜ (number < 256) × (4 ≤ length (now file)) × (length (now block) ≡ blockBytes) ⌝ }
     ensures { λ r. ⌜ OpenedBlock limits kind (now (file .entry)) number (now (block .entry)) r ⌝ }
 {
     let used = used_in(two_bytes(block, 2), number);
     let end = 4 + used;
-    let clean = zero_from(&block[..510], end);
-    let sum = two_bytes(block, 510) != check_of(block, end, clean);
+    let clean = zero_from(&block[..CHECK_AT], end);
+    let sum = two_bytes(block, CHECK_AT) != check_of(block, end, clean);
     let head = head_wrong(kind, file, number, block);
     let fault = first_fault(sum, head, !clean);
     if fault != 0 {

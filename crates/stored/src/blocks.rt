@@ -1,21 +1,21 @@
 // All blocks of a file, one after the other: written, and opened.
-use crate::block::BLOCK_BYTES;
 use crate::block::blocks_for;
 use crate::block::open_block;
 use crate::writing::put_block;
 use buffer::run::copy;
 use rules::Answer;
+use rules::BLOCK_BYTES;
 use rules::Kind;
 ghost use Prim.Native.Nat.{_+_, _*_, _/_, _≤_, _<_};
 ghost use lib.ListN.{length};
-ghost use Rattle.rules.specs.Limits.{limits};
+ghost use Rattle.rules.specs.Limits.{limits, storedRoom};
 ghost use Rattle.rules.specs.Stored.{stored};
 ghost use Rattle.buffer.specs.Wrote.{Wrote};
-ghost use Rattle.stored.specs.Opening.{OpenedBlocks};
+ghost use Rattle.stored.specs.Opening.{gatherRoom, OpenedBlocks};
 
 // Writes the stored form of content, and returns the place after it.
 pub fn put_blocks(kind: Kind, content: &[u8], out: &mut [u8]) -> usize
-    requires { ⌜ (length (now content) ≤ 4096) × (4608 ≤ length (now out)) ⌝ }
+    requires { ⌜ (length (now content) ≤ limits .bytes) × (storedRoom limits ≤ length (now out)) ⌝ }
     ensures { λ r. ⌜ Wrote (now (out .entry)) 0 (stored kind (now (content .entry))) (now (out .exit)) r ⌝ }
 {
     let many = blocks_for(content.len());
@@ -32,7 +32,7 @@ pub fn put_blocks(kind: Kind, content: &[u8], out: &mut [u8]) -> usize
 
 // Opens the blocks of a file, and puts their content together.
 pub fn open_blocks(kind: Kind, file: &[u8], content: &mut [u8]) -> Answer
-    requires { ⌜ (4 ≤ length (now file)) × (length (now file) ≤ 4608) × (4554 ≤ length (now content)) ⌝ }
+    requires { ⌜ (4 ≤ length (now file)) × (length (now file) ≤ storedRoom limits) × (gatherRoom limits ≤ length (now content)) ⌝ }
     ensures { λ r. ⌜ OpenedBlocks limits kind (now (file .entry)) (now (content .exit)) r ⌝ }
 {
     let many = file.len() / BLOCK_BYTES;

@@ -1,8 +1,13 @@
 // What is computed over the bytes of a block: its weighed sum, its check, and whether bytes are zero.
+use rules::BLOCK_BYTES;
 ghost use mathlib.Core.Path.{_≡_};
 ghost use Prim.Native.Nat.{_≤_};
 ghost use lib.ListN.{length, take, drop};
+ghost use Rattle.rules.specs.Limits.{blockBytes};
 ghost use Rattle.rules.specs.Stored.{weighed, check, allZero};
+
+// The check is the last two bytes of a block, and is of all bytes before them.
+pub const CHECK_AT: usize = BLOCK_BYTES - 2;
 
 const CHECK_MODULUS: usize = 65521;
 
@@ -37,11 +42,11 @@ pub fn zero_from(body: &[u8], from: usize) -> bool
 
 // The check of a block's first 510 bytes, of which `clean` says whether they are zero from `end` on.
 pub fn check_of(block: &[u8], end: usize, clean: bool) -> usize
-    requires { ⌜ (end ≤ 510) × (length (now block) ≡ 512) × (clean ≡ allZero (drop end (take 510 (now block)))) ⌝ }
+    requires { ⌜ (end ≤ 510) × (length (now block) ≡ blockBytes) × (clean ≡ allZero (drop end (take 510 (now block)))) ⌝ }
     ensures { λ r. ⌜ r ≡ check (take 510 (now (block .entry))) ⌝ }
 {
     if clean {
         return weigh(&block[..end]) as usize % CHECK_MODULUS;
     }
-    weigh(&block[..510]) as usize % CHECK_MODULUS
+    weigh(&block[..CHECK_AT]) as usize % CHECK_MODULUS
 }

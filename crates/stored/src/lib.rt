@@ -1,4 +1,4 @@
-// The stored form: a term or a proof as blocks of 512 bytes, each with its check.
+// The stored form: a term or a proof as blocks, each with its check.
 use block::refused;
 use blocks::open_blocks;
 use blocks::put_blocks;
@@ -7,6 +7,8 @@ use buffer::run::copy;
 use proof::proof_input;
 use reader::term_input;
 use rules::Answer;
+use rules::BLOCK_BYTES;
+use rules::BLOCK_CONTENT;
 use rules::Kind;
 use rules::OUTPUT_ROOM;
 use rules::Refusal;
@@ -14,7 +16,7 @@ use rules::STORED_ROOM;
 ghost use mathlib.Core.Path.{_≡_};
 ghost use Prim.Native.Nat.{_≤_};
 ghost use lib.ListN.{length, take};
-ghost use Rattle.rules.specs.Limits.{limits};
+ghost use Rattle.rules.specs.Limits.{limits, storedRoom};
 ghost use Rattle.rules.specs.Refusal.{answered};
 ghost use Rattle.rules.specs.Stored.{stored, readKind};
 ghost use Rattle.rules.specs.Calls.{storeCall, loadCall};
@@ -26,14 +28,17 @@ mod blocks;
 pub mod check;
 mod writing;
 
-// Refusal 10: stored length 0, no multiple of 512, or over 4,608.
+// The content of as many blocks as a stored file may have.
+const GATHER_ROOM: usize = STORED_ROOM / BLOCK_BYTES * BLOCK_CONTENT;
+
+// Refusal 10: a stored length of 0, of no whole blocks, or over the limit.
 fn size_wrong(size: usize) -> bool
     ensures { λ r. ⌜ r ≡ sizeWrong limits size ⌝ }
 {
     if size == 0 {
         return true;
     }
-    if size % 512 != 0 {
+    if size % BLOCK_BYTES != 0 {
         return true;
     }
     STORED_ROOM < size
@@ -41,7 +46,7 @@ fn size_wrong(size: usize) -> bool
 
 // The stored form of content, then zeros.
 fn put_stored(kind: Kind, content: &[u8], out: &mut [u8]) -> Answer
-    requires { ⌜ (length (now content) ≤ 4096) × (4608 ≤ length (now out)) ⌝ }
+    requires { ⌜ (length (now content) ≤ limits .bytes) × (storedRoom limits ≤ length (now out)) ⌝ }
     ensures { λ r. ⌜ Filled (now (out .entry)) (stored kind (now (content .entry))) (now (out .exit)) r ⌝ }
 {
     let size = put_blocks(kind, content, out);
@@ -49,25 +54,14 @@ fn put_stored(kind: Kind, content: &[u8], out: &mut [u8]) -> Answer
     Answer::Good(size)
 }
 
-// The first bytes of a buffer, then zeros.
-fn put_first(s: &[u8], size: usize, out: &mut [u8]) -> Answer
+// The content that was gathered, then zeros.
+fn put_content(s: &[u8], size: usize, out: &mut [u8]) -> Answer
     requires { ⌜ (size ≤ length (now s)) × (size ≤ length (now out)) ⌝ }
     ensures { λ r. ⌜ Filled (now (out .entry)) (take size (now (s .entry))) (now (out .exit)) r ⌝ }
 {
     let past = copy(s, 0, size, out, 0);
     clear(out, past);
     Answer::Good(past)
-}
-
-// Refusal 1 is about no input.
-fn short_buffer() -> Answer
-    ensures { λ r. ⌜ r ≡ Answer.Refused (record { number = 1; place = 0; input = 0 }) ⌝ }
-{
-    Answer::Refused(Refusal {
-        number: 1,
-        place: 0,
-        input: 0,
-    })
 }
 
 // What content must read as, by its kind.
@@ -86,7 +80,7 @@ pub fn store(kind: Kind, content: &[u8], out: &mut [u8]) -> Answer
     ensures { λ _. ⌜ now (out .exit) ≡ storeCall limits kind (now (content .entry)) (now (out .entry)) .output ⌝ }
 {
     if out.len() < STORED_ROOM {
-        return short_buffer();
+        return Answer::Refused(Refusal::of_no_input(1));
     }
     match content_input(kind, content) {
         Answer::Refused(r) => Answer::Refused(r),
@@ -100,18 +94,17 @@ pub fn load(kind: Kind, file: &[u8], out: &mut [u8]) -> Answer
     ensures { λ _. ⌜ now (out .exit) ≡ loadCall limits kind (now (file .entry)) (now (out .entry)) .output ⌝ }
 {
     if out.len() < OUTPUT_ROOM {
-        return short_buffer();
+        return Answer::Refused(Refusal::of_no_input(1));
     }
     if size_wrong(file.len()) {
         return refused(10, 0);
     }
-    // 9 blocks of 506
-    let mut content = [0u8; 4554];
+    let mut content = [0u8; GATHER_ROOM];
     match open_blocks(kind, file, &mut content) {
         Answer::Refused(r) => Answer::Refused(r),
         Answer::Good(size) => match content_input(kind, &content[..size]) {
             Answer::Refused(r) => Answer::Refused(r),
-            Answer::Good(_) => put_first(&content, size, out),
+            Answer::Good(_) => put_content(&content, size, out),
         },
     }
 }

@@ -1,10 +1,10 @@
 // One block, written: its head, its content and zeros, then the check of these.
-use crate::block::BLOCK_CONTENT;
-use crate::block::kind_byte;
 use crate::block::used_in;
+use crate::check::CHECK_AT;
 use crate::check::check_of;
 use buffer::run::clear;
 use buffer::run::copy;
+use rules::BLOCK_CONTENT;
 use rules::Kind;
 ghost use mathlib.Core.Path.{_≡_};
 ghost use Prim.Native.Nat.{_≤_, _<_};
@@ -13,6 +13,7 @@ ghost use mathlib.Core.List.{_∷_, _++_};
 ghost use lib.ListN.{length, take, drop};
 ghost use lib.Seq.{sets};
 ghost use Rattle.rules.specs.Basic.{low-high};
+ghost use Rattle.rules.specs.Limits.{blockBytes};
 ghost use Rattle.rules.specs.Stored.{kindByte, check, block as blockOf, allZero};
 ghost use Rattle.stored.specs.Writing.{Storable, PutBody};
 
@@ -21,13 +22,13 @@ fn put_head(kind: Kind, number: usize, size: usize, block: &mut [u8])
     requires { ⌜ (number < 256) × (size ≤ 65535) × (4 ≤ length (now block)) ⌝ }
     ensures { λ _. ⌜ now (block .exit) ≡ sets (now (block .entry)) 0 (kindByte kind ∷ number ∷ low-high size) ⌝ }
 {
-    block[0] = kind_byte(kind);
+    block[0] = kind.byte();
     block[1] = number as u8;
     block[2] = (size % 256) as u8;
     block[3] = (size / 256) as u8;
 }
 
-// The first 510 bytes of a block: its head, its content, zeros. The answer is where the content ends.
+// All of a block before its check: its head, its content, zeros. The answer is where the content ends.
 fn put_body(kind: Kind, number: usize, content: &[u8], block: &mut [u8]) -> usize
     requires { ⌜ Storable number (now content) (now block) ⌝ }
     ensures { λ r. ⌜ PutBody kind number (now (content .entry)) (now (block .exit)) r ⌝ }
@@ -43,12 +44,12 @@ fn put_body(kind: Kind, number: usize, content: &[u8], block: &mut [u8]) -> usiz
 
 // The check, behind a body that is zero from `end` on.
 fn put_check(block: &mut [u8], end: usize)
-    requires { ⌜ (end ≤ 510) × (length (now block) ≡ 512) × (allZero (drop end (take 510 (now block))) ≡ true) ⌝ }
+    requires { ⌜ (end ≤ 510) × (length (now block) ≡ blockBytes) × (allZero (drop end (take 510 (now block))) ≡ true) ⌝ }
     ensures { λ _. ⌜ now (block .exit) ≡ take 510 (now (block .entry)) ++ low-high (check (take 510 (now (block .entry)))) ⌝ }
 {
     let check = check_of(block, end, true);
-    block[510] = (check % 256) as u8;
-    block[511] = (check / 256) as u8;
+    block[CHECK_AT] = (check % 256) as u8;
+    block[CHECK_AT + 1] = (check / 256) as u8;
 }
 
 // Writes a block.

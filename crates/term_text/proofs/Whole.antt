@@ -5,7 +5,7 @@ use mathlib.Core.Path.{_≡_, ap}
 use mathlib.Core.List.{List, _++_}
 use native.Mathlib.Omega.{arith}
 use lib.ListN.{length, replicate}
-use Rattle.rules.specs.Limits.{limits}
+use Rattle.rules.specs.Limits.{limits, textRoom}
 use Rattle.rules.specs.Refusal.{good, answered}
 use Rattle.rules.specs.declared.Refusal.{Refusal}
 use Rattle.rules.specs.declared.Answer.the-variants.{Good, Refused}
@@ -21,18 +21,18 @@ use Rattle.words.specs.Call as call
 use Rattle.term_text.specs.Task.{TermTask}
 
 module _ (s o : List ℕ) where
-  pub short : length o < 20480 → Ends (Refused (record { number = 1; place = 0; input = 0 })) o (textCall limits s o)
+  pub short : length o < textRoom limits → Ends (Refused (record { number = 1; place = 0; input = 0 })) o (textCall limits s o)
   unfolding textCall
-  short h = call.short text 20480 o h (readTerm limits 1 s)
+  short h = call.short text (textRoom limits) o h (readTerm limits 1 s)
 
-  module _ (h : 20480 ≤ length o) where
+  module _ (h : textRoom limits ≤ length o) where
     pub not-read : (q : Refusal) → answered (checkTermCall limits s) ≡ Refused q → Ends (Refused q) o (textCall limits s o)
     unfolding textCall checkTermCall
-    not-read q e = call.not-read text 20480 o h (readTerm limits 1 s) q (refuses nodes (readTerm limits 1 s) e)
+    not-read q e = call.not-read text (textRoom limits) o h (readTerm limits 1 s) q (refuses nodes (readTerm limits 1 s) e)
 
     pub was-read : (x : Term) → readTerm limits 1 s ≡ good x → Ends (Good (length (text x))) (text x ++ replicate (length o - length (text x)) 0) (textCall limits s o)
     unfolding textCall
-    was-read x e = call.was-read text 20480 o h (readTerm limits 1 s) x e
+    was-read x e = call.was-read text (textRoom limits) o h (readTerm limits 1 s) x e
 
     pub read : {n : ℕ} → answered (checkTermCall limits s) ≡ Good n → Accepts nodes (readTerm limits 1 s) n
     unfolding checkTermCall
@@ -42,7 +42,7 @@ module _ (s o : List ℕ) where
       accepted : TermIn limits s x
       accepted = term-sound limits 1 s x e
 
-      pub few : length (text x) + 24 ≤ 20480
+      pub few : length (text x) + 24 ≤ textRoom limits
       few = let a = accepted in omega (arith, term-text-size x, ap length (a .bytes), a .short, a .few)
 
       pub size : length (encode x) < 65536

@@ -1,10 +1,2 @@
 pub mod Words
 pub mod Task
-pub mod Shapes
-pub mod Inverts
-pub mod Names
-pub mod Shaped
-pub mod Binders
-pub mod Walking
-pub mod Turns
-pub mod Calls

@@ -18,11 +18,7 @@ pub fn pretty(term: &[u8], out: &mut [u8]) -> Answer
     ensures { λ _. ⌜ now (out .exit) ≡ textCall limits (now (term .entry)) (now (out .entry)) .output ⌝ }
 {
     if out.len() < TEXT_ROOM {
-        return Answer::Refused(Refusal {
-            number: 1,
-            place: 0,
-            input: 0,
-        });
+        return Answer::Refused(Refusal::of_no_input(1));
     }
     match reader::check_term(term) {
         Answer::Good(_) => {

@@ -8,6 +8,7 @@ use denote.Ref.{now}
 use Rattle.rules.specs.Limits.{limits}
 use Rattle.rules.specs.Refusal.{refused}
 use Rattle.rules.specs.declared.Answer.{Answer}
+use Rattle.rules.specs.declared.Answer.the-variants.{Refused}
 use Rattle.stored.specs.Answers.{accepted}
 use Rattle.stored.specs.Opening.{taken, amount}
 use Rattle.stored.specs.Storing.{read-short, load-short, load-size, load-blocks, load-content, load-good, size-right, ends}
@@ -15,13 +16,13 @@ use borrow.Author.Needs.{needs}
 use Rattle.stored.proofs.load.Statement.{statement}
 use Rattle.stored.proofs.load.Tie as tie
 
-short-buffer-requires : tie.Need-short-buffer-requires
-short-buffer-requires c κs = search needs
+of-no-input-requires : tie.Need-of-no-input-requires
+of-no-input-requires c κs = search needs
 
 returns : tie.Need-returns
 returns c =
     let a = c .before .before .before .before .args in
-    ends (load-short limits (a .kind) (now (a .file)) (now (a .out)) (c .before .if1 .taken)) (c .short-buffer .ensures) refl
+    ends (load-short limits (a .kind) (now (a .file)) (now (a .out)) (c .before .if1 .taken)) (ap Refused (c .of-no-input .ensures)) refl
 
 size-wrong-requires : tie.Need-size-wrong-requires
 size-wrong-requires c κs = search needs
@@ -72,11 +73,11 @@ enum-known-r-2 c = search needs
 enum-told : tie.Need-enum-told
 enum-told c = search needs
 
-slice-aggregate-put-first : tie.Need-slice-aggregate-put-first
-slice-aggregate-put-first c = search needs
+slice-aggregate-put-content : tie.Need-slice-aggregate-put-content
+slice-aggregate-put-content c = search needs
 
-put-first-requires : tie.Need-put-first-requires
-put-first-requires c κs =
+put-content-requires : tie.Need-put-content-requires
+put-content-requires c κs =
     let a = c .before .before .before .before .before .before .before .before .before .before .before .before .before .before .before .before .before .args in
     let o = c .before .before .before .before .before .before .before .before .before .before .open-blocks in
     let e = c .before .before .before .before .before .before .before .size .given in
@@ -117,7 +118,7 @@ returns-5 c =
     let a = c .before .before .before .before .before .before .before .before .before .before .before .before .before .before .before .before .before .before .before .before .args in
     let o = c .before .before .before .before .before .before .before .before .before .before .before .before .before .open-blocks in
     let e = c .before .before .before .before .before .before .before .before .before .before .size .given in
-    let p = c .before .before .put-first .ensures in
+    let p = c .before .before .put-content .ensures in
     ends
     (load-good limits (a .kind) (now (a .file)) (now (a .out)) (c .before .before .before .before .before .before .before .before .before .before .before .before .before .before .before .before .before .if1 .left) (sym (c .before .before .before .before .before .before .before .before .before .before .before .before .before .before .before .before .size-wrong .ensures) ∙ c .before .before .before .before .before .before .before .before .before .before .before .before .before .before .before .if2 .left)
     (take (e .0 .0) (o .last .1 .1 .0)) (o .ensures .outcome ∙ ap (λ (r : Answer). taken r (o .last .1 .1 .0)) (e .1))
@@ -129,7 +130,7 @@ pub load-spec : {M : Type 1} → statement M
 load-spec =
     tie.close
     (tie.spec
-    short-buffer-requires
+    of-no-input-requires
     returns
     size-wrong-requires
     refused-requires
@@ -143,8 +144,8 @@ load-spec =
     content-input-requires
     enum-known-r-2
     enum-told
-    slice-aggregate-put-first
-    put-first-requires
+    slice-aggregate-put-content
+    put-content-requires
     returns-3
     returns-4
     same-length

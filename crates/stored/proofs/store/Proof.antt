@@ -2,19 +2,20 @@
 use mathlib.Core.Path.{refl, ap, _∙_}
 use denote.Ref.{now}
 use Rattle.rules.specs.Limits.{limits}
+use Rattle.rules.specs.declared.Answer.the-variants.{Refused}
 use Rattle.stored.specs.Answers.{accepted}
 use Rattle.stored.specs.Storing.{read-short, store-short, store-refused, store-good, ends}
 use borrow.Author.Needs.{needs}
 use Rattle.stored.proofs.store.Statement.{statement}
 use Rattle.stored.proofs.store.Tie as tie
 
-short-buffer-requires : tie.Need-short-buffer-requires
-short-buffer-requires c κs = search needs
+of-no-input-requires : tie.Need-of-no-input-requires
+of-no-input-requires c κs = search needs
 
 returns : tie.Need-returns
 returns c =
     let a = c .before .before .before .before .args in
-    ends (store-short limits (a .kind) (now (a .content)) (now (a .out)) (c .before .if1 .taken)) (c .short-buffer .ensures) refl
+    ends (store-short limits (a .kind) (now (a .content)) (now (a .out)) (c .before .if1 .taken)) (ap Refused (c .of-no-input .ensures)) refl
 
 content-input-requires : tie.Need-content-input-requires
 content-input-requires c κs = search needs
@@ -55,7 +56,7 @@ pub store-spec : {M : Type 1} → statement M
 store-spec =
     tie.close
     (tie.spec
-    short-buffer-requires
+    of-no-input-requires
     returns
     content-input-requires
     enum-known-r

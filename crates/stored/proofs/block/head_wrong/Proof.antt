@@ -6,7 +6,7 @@ use native.Mathlib.Omega.{arith}
 use lib.Dec.{eqb}
 use lib.ListN.{length}
 use denote.Ref.{now}
-use Rattle.rules.specs.Limits.{limits, blocksFor}
+use Rattle.rules.specs.Limits.{limits, blockBytes, blocksFor}
 use Rattle.stored.specs.Heads.{kind-wrong, number-wrong, least-wrong, most-wrong, alike-wrong, last-test}
 use borrow.Author.Needs.{needs}
 use Rattle.stored.proofs.block.head_wrong.Statement.{statement}
@@ -15,13 +15,13 @@ use Rattle.stored.proofs.block.head_wrong.Tie as tie
 shared-slice-read-if1 : tie.Need-shared-slice-read-if1
 shared-slice-read-if1 c = search needs
 
-kind-byte-requires : tie.Need-kind-byte-requires
-kind-byte-requires c κs = search needs
+byte-requires : tie.Need-byte-requires
+byte-requires c κs = search needs
 
 returns : tie.Need-returns
 returns c =
     let a = c .before .before .before .before .before .args in
-    kind-wrong limits (a .kind) (now (a .file)) (a .number) (now (a .block)) (λ e. c .if1 .taken (e ∙ sym (c .before .kind-byte .ensures)))
+    kind-wrong limits (a .kind) (now (a .file)) (a .number) (now (a .block)) (λ e. c .if1 .taken (e ∙ sym (c .before .byte .ensures)))
 
 shared-slice-read-if2 : tie.Need-shared-slice-read-if2
 shared-slice-read-if2 c = search needs
@@ -62,10 +62,10 @@ returns-6 : tie.Need-returns-6
 returns-6 c =
     let a = c .before .before .before .before .before .before .before .before .before .before .before .before .before .args in
     let n = c .before .before .before .before .before .two-bytes .ensures in
-    ap (λ (m : ℕ). not (eqb m (length (now (a .file)) / 512))) (c .blocks-for .ensures ∙ ap blocksFor n)
+    ap (λ (m : ℕ). not (eqb m (length (now (a .file)) / blockBytes))) (c .blocks-for .ensures ∙ ap blocksFor n)
     ∙ sym
     (last-test limits (a .kind) (now (a .file)) (a .number) (now (a .block))
-    (c .before .before .before .before .before .before .before .before .if1 .left ∙ c .before .before .before .before .before .before .before .before .before .kind-byte .ensures)
+    (c .before .before .before .before .before .before .before .before .if1 .left ∙ c .before .before .before .before .before .before .before .before .before .byte .ensures)
     (c .before .before .before .before .before .before .if2 .left)
     (omega (arith, n, c .before .before .before .before .if3 .left))
     (omega (arith, n, c .before .before .before .if4 .left))
@@ -76,7 +76,7 @@ head-wrong-spec =
     tie.close
     (tie.spec
     shared-slice-read-if1
-    kind-byte-requires
+    byte-requires
     returns
     shared-slice-read-if2
     cast-if2

@@ -8,7 +8,7 @@ use lib.ListN.{length, take, drop}
 use denote.Ref.{now}
 use Rattle.rules.specs.Basic.{Bytes}
 use Rattle.rules.specs.Refusal.{good}
-use Rattle.rules.specs.Limits.{limits}
+use Rattle.rules.specs.Limits.{limits, blockBytes, blockContent}
 use Rattle.rules.specs.Stored.{openBlocks}
 use Rattle.stored.specs.Gathering.{behind, behind-nil, block-at, length-block-at, copied, wrote-take, stops, goes-on}
 use Rattle.stored.specs.Opening.{amount}
@@ -17,7 +17,7 @@ use Rattle.stored.proofs.blocks.open_blocks.Tie as tie
 
 abbrev Inv-loop : tie.InvT-loop
 Inv-loop kind file content₀ many number₀ at₀ content number at =
-    (number ≤ many) × (many ≡ length file / 512) × (at ≤ 506 * number) × (length content ≡ length content₀)
+    (number ≤ many) × (many ≡ length file / blockBytes) × (at ≤ blockContent * number) × (length content ≡ length content₀)
     × (openBlocks limits kind file 0 many ≡ behind (take at content) (openBlocks limits kind file number (many - number)))
 
 abbrev μ-loop : tie.MeasureT-loop
@@ -26,7 +26,7 @@ abbrev μ-loop : tie.MeasureT-loop
 loop-holds : tie.Need-loop-holds Inv-loop μ-loop
 loop-holds c =
     let a = c .before .before .args in
-    let many = length (now (a .file)) / 512 in (
+    let many = length (now (a .file)) / blockBytes in (
       omega arith,
       refl,
       omega arith,
@@ -67,8 +67,8 @@ returns c =
     let a = c .before .before .before .before .before .before .before .before .before .args in
     record {
       outcome =
-          stops limits (a .kind) (now (a .file)) (l .content) (take (512 * l .number + 512 - 512 * l .number) (drop (512 * l .number) (now (a .file)))) (l .number)
-          (length (now (a .file)) / 512) (l .at) (c .before .before .before .open-block .result) (c .before .before .before .before .before .loop-test .taken) (block-at (now (a .file)) (l .number))
+          stops limits (a .kind) (now (a .file)) (l .content) (take (blockBytes * l .number + blockBytes - blockBytes * l .number) (drop (blockBytes * l .number) (now (a .file)))) (l .number)
+          (length (now (a .file)) / blockBytes) (l .at) (c .before .before .before .open-block .result) (c .before .before .before .before .before .loop-test .taken) (block-at (now (a .file)) (l .number))
           (c .before .before .before .open-block .ensures) (l .inv .4) (c .before .r .given .0 .0) (c .before .r .given .1);
       within = omega arith;
     }
@@ -105,18 +105,18 @@ loop-again c =
     let a = s .args in
     let f = now (a .file) in
     let t = c .before .before .before .before .before .before .before .before .before .loop-test .taken in
-    let b = take (512 * l .number + 512 - 512 * l .number) (drop (512 * l .number) f) in
+    let b = take (blockBytes * l .number + blockBytes - blockBytes * l .number) (drop (blockBytes * l .number) f) in
     let o = c .before .before .before .before .before .before .before .open-block in
     let u = c .before .before .before .before .before .used .given .0 .0 in
     let e = c .before .before .before .before .before .used .given .1 in
     let w = c .before .before .copy in
     let k = copied b u (omega (arith, ap amount e, o .ensures .few, length-block-at f (l .number) (omega arith))) in
-    let few : u ≤ 506 = omega (arith, ap amount e, o .ensures .few) in (
+    let few : u ≤ blockContent = omega (arith, ap amount e, o .ensures .few) in (
       omega arith,
       refl,
       omega (arith, w .ensures .ends, k .1, l .inv .2),
       w .kept .1 .1 .1 .0 ∙ l .inv .3,
-      goes-on limits (a .kind) f (l .content) b (l .number) (length f / 512) (l .at) (o .result) t (block-at f (l .number)) (o .ensures) (l .inv .4) u (w .result)
+      goes-on limits (a .kind) f (l .content) b (l .number) (length f / blockBytes) (l .at) (o .result) t (block-at f (l .number)) (o .ensures) (l .inv .4) u (w .result)
           (w .last .1 .1 .1 .0) e (wrote-take (w .ensures) (omega (arith, k .1, l .inv .2, l .inv .3, s .pre)) ∙ ap (λ (r : Bytes). take (l .at) (l .content) ++ r) (k .0)),
     )
 
@@ -130,7 +130,7 @@ returns-2 c =
     let s = c .before .before .before .before in
     let a = s .args in
     let f = now (a .file) in
-    let z : length f / 512 - l .number ≡ 0 = omega (arith, c .loop-test .left) in
+    let z : length f / blockBytes - l .number ≡ 0 = omega (arith, c .loop-test .left) in
     record {
       outcome =
           l .inv .4

@@ -7,7 +7,7 @@ use native.Mathlib.Nat.{sub-zero}
 use lib.ListN.{length, drop, length-drop}
 use lib.Seq.{sets, length-take-le}
 use denote.Ref.{now}
-use Rattle.rules.specs.Limits.{blocksFor}
+use Rattle.rules.specs.Limits.{limits, blockBytes, blocksFor}
 use Rattle.rules.specs.Stored.{blocks, stored}
 use Rattle.stored.specs.Blocks.{length-stored, length-middle, more-blocks}
 use Rattle.stored.proofs.blocks.put_blocks.Statement.{statement}
@@ -15,7 +15,7 @@ use Rattle.stored.proofs.blocks.put_blocks.Tie as tie
 
 abbrev Inv-loop : tie.InvT-loop
 Inv-loop kind content out₀ many number₀ at₀ out number at =
-    (number ≤ many) × (many ≤ 9) × (many ≡ blocksFor (length content)) × (at ≡ 512 * number) × (length out ≡ length out₀)
+    (number ≤ many) × (many ≤ blocksFor (limits .bytes)) × (many ≡ blocksFor (length content)) × (at ≡ blockBytes * number) × (length out ≡ length out₀)
     × (sets out at (blocks kind number (many - number) content) ≡ sets out₀ 0 (stored kind content))
 
 abbrev μ-loop : tie.MeasureT-loop
@@ -52,7 +52,7 @@ put-block-requires c κs =
       few = omega arith;
       there = omega (arith, i .2);
       short = omega (arith, s .pre);
-      room = length-take-le (l .loop .at + 512 - l .loop .at) (drop (l .loop .at) (l .loop .out)) (omega (arith, length-drop (l .loop .at) (l .loop .out), i .4, s .pre)) ∙ omega arith;
+      room = length-take-le (l .loop .at + blockBytes - l .loop .at) (drop (l .loop .at) (l .loop .out)) (omega (arith, length-drop (l .loop .at) (l .loop .out), i .4, s .pre)) ∙ omega arith;
     }
 
 add-number : tie.Need-add-number Inv-loop μ-loop
@@ -67,7 +67,7 @@ loop-again c =
     let s = c .before .before .before .before .before .before .before .before .before in
     let i = l .loop .inv in
     let p = c .before .before .put-block in
-    let room : l .loop .at + 512 ≤ length (l .loop .out) = omega (arith, i .4, s .pre, c .before .before .before .before .loop-test .taken) in
+    let room : l .loop .at + blockBytes ≤ length (l .loop .out) = omega (arith, i .4, s .pre, c .before .before .before .before .loop-test .taken) in
     let t = c .before .before .before .before .loop-test .taken in (
       omega arith,
       i .1,

@@ -4,6 +4,7 @@ use native.Mathlib.Omega.{arith}
 use lib.ListN.{length}
 use lib.Seq.{length-slice}
 use denote.Ref.{now}
+use Rattle.rules.specs.Limits.{blockContent}
 use Rattle.stored.specs.Opening.{used-le}
 use Rattle.stored.specs.Blocks.{used-in, put-body}
 use borrow.Author.Needs.{needs}
@@ -48,7 +49,7 @@ clear-requires c κs =
       c .before .before .before .before .before .before .before .before .put-head .kept .1 .1 .1 .0,
       used-le (length a) i,
       s .pre .room,
-      length-slice (506 * i) (506 * i + u) a (omega (arith, e, used-in (length a) i, s .pre .there)),
+      length-slice (blockContent * i) (blockContent * i + u) a (omega (arith, e, used-in (length a) i, s .pre .there)),
     )
 
 same-length : tie.Need-same-length

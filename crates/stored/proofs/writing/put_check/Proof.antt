@@ -18,6 +18,9 @@ slice-write-block c = search needs
 cast-block-2 : tie.Need-cast-block-2
 cast-block-2 c = search needs
 
+add-block : tie.Need-add-block
+add-block c = search needs
+
 slice-write-block-2 : tie.Need-slice-write-block-2
 slice-write-block-2 c = search needs
 
@@ -35,6 +38,7 @@ put-check-spec =
     cast-block
     slice-write-block
     cast-block-2
+    add-block
     slice-write-block-2
     same-length
     returns)

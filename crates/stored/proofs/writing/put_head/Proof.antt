@@ -5,8 +5,8 @@ use borrow.Author.Needs.{needs}
 use Rattle.stored.proofs.writing.put_head.Statement.{statement}
 use Rattle.stored.proofs.writing.put_head.Tie as tie
 
-kind-byte-requires : tie.Need-kind-byte-requires
-kind-byte-requires c κs = search needs
+byte-requires : tie.Need-byte-requires
+byte-requires c κs = search needs
 
 slice-write-block : tie.Need-slice-write-block
 slice-write-block c = search needs
@@ -33,13 +33,13 @@ same-length : tie.Need-same-length
 same-length c = search needs
 
 returns : tie.Need-returns
-returns c = rw (c .kind-byte .ensures)
+returns c = rw (c .byte .ensures)
 
 pub put-head-spec : {M : Type 1} → statement M
 put-head-spec =
     tie.close
     (tie.spec
-    kind-byte-requires
+    byte-requires
     slice-write-block
     cast-block
     slice-write-block-2

@@ -1,6 +1,6 @@
 -- `phrase::last_name` meets its contract: the name is printed, then the brackets. Assumes nothing.
 use native.Mathlib.Omega.{arith}
-use Rattle.term_text.specs.Names.{last-in, last-room, last-places, last-done}
+use Rattle.term_text.proofs.phrase.Names.{last-in, last-room, last-places, last-done}
 use borrow.Author.Needs.{needs}
 use Rattle.term_text.proofs.phrase.last_name.Statement.{statement}
 use Rattle.term_text.proofs.phrase.last_name.Tie as tie

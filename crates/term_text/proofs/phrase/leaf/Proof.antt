@@ -1,6 +1,6 @@
 -- `phrase::leaf` meets its contract. Assumes nothing.
 use Rattle.rules.specs.Term.{leaf}
-use Rattle.term_text.specs.Shaped.{begun, leaf-asked, leaf-places, leaf-done}
+use Rattle.term_text.proofs.phrase.Shaped.{begun, leaf-asked, leaf-places, leaf-done}
 use borrow.Author.Needs.{needs}
 use Rattle.term_text.proofs.phrase.leaf.Statement.{statement}
 use Rattle.term_text.proofs.phrase.leaf.Tie as tie

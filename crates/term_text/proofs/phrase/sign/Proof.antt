@@ -1,5 +1,5 @@
 -- `phrase::sign` meets its contract. Assumes nothing.
-use Rattle.term_text.specs.Shapes.{long-few}
+use Rattle.term_text.proofs.phrase.Shapes.{long-few}
 use borrow.Author.Needs.{needs}
 use Rattle.term_text.proofs.phrase.sign.Statement.{statement}
 use Rattle.term_text.proofs.phrase.sign.Tie as tie

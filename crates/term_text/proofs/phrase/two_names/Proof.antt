@@ -8,7 +8,7 @@ use denote.Ref.{now}
 use Rattle.rules.specs.Basic.{say}
 use Rattle.words.specs.Steps.{chain}
 use Rattle.term_text.specs.Task.{nameAt, afterName}
-use Rattle.term_text.specs.Names.{name-at-long, regroup}
+use Rattle.term_text.proofs.phrase.Names.{name-at-long, regroup}
 use borrow.Author.Needs.{needs}
 use Rattle.term_text.proofs.phrase.two_names.Statement.{statement}
 use Rattle.term_text.proofs.phrase.two_names.Tie as tie

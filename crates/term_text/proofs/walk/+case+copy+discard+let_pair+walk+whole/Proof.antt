@@ -1,10 +1,10 @@
 -- The proof of the cycle of calls over a term: each shape prints its words and names and hands its parts on, further on in the bytes. Assumes nothing.
 use Prim.Native.Nat.{_*_, _+_, _-_}
-use Rattle.term_text.specs.Binders.{case-done, case-in, case-part, case-room, copy-between-room, copy-body, copy-done, copy-further, copy-in, copy-part, copy-room, end-room, left-branch, left-further as case-left-further, left-room as case-left-room, let-between-room, let-body, let-done, let-further, let-in, let-part, let-room, right-branch, right-further, right-room}
-use Rattle.term_text.specs.Calls.{case-called, case-here, copy-called, copy-here, discard-called, discard-here, leaf-called, leaf-here, let-called, let-here}
-use Rattle.term_text.specs.Shaped.{begun, discard-done, discard-further, discard-part, discard-room, discard-terms}
-use Rattle.term_text.specs.Turns.{any-ends, any-here, bound-here, bound-next, left-further, left-here, left-next, left-room, name-ends, name-here, on-begun, one-here, one-next, open-room, part-ends, part-room, whole-ends, whole-here}
-use Rattle.term_text.specs.Walking.{here, start}
+use Rattle.term_text.proofs.walk.Binders.{case-done, case-in, case-part, case-room, copy-between-room, copy-body, copy-done, copy-further, copy-in, copy-part, copy-room, end-room, left-branch, left-further as case-left-further, left-room as case-left-room, let-between-room, let-body, let-done, let-further, let-in, let-part, let-room, right-branch, right-further, right-room}
+use Rattle.term_text.proofs.walk.Calls.{case-called, case-here, copy-called, copy-here, discard-called, discard-here, leaf-called, leaf-here, let-called, let-here}
+use Rattle.term_text.proofs.phrase.Shaped.{begun, discard-done, discard-further, discard-part, discard-room, discard-terms}
+use Rattle.term_text.proofs.walk.Turns.{any-ends, any-here, bound-here, bound-next, left-further, left-here, left-next, left-room, name-ends, name-here, on-begun, one-here, one-next, open-room, part-ends, part-room, whole-ends, whole-here}
+use Rattle.term_text.proofs.walk.Walking.{here, start}
 use Rattle.rules.specs.Term.{both as bothOf, branch as branchOf, copy as copyOf, discard as discardOf, letPair as letPairOf, two as twoOf}
 use lib.ListN.{length}
 use mathlib.Core.List.{[], _∷_}

@@ -15,10 +15,10 @@ use Rattle.words.specs.Steps.{told-done}
 use Rattle.term.specs.Node.{onePart}
 use Rattle.term_text.specs.Task.{TermTask, TermDone, nameAt, afterName, NameIn, Whole}
 use Rattle.term_text.specs.Words.{signOf, betweenOf}
-use Rattle.term_text.specs.Shapes.{Bracketed}
-use Rattle.term_text.specs.Inverts.{shapeOf, a-var, a-two, an-abs, two-key, made-of, made-one, Rest, is-whole}
-use Rattle.term_text.specs.Shaped.{begun}
-use Rattle.term_text.specs.Walking.{At, On, here, brackets-room, ends, one-asked, one-turn, two-room, left-part, two-further, between-room, two-turn, last-task, last-long, last-done, abs-in, abs-room, abs-turn}
+use Rattle.term_text.proofs.phrase.Shapes.{Bracketed}
+use Rattle.term_text.proofs.walk.Inverts.{shapeOf, a-var, a-two, an-abs, two-key, made-of, made-one, Rest, is-whole}
+use Rattle.term_text.proofs.phrase.Shaped.{begun}
+use Rattle.term_text.proofs.walk.Walking.{At, On, here, brackets-room, ends, one-asked, one-turn, two-room, left-part, two-further, between-room, two-turn, last-task, last-long, last-done, abs-in, abs-room, abs-turn}
 
 module _ {s : List ℕ} {at : ℕ} {out₀ : List ℕ} {to : ℕ} {T : Term} {out : List ℕ} {i o c : ℕ} (n : On s at out₀ to T out i o c) where
   pub on-begun : i < length s

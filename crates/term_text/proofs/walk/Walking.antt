@@ -16,9 +16,9 @@ use Rattle.words.specs.Task.{Task, Done}
 use Rattle.words.specs.Steps.{first-byte, passed, printed, part-of, part-end, after-part, part-then, pass-then, print-then, no-more, no-more-done, told, told-done, Named, named}
 use Rattle.term_text.specs.Task.{TermTask, TermDone, nameAt, afterName, NameIn}
 use Rattle.term_text.specs.Words.{signOf, betweenOf}
-use Rattle.term_text.specs.Shapes.{Bracketed, one-word, one-low, two-text}
-use Rattle.term_text.specs.Names.{name-in, name-is, after-one, one-then}
-use Rattle.term_text.specs.Shaped.{chosen}
+use Rattle.term_text.proofs.phrase.Shapes.{Bracketed, one-word, one-low, two-text}
+use Rattle.term_text.proofs.phrase.Names.{name-in, name-is, after-one, one-then}
+use Rattle.term_text.proofs.phrase.Shaped.{chosen}
 
 -- The walk of T from `at` stands at t, after which c brackets come.
 pub record At (s : List ℕ) (at : ℕ) (out₀ : List ℕ) (to : ℕ) (T : Term) (out : List ℕ) (i o c : ℕ) (t : Term) : Type 0 where

@@ -14,7 +14,7 @@ use Rattle.words.specs.Prints.{Prints}
 use Rattle.words.specs.Task.{Task, Done}
 use Rattle.words.specs.Steps.{printed, part-of, part-end, after-part, part-then, print-then, no-more, no-more-done, told, told-done, Named}
 use Rattle.term_text.specs.Task.{TermTask, TermDone, nameAt, afterName, NameIn}
-use Rattle.term_text.specs.Names.{name-in, name-is, first-named, second-named, after-two, two-then, spread}
+use Rattle.term_text.proofs.phrase.Names.{name-in, name-is, first-named, second-named, after-two, two-then, spread}
 
 -- two names with words around them
 abbrev pub Names : List ℕ → Name → Name → List ℕ → List ℕ

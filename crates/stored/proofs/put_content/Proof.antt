@@ -1,4 +1,4 @@
--- `stored::put_first` meets its contract: a copy, then zeros. Assumes nothing.
+-- `stored::put_content` meets its contract: a copy, then zeros. Assumes nothing.
 use mathlib.Core.Path.{ap, _∙_}
 use native.Mathlib.Nat.{zero-add}
 use native.Mathlib.Omega.{arith}
@@ -7,8 +7,8 @@ use denote.Ref.{now}
 use Rattle.rules.specs.declared.Answer.the-variants.{Good}
 use Rattle.buffer.specs.Writing.{filled-up}
 use borrow.Author.Needs.{needs}
-use Rattle.stored.proofs.put_first.Statement.{statement}
-use Rattle.stored.proofs.put_first.Tie as tie
+use Rattle.stored.proofs.put_content.Statement.{statement}
+use Rattle.stored.proofs.put_content.Tie as tie
 
 copy-requires : tie.Need-copy-requires
 copy-requires c κs = search needs
@@ -32,5 +32,5 @@ returns c =
       answer = ap Good (w .ends ∙ zero-add _);
     }
 
-pub put-first-spec : {M : Type 1} → statement M
-put-first-spec = tie.close (tie.spec copy-requires clear-requires same-length returns)
+pub put-content-spec : {M : Type 1} → statement M
+put-content-spec = tie.close (tie.spec copy-requires clear-requires same-length returns)

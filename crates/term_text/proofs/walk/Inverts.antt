@@ -12,7 +12,7 @@ use Rattle.term.specs.Node.{tag, onePart}
 use Rattle.term.specs.OnePart.{one-bit, only-one}
 use Rattle.words.specs.Steps.{first-byte}
 use Rattle.term_text.specs.Task.{TermTask, Whole}
-use Rattle.term_text.specs.Shapes.{Bracketed}
+use Rattle.term_text.proofs.phrase.Shapes.{Bracketed}
 
 pub data Shape : Type 0 where
   a-var : Shape

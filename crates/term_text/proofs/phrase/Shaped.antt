@@ -14,7 +14,7 @@ use Rattle.words.specs.Task.{Task, places}
 use Rattle.words.specs.Steps.{ends-in, first-byte, passed, printed, pass-then, print-then, print-last}
 use Rattle.term_text.specs.Task.{TermTask, TermDone}
 use Rattle.term_text.specs.Words.{signOf}
-use Rattle.term_text.specs.Shapes.{leaf-word, leaf-low}
+use Rattle.term_text.proofs.phrase.Shapes.{leaf-word, leaf-low}
 
 -- a word that was chosen by the tag
 pub chosen : (b k : ℕ) {w out : List ℕ} {to : ℕ} {o : List ℕ} {p : ℕ} → b ≡ k → signOf k ≡ w → Prints out to (signOf b) o p → Prints out to w o p

@@ -1,0 +1,6 @@
+-- What the proof of the walk uses.
+mod Inverts
+mod Binders
+mod Walking
+mod Turns
+mod Calls
