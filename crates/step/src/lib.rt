@@ -19,7 +19,7 @@ use rules::Rule;
 use take::Taken;
 use take::take_step;
 
-pub mod take;
+mod take;
 
 // The rule, its place (the offset of the contracted node's tag in the given term), and the length of the next term.
 pub struct Found {

@@ -11,7 +11,6 @@ use lib.Seq.{slice, drop-at, length-slice}
 use Rattle.rules.specs.Basic.{Bytes}
 use Rattle.rules.specs.Limits.{limits, outputRoom}
 use Rattle.rules.specs.Term.{Term, encode, nodes, size, fits}
-use Rattle.rules.specs.declared.Rule.{Rule}
 use Rattle.rules.specs.Step.{found, halfFits, stepFits}
 use Rattle.laws.specs.free.Same.{both-true}
 use Rattle.laws.specs.reading.Fits.{within}
