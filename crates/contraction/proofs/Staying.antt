@@ -7,6 +7,7 @@ use native.Mathlib.Omega.{arith}
 use lib.ListN.{length}
 use lib.Seq.{slice}
 use Rattle.rules.specs.Basic.{Bytes}
+use Rattle.rules.specs.Limits.{limits, outputRoom}
 use Rattle.rules.specs.Term.{Term, one, two, One, Two, pair, encode, nodes, size}
 use Rattle.rules.specs.declared.Rule.{Rule}
 use Rattle.buffer.specs.Wrote.{Wrote}
@@ -55,10 +56,10 @@ module _ {s : Bytes} {at n l : ℕ} {t : Term} (j : Redex s at n l t) where
       pub kept-nodes : heads + r .b ≤ n
       kept-nodes = omega (arith, m .b-nodes, i .count, j .nodes-in)
 
-      pub first-room : {room : ℕ} → 4096 ≤ room → (from ≤ r .second) × (r .second ≤ length s) × (0 + (r .second - from) ≤ room)
+      pub first-room : {room : ℕ} → outputRoom limits ≤ room → (from ≤ r .second) × (r .second ≤ length s) × (0 + (r .second - from) ≤ room)
       first-room h = (omega (arith, m .second), omega (arith, m .second, at-end s from a (a-at i m)), omega (arith, m .second, i .ends, i .past, j .bytes-in, j .short))
 
-      pub first-kept : {rule : Rule} {made made′ : Bytes} {z : ℕ} → 4096 ≤ length made → Wrote made 0 (slice from (r .second) s) made′ z
+      pub first-kept : {rule : Rule} {made made′ : Bytes} {z : ℕ} → outputRoom limits ≤ length made → Wrote made 0 (slice from (r .second) s) made′ z
           → Contracts s at n l t rule none a made′ (Made (record { rule = rule; size = z; end = r .end; nodes = n - heads - r .b }))
       first-kept {rule} {made} {made′} {z} h x =
           let w = a-at i m in

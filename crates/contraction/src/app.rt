@@ -5,6 +5,7 @@ ghost use mathlib.Core.List.{List, [], _∷_};
 ghost use mathlib.Core.Option.{none};
 ghost use Prim.Native.Nat.{ℕ, _-_, _≤_};
 ghost use lib.ListN.{length};
+ghost use Rattle.rules.specs.Limits.{limits};
 ghost use Rattle.rules.specs.Name.{Name};
 ghost use Rattle.rules.specs.Term.{Term, two, abs, app};
 ghost use Rattle.rules.specs.declared.Rule.the-variants.{App};
@@ -25,7 +26,7 @@ use term::span::span;
 
 // Whether the row holds one place, and that is the last `gap` bytes of a body so long.
 fn ends_body(places: &[u16], count: usize, gap: usize, long: usize) -> bool
-    requires { ⌜ (count ≤ length (now places)) × (gap ≤ 65536) ⌝ }
+    requires { ⌜ (count ≤ length (now places)) × (gap ≤ limits .bytes) ⌝ }
     ensures { λ r. ⌜ ((ps : List ℕ) → Held (now (places .entry)) count ps → r ≡ true → (ps ≡ (long - gap) ∷ []) × (gap ≤ long)) ⌝ }
 {
     if count == 1 {

@@ -7,8 +7,8 @@ ghost use Rattle.contraction.specs.Contracting.{Contracting};
 use part::Contracted;
 use rules::MOST_NODES;
 
-pub mod app;
-pub mod case;
+mod app;
+mod case;
 pub mod part;
 mod redexes;
 

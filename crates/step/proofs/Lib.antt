@@ -1,3 +1,3 @@
--- What the proofs of several functions use, here and in the crates above.
-pub mod Taking
+-- What the proofs of several functions use.
+mod Taking
 mod Calling

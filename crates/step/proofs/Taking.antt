@@ -12,11 +12,11 @@ use Rattle.rules.specs.declared.Rule.{Rule}
 use Rattle.rules.specs.Step.{Stepped, normal, found, halfFits, stepFits}
 use Rattle.laws.specs.free.Same.{both-true}
 use Rattle.step.specs.Taken.{takenOf, writtenOf}
-use Rattle.step.specs.declared.Found.{Found as Step}
+use Rattle.step.specs.declared.Found.{Found as FoundStep}
 use Rattle.step.specs.declared.take.Taken.the-variants.{Normal, Found, Outgrown}
 
 -- a step as it was told, whose result fits
-pub record Fitted (s : Stepped) (k : Step) : Type 0 where
+pub record Fitted (s : Stepped) (k : FoundStep) : Type 0 where
   pub half : Option Term
   pub result : Term
   pub is : s ≡ found (k .rule) (k .place) half result
@@ -49,7 +49,7 @@ took-over (found r p h t) e = go (stepFits limits h t) refl e
     go true q d = absurd (let z : _≡_ {A = ℕ} 0 1 = cc in omega arith)
     go false q d = record { rule = r; place = p; half = h; result = t; is = refl; tested = q }
 
-pub took : (s : Stepped) {k : Step} → takenOf s ≡ Found k → Fitted s k
+pub took : (s : Stepped) {k : FoundStep} → takenOf s ≡ Found k → Fitted s k
 took normal e = absurd (let z : _≡_ {A = ℕ} 0 1 = cc in omega arith)
 took (found r p h t) {k} e = go (stepFits limits h t) refl e
   where
@@ -68,7 +68,7 @@ took (found r p h t) {k} e = go (stepFits limits h t) refl e
     go false q d = absurd (let z : _≡_ {A = ℕ} 0 1 = cc in omega arith)
 
 -- and what it writes
-pub writes : {s : Stepped} {k : Step} (f : Fitted s k) (out : Bytes) → writtenOf s out ≡ sets out 0 (encode (f .result))
+pub writes : {s : Stepped} {k : FoundStep} (f : Fitted s k) (out : Bytes) → writtenOf s out ≡ sets out 0 (encode (f .result))
 writes f out = ap (λ (z : Stepped). writtenOf z out) (f .is) ∙ rw (f .tested)
 
 pub writes-nothing : {s : Stepped} (o : Over s) (out : Bytes) → writtenOf s out ≡ out

@@ -21,7 +21,7 @@ contracted p f t = placed p f (contract t)
 
 -- src encodes a whole of n nodes that breaks no limit, in which t stands at `place` and contracts; f is the whole as a function of
 -- what stands there
-pub record Contracting (src : Bytes) (n place : ℕ) (out : Bytes) (f : Term → Term) (t : Term) : Type 0 where
+pub record Framed (src : Bytes) (n place : ℕ) (out : Bytes) (f : Term → Term) (t : Term) : Type 0 where
   pub frame : Frame place f
   pub whole : src ≡ encode (f t)
   pub count : n ≡ nodes (f t)

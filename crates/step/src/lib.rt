@@ -3,25 +3,23 @@ ghost use mathlib.Core.Path.{_≡_};
 ghost use Prim.Native.Nat.{_≤_};
 ghost use lib.ListN.{length};
 ghost use Rattle.rules.specs.Limits.{limits, scratchRoom};
-ghost use Rattle.rules.specs.Refusal.{refuse};
 ghost use Rattle.rules.specs.Term.{Term};
 ghost use Rattle.rules.specs.Step.{step as stepOf};
 ghost use Rattle.rules.specs.Calls.{stepCall, isNormalCall};
 ghost use Rattle.term.specs.Given.{Reads};
 ghost use Rattle.step.specs.Answers.{stepAnswered, normalAnswered, Stepping};
+use buffer::room::short;
 use buffer::run;
 use redex::read::Resting;
 use redex::read::none_left;
 use redex::read::read_resting;
 use rules::Answer;
-use rules::OUTPUT_ROOM;
 use rules::Refusal;
 use rules::Rule;
-use rules::SCRATCH_ROOM;
 use take::Taken;
 use take::take_step;
 
-pub mod take;
+mod take;
 
 // The rule, its place (the offset of the contracted node's tag in the given term), and the length of the next term.
 pub struct Found {
@@ -42,17 +40,6 @@ pub enum Normality {
     Refused(Refusal),
 }
 
-// A refusal that is about no one input: 1 or 8.
-fn refused(number: u8) -> Stepped
-    ensures { λ r. ⌜ r ≡ stepAnswered (refuse number 0 0) ⌝ }
-{
-    Stepped::Refused(Refusal {
-        number,
-        place: 0,
-        input: 0,
-    })
-}
-
 // A step of a term that was read: zeros behind the next term, and in the scratch.
 fn step_read(term: &[u8], nodes: usize, out: &mut [u8], scratch: &mut [u8]) -> Stepped
     requires { ⌜ ((t : Term) × Reads (now term) nodes (now out) t) × (scratchRoom limits ≤ length (now scratch)) ⌝ }
@@ -62,7 +49,7 @@ fn step_read(term: &[u8], nodes: usize, out: &mut [u8], scratch: &mut [u8]) -> S
     run::clear(scratch, 0);
     match taken {
         Taken::Normal => Stepped::Normal,
-        Taken::Outgrown => refused(8),
+        Taken::Outgrown => Stepped::Refused(Refusal::of_no_input(8)),
         Taken::Found(found) => {
             run::clear(out, found.length);
             Stepped::Found(found)
@@ -76,11 +63,8 @@ pub fn step(term: &[u8], out: &mut [u8], scratch: &mut [u8]) -> Stepped
     ensures { λ _. ⌜ now (out .exit) ≡ stepCall limits (now (term .entry)) (now (out .entry)) (now (scratch .entry)) .output ⌝ }
     ensures { λ _. ⌜ now (scratch .exit) ≡ stepCall limits (now (term .entry)) (now (out .entry)) (now (scratch .entry)) .scratch ⌝ }
 {
-    if out.len() < OUTPUT_ROOM {
-        return refused(1);
-    }
-    if scratch.len() < SCRATCH_ROOM {
-        return refused(1);
+    if short(out.len(), scratch.len()) {
+        return Stepped::Refused(Refusal::of_no_input(1));
     }
     match reader::term_input(term, 1) {
         Answer::Refused(r) => Stepped::Refused(r),

@@ -5,7 +5,7 @@ ghost use Rattle.rules.specs.Limits.{limits, outputRoom};
 ghost use Rattle.rules.specs.Term.{Term};
 ghost use Rattle.rules.specs.Step.{step};
 ghost use Rattle.term.specs.Given.{Reads};
-ghost use Rattle.step.specs.Taken.{Contracting, contracted, Takes};
+ghost use Rattle.step.specs.Taken.{Framed, contracted, Takes};
 use crate::Found;
 use buffer::run;
 use contraction::contract;
@@ -23,8 +23,8 @@ pub enum Taken {
 
 // Contracts the redex at `place`; `work` is room to work in.
 fn contract_at(src: &[u8], nodes: usize, place: usize, out: &mut [u8], work: &mut [u8]) -> Taken
-    requires { ⌜ ((f : Term → Term) × (t : Term) × Contracting (now src) nodes place (now out) f t) × (outputRoom limits ≤ length (now work)) ⌝ }
-    ensures { λ r. ⌜ ((f : Term → Term) → (t : Term) → Contracting (now (src .entry)) nodes place (now (out .entry)) f t → Takes (contracted place f t) (now (out .entry)) (now (out .exit)) r) ⌝ }
+    requires { ⌜ ((f : Term → Term) × (t : Term) × Framed (now src) nodes place (now out) f t) × (outputRoom limits ≤ length (now work)) ⌝ }
+    ensures { λ r. ⌜ ((f : Term → Term) → (t : Term) → Framed (now (src .entry)) nodes place (now (out .entry)) f t → Takes (contracted place f t) (now (out .entry)) (now (out .exit)) r) ⌝ }
 {
     let mut places = [0u16; MOST_NODES];
     match contract(src, place, nodes, src.len(), &mut places, work) {

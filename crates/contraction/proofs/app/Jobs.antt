@@ -7,6 +7,7 @@ use native.Mathlib.Omega.{arith}
 use lib.ListN.{length, take, drop, length-take, length-drop}
 use lib.Seq.{slice}
 use Rattle.rules.specs.Basic.{Bytes}
+use Rattle.rules.specs.Limits.{limits, outputRoom}
 use Rattle.rules.specs.Name.{Name}
 use Rattle.rules.specs.Term.{Term, two, abs, app, encode, nodes, size}
 use Rattle.rules.specs.Substitution.{subst}
@@ -38,10 +39,10 @@ module _ {s : Bytes} {at n l : ℕ} where
     pub app-body : TermAt s body e
     app-body = first s body 2 e (a ∷ []) (in-app (j .stands) g .row)
 
-    pub app-few : nodes e ≤ 512
+    pub app-few : nodes e ≤ limits .nodes
     app-few = omega (arith, in-app (j .stands) g .count, j .nodes-in, j .few)
 
-    pub app-bounds : (at + 3 ≤ body) × (body ≤ length s) × (length s ≤ body + 4096) × (at + 3 ≤ length s)
+    pub app-bounds : (at + 3 ≤ body) × (body ≤ length s) × (length s ≤ body + limits .bytes) × (at + 3 ≤ length s)
     app-bounds =
         let h = past-name (j .stands) g in
         let b = at-end s body e app-body in
@@ -57,7 +58,7 @@ module _ {s : Bytes} {at n l : ℕ} where
       pub record Bounds : Type 0 where
         pub name : at + 3 ≤ body
         pub gap-is : f .gap ≡ 2 + length x
-        pub gap-small : f .gap ≤ 65536
+        pub gap-small : f .gap ≤ limits .bytes
         pub past : body ≤ f .end
         pub next : f .end ≡ body + size e
         pub ends : f .end + size a ≡ at + size t
@@ -109,7 +110,7 @@ module _ {s : Bytes} {at n l : ℕ} where
             let d : f .end - body - f .gap ≡ size e - (2 + length x) = omega (arith, b .next, b .gap-is) in
             (q .0 ∙ ap (λ (p : ℕ). p ∷ []) d, omega (arith, q .1, b .next, b .gap-is))
 
-        pub tail-room : {room : ℕ} → 4096 ≤ room → (f .gap ≤ f .end) × (body ≤ f .end - f .gap) × (f .end - f .gap ≤ length s) × (0 + (f .end - f .gap - body) ≤ room)
+        pub tail-room : {room : ℕ} → outputRoom limits ≤ room → (f .gap ≤ f .end) × (body ≤ f .end - f .gap) × (f .end - f .gap ≤ length s) × (0 + (f .end - f .gap - body) ≤ room)
         tail-room h =
             let b = app-numbers in
             let y = last .1 in
@@ -118,7 +119,7 @@ module _ {s : Bytes} {at n l : ℕ} where
         pub tail-few : 3 ≤ n
         tail-few = omega (arith, tail-some x a e last, app-numbers .count, j .nodes-in)
 
-        pub tail-stays : {made made′ : Bytes} {z : ℕ} → 4096 ≤ length made → Wrote made 0 (slice body (f .end - f .gap) s) made′ z
+        pub tail-stays : {made made′ : Bytes} {z : ℕ} → outputRoom limits ≤ length made → Wrote made 0 (slice body (f .end - f .gap) s) made′ z
             → {rule : Rule} → Contracts s at n l t rule none (subst x a e) made′ (Made (record { rule = rule; size = z; end = f .end; nodes = n - 3 }))
         tail-stays {made} {made′} {z} h w {rule} =
             let b = app-numbers in

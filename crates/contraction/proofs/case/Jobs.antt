@@ -5,6 +5,7 @@ use mathlib.Core.List.{List, [], _∷_}
 use native.Mathlib.Omega.{arith}
 use lib.ListN.{length, take, drop}
 use Rattle.rules.specs.Basic.{Bytes}
+use Rattle.rules.specs.Limits.{limits}
 use Rattle.rules.specs.Name.{Name}
 use Rattle.rules.specs.Term.{Term, one, branch, One, nodes, size}
 use Rattle.term.specs.Place.{TermAt}
@@ -27,7 +28,7 @@ module _ {s : Bytes} {at n l : ℕ} where
     pub case-value : TermAt s (p .end + 1) v
     case-value = first s (p .end + 1) 3 v (b ∷ d ∷ []) (in-branch (j .stands) m .row)
 
-    pub branches-few : (nodes b ≤ 512) × (nodes d ≤ 512)
+    pub branches-few : (nodes b ≤ limits .nodes) × (nodes d ≤ limits .nodes)
     branches-few = let i = in-branch (j .stands) m in (omega (arith, i .count, j .nodes-in, j .few), omega (arith, i .count, j .nodes-in, j .few))
 
     pub case-inside : (p .end + 1 ≤ length s) × (at + 2 ≤ p .second) × (p .second + 1 ≤ p .end)
@@ -47,7 +48,7 @@ module _ {s : Bytes} {at n l : ℕ} where
       pub case-nodes : 2 + q .nodes ≤ n
       case-nodes = omega (arith, h .nodes, in-branch (j .stands) m .count, j .nodes-in)
 
-      pub left-short : length s ≤ q .next + 4096
+      pub left-short : length s ≤ q .next + limits .bytes
       left-short = omega (arith, j .behind, j .short, h .next, in-branch (j .stands) m .past)
 
       -- the left
@@ -78,7 +79,7 @@ module _ {s : Bytes} {at n l : ℕ} where
         pub case-right : TermAt s (r .next) d
         case-right = right-at (g .next)
 
-        pub right-short : length s ≤ r .next + 4096
+        pub right-short : length s ≤ r .next + limits .bytes
         right-short = omega (arith, j .behind, j .short, h .next, g .next, in-branch (j .stands) m .past)
 
         pub right-nodes : 2 + q .nodes + r .nodes ≤ n

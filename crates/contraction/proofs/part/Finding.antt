@@ -6,6 +6,7 @@ use native.Mathlib.Omega.{arith}
 use lib.ListN.{length, take, drop, length-take, length-drop}
 use lib.Seq.{take-all}
 use Rattle.rules.specs.Basic.{Bytes}
+use Rattle.rules.specs.Limits.{limits}
 use Rattle.rules.specs.Name.{Name}
 use Rattle.rules.specs.Term.{Term, size}
 use Rattle.buffer.specs.Wrote.{Wrote}
@@ -16,7 +17,7 @@ use Rattle.substitution.specs.declared.place.KeptPlaces.{KeptPlaces}
 use Rattle.substitution.proofs.place.Writes.{held}
 use Rattle.contraction.specs.Parts.{Kept}
 
-module _ (s : Bytes) (i : ℕ) (short : length s ≤ i + 4096) where
+module _ (s : Bytes) (i : ℕ) (short : length s ≤ i + limits .bytes) where
   left-is : take (length s - i) (drop i s) ≡ drop i s
   left-is = take-all (length s - i) (drop i s) (omega (arith, length-drop i s))
 
@@ -24,7 +25,7 @@ module _ (s : Bytes) (i : ℕ) (short : length s ≤ i + 4096) where
     pub at-start : TermAt (take (length s - i) (drop i s)) 0 e
     at-start = record { rest = w .rest; bytes = left-is ∙ w .bytes }
 
-    pub left-short : length (take (length s - i) (drop i s)) ≤ 4096
+    pub left-short : length (take (length s - i) (drop i s)) ≤ limits .bytes
     left-short = let e : length (take (length s - i) (drop i s)) ≡ length s - i = ap (λ (z : Bytes). length z) left-is ∙ length-drop i s in omega arith
 
     pub found-room : (i ≤ length s) × (i + size e ≤ length s)

@@ -6,6 +6,7 @@ use mathlib.Core.List.{List}
 use native.Mathlib.Omega.{arith}
 use lib.ListN.{length, take, drop, replicate, length-replicate}
 use Rattle.rules.specs.Basic.{Bytes}
+use Rattle.rules.specs.Limits.{limits}
 use Rattle.rules.specs.Name.{Name}
 use Rattle.rules.specs.Term.{Term, nodes, size}
 use Rattle.rules.specs.Substitution.{subst}
@@ -13,7 +14,7 @@ use Rattle.rules.specs.declared.Rule.{Rule}
 use Rattle.term.proofs.node.Terms.{at-end}
 use Rattle.term.specs.Given.{Given}
 use Rattle.term.proofs.span.Rows.{term-part}
-use Rattle.substitution.specs.Put.{Putting, Turns, Puts}
+use Rattle.substitution.specs.Put.{Putting, Turns, Puts, Room}
 use Rattle.substitution.specs.declared.put.Put.{Put}
 use Rattle.contraction.specs.Contracts.{Contracts, contractedOf}
 use Rattle.contraction.specs.Parts.{Kept, PartIs, Placing, Pairing}
@@ -32,7 +33,7 @@ module _ {s : Bytes} {p : Part} {v : Term} (i : PartIs s p v) where
 -- ---- one value
 
 module _ {s : Bytes} {at end : ℕ} {b : Body} {p : Part} {n l : ℕ} {row : List ℕ} {whole : ℕ} {t : Term} {x : Name} {e v : Term} (j : Placing s at end b p n l row whole t x e v) where
-  pub bounds : (at ≤ end) × (end - at ≤ l) × (b .from ≤ b .end) × (b .end ≤ length s) × (l ≤ 4096)
+  pub bounds : (at ≤ end) × (end - at ≤ l) × (b .from ≤ b .end) × (b .end ≤ length s) × (l ≤ limits .bytes)
   bounds =
       let r = j .redex in (
         omega (arith, j .ends),
@@ -56,7 +57,7 @@ module _ {s : Bytes} {at end : ℕ} {b : Body} {p : Part} {n l : ℕ} {row : Lis
         short = omega (arith, j .ends, j .found .next, j .body-in, r .bytes-in, r .short);
       }
 
-  pub placed : {rule : Rule} {made made′ : Bytes} {q : Put} {c : Contracted} → 4096 ≤ length made
+  pub placed : {rule : Rule} {made made′ : Bytes} {q : Put} {c : Contracted} → Room made
       → Puts (n - nodes e) (l - (end - at) + (b .end - b .from) - size e) none (subst x v e) made made′ q → c ≡ contractedOf rule end q
       → Contracts s at whole l t rule none (subst x v e) made′ c
   placed room d is = put-contracts (j .redex) (j .ends) (omega (arith, j .count)) (omega (arith, j .ends, j .found .next)) room d is
@@ -64,11 +65,11 @@ module _ {s : Bytes} {at end : ℕ} {b : Body} {p : Part} {n l : ℕ} {row : Lis
 -- ---- two in turn
 
 -- the array that the first of them is written to
-pub array-room : 4096 ≤ length (replicate {A = ℕ} 4096 0)
-array-room = omega (arith, length-replicate {A = ℕ} 4096 0)
+pub array-room : Room (replicate (limits .bytes) 0)
+array-room = omega (arith, length-replicate {A = ℕ} (limits .bytes) 0)
 
 module _ {s : Bytes} {at middle past : ℕ} {p q : Part} {n l whole : ℕ} {t : Term} {x y : Name} {e v w : Term} (j : Pairing s at middle past p q n l whole t x y e v w) where
-  pub body-within : (nodes e ≤ 512) × (length s ≤ q .end + 4096)
+  pub body-within : (nodes e ≤ limits .nodes) × (length s ≤ q .end + limits .bytes)
   body-within = let r = j .redex in (omega (arith, j .nodes-in, r .nodes-in, r .few), omega (arith, j .body-past, r .behind, r .short))
 
   module _ {row : List ℕ} {b : Body} (k : Kept (q .end) (take (middle - (at + 2)) (drop (at + 2) s)) e row b) where
@@ -95,7 +96,7 @@ module _ {s : Bytes} {at middle past : ℕ} {p q : Part} {n l whole : ℕ} {t : 
           short = omega (arith, ends, j .body-past, j .ends, r .bytes-in, r .short);
         }
 
-    pub paired : {rule : Rule} {made made′ : Bytes} {z : Put} {c : Contracted} → 4096 ≤ length made
+    pub paired : {rule : Rule} {made made′ : Bytes} {z : Put} {c : Contracted} → Room made
         → Puts (n - nodes e) (l - (b .end - at)) (some (subst x v e)) (subst (take (past - (middle + 1)) (drop (middle + 1) s)) w (subst x v e)) made made′ z → c ≡ contractedOf rule (b .end) z
         → Contracts s at whole l t rule (some (subst x v e)) (subst y w (subst x v e)) made′ c
     paired room d is = put-contracts (j .redex) ends (omega (arith, j .count)) (omega (arith, ends)) room (rw (j .y-is) at d) is

@@ -16,7 +16,7 @@ use Rattle.laws.specs.free.Same.{both-true}
 use Rattle.buffer.specs.Wrote.{Wrote}
 use Rattle.term.proofs.node.Terms.{at-end}
 use Rattle.substitution.proofs.place.Writes.{wrote-part}
-use Rattle.substitution.specs.Put.{Puts}
+use Rattle.substitution.specs.Put.{Puts, Room}
 use Rattle.substitution.specs.declared.put.Put.{Put}
 use Rattle.substitution.specs.declared.put.Put.the-variants.{Written, Outgrown as Outgrew}
 use Rattle.substitution.proofs.put.Puts.{beside-within}
@@ -44,7 +44,7 @@ module _ {s : Bytes} {at n l : ℕ} {t : Term} (j : Redex s at n l t) where
       }
 
   pub put-contracts : {rule : Rule} {end others rest : ℕ} → end ≡ at + size t → others ≡ n - nodes t → rest ≡ l - size t
-      → {h : Option Term} {u : Term} {made made′ : Bytes} {p : Put} {c : Contracted} → 4096 ≤ length made
+      → {h : Option Term} {u : Term} {made made′ : Bytes} {p : Put} {c : Contracted} → Room made
       → Puts others rest h u made made′ p → c ≡ contractedOf rule end p → Contracts s at n l t rule h u made′ c
   put-contracts {rule} {end} {others} {rest} ee eo er {h} {u} {made} {made′} {p} {c} room d is =
       go (halfFits limits h && fitsAround n l t u) refl (d .says ∙ rw (eo, er)) (d .leaves ∙ rw (eo, er))

@@ -17,8 +17,8 @@ enum-told c = search needs
 enum-told-2 : tie.Need-enum-told-2
 enum-told-2 c = search needs
 
-refused-requires : tie.Need-refused-requires
-refused-requires c κs = search needs
+of-no-input-requires : tie.Need-of-no-input-requires
+of-no-input-requires c κs = search needs
 
 enum-known-taken : tie.Need-enum-known-taken
 enum-known-taken c = search needs
@@ -42,7 +42,7 @@ same-length-4 : tie.Need-same-length-4
 same-length-4 c = search needs
 
 returns-2 : tie.Need-returns-2
-returns-2 c = λ t d. outgrows (c .before .before .before .before .before .before .before .before .before .before .before .take-step .ensures t d) _ (c .before .before .before .before .before .before .before .before .before .before .before .take-step .last .1 .1 .1 .0) _ (c .before .before .before .before .before .before .before .before .before .before .before .take-step .kept .1 .1 .1 .0) (c .before .before .before .before .before .clear .ensures) (c .before .enum-told2 .given .1) _ (c .refused .ensures)
+returns-2 c = λ t d. outgrows (c .before .before .before .before .before .before .before .before .before .before .before .take-step .ensures t d) _ (c .before .before .before .before .before .before .before .before .before .before .before .take-step .last .1 .1 .1 .0) _ (c .before .before .before .before .before .before .before .before .before .before .before .take-step .kept .1 .1 .1 .0) (c .before .before .before .before .before .clear .ensures) (c .before .enum-told2 .given .1) _ (c .of-no-input .ensures)
 
 same-length-5 : tie.Need-same-length-5
 same-length-5 c = search needs
@@ -61,7 +61,7 @@ step-read-spec =
     clear-requires
     enum-told
     enum-told-2
-    refused-requires
+    of-no-input-requires
     enum-known-taken
     clear-requires-2
     same-length

@@ -10,7 +10,7 @@ use Rattle.redex.specs.Spot.{Spot, spot, step-spot, Contracts, spot-contracts}
 use Rattle.redex.specs.Around.{Around, Arounds, spot-around}
 use Rattle.redex.specs.Searched.{soughtAt, sought}
 use Rattle.term.specs.Given.{Reads}
-use Rattle.step.specs.Taken.{contracted, Contracting, Takes}
+use Rattle.step.specs.Taken.{contracted, Framed, Takes}
 use Rattle.redex.specs.declared.find.Sought.the-variants.{Redex, After}
 use Rattle.step.specs.declared.take.Taken.the-variants.{Normal}
 
@@ -18,11 +18,11 @@ use Rattle.step.specs.declared.take.Taken.the-variants.{Normal}
 pub record Spotted (src : Bytes) (n p : ℕ) (out : Bytes) (t : Term) : Type 0 where
   pub around : Term → Term
   pub redex : Term
-  pub job : Contracting src n p out around redex
+  pub job : Framed src n p out around redex
   pub is : step t ≡ contracted p around redex
 
 module _ {src : Bytes} {n : ℕ} {out : Bytes} {t : Term} (d : Reads src n out t) where
-  at-spot : (q : Spot) → Around t q → Contracts (some q) → Contracting src n (q .place) out (q .around) (q .redex)
+  at-spot : (q : Spot) → Around t q → Contracts (some q) → Framed src n (q .place) out (q .around) (q .redex)
   at-spot q a c =
       record {
         frame = a .frame;

@@ -9,9 +9,8 @@ use native.Mathlib.Omega.{arith}
 use lib.ListN.{length, drop, replicate, length-append, length-replicate}
 use lib.Seq.{slice, drop-at, length-slice}
 use Rattle.rules.specs.Basic.{Bytes}
-use Rattle.rules.specs.Limits.{limits}
+use Rattle.rules.specs.Limits.{limits, outputRoom}
 use Rattle.rules.specs.Term.{Term, encode, nodes, size, fits}
-use Rattle.rules.specs.declared.Rule.{Rule}
 use Rattle.rules.specs.Step.{found, halfFits, stepFits}
 use Rattle.laws.specs.free.Same.{both-true}
 use Rattle.laws.specs.reading.Fits.{within}
@@ -23,11 +22,11 @@ use Rattle.contraction.specs.Contracts.{Replaced, Contracts, becomes, outgrows}
 use Rattle.contraction.specs.declared.part.Contraction.{Contraction}
 use Rattle.contraction.specs.declared.part.Contracted.{Contracted}
 use Rattle.contraction.specs.declared.part.Contracted.the-variants.{Made, Outgrown}
-use Rattle.contraction.specs.Contracting as contracting
-use Rattle.step.specs.Taken.{contracted, Contracting, Takes}
+use Rattle.contraction.specs.Contracting.{Contracting}
+use Rattle.step.specs.Taken.{contracted, Framed, Takes}
 use Rattle.step.specs.declared.take.Taken.the-variants.{Found, Outgrown as Outgrew}
 
-module _ {src : Bytes} {n place : ℕ} {out : Bytes} {f : Term → Term} {t : Term} (j : Contracting src n place out f t) where
+module _ {src : Bytes} {n place : ℕ} {out : Bytes} {f : Term → Term} {t : Term} (j : Framed src n place out f t) where
   abbrev left : Bytes
   left = j .frame .left
 
@@ -49,7 +48,7 @@ module _ {src : Bytes} {n place : ℕ} {out : Bytes} {f : Term → Term} {t : Te
   long : length src ≡ place + (size t + length right)
   long = ap (λ (z : Bytes). length z) bytes ∙ omega (arith, length-append left (encode t ++ right), length-append (encode t) right, j .frame .long)
 
-  pub job : {work : Bytes} → 4096 ≤ length work → contracting.Contracting src place n (length src) (replicate 512 0) work t (j .rule) h u
+  pub job : {work : Bytes} → outputRoom limits ≤ length work → Contracting src place n (length src) (replicate (limits .nodes) 0) work t (j .rule) h u
   job c =
       let w = within limits (f t) (j .fits) in
       record {
@@ -63,7 +62,7 @@ module _ {src : Bytes} {n place : ℕ} {out : Bytes} {f : Term → Term} {t : Te
               short = omega (arith, w, ap (λ (z : Bytes). length z) (j .whole));
             };
         contracts = j .contracts;
-        row = length-replicate {A = ℕ} 512 0;
+        row = length-replicate {A = ℕ} (limits .nodes) 0;
         made-room = c;
       }
 
@@ -129,7 +128,7 @@ module _ {src : Bytes} {n place : ℕ} {out : Bytes} {f : Term → Term} {t : Te
           (ap (λ (z : Bytes). left ++ z) (sym (append-assoc (slice 0 k work) (slice end (place + size t) src) right) ∙ ap (λ (z : Bytes). z ++ right) (is .replaced .bytes))
           ∙ sym (j .frame .bytes u))
 
-      whole-long : place + (k + (length src - end)) ≤ 4096
+      whole-long : place + (k + (length src - end)) ≤ limits .bytes
       whole-long =
           let w = within limits (f u) (both-true (halfFits limits h) (fits limits (f u)) (is .passes) .1) in
           omega (
