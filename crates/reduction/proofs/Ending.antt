@@ -1,7 +1,6 @@
 -- From the loop's answer to the call's: zeros behind the term that stands in the output, and in the scratch. Assumes nothing.
 use Prim.Native.Nat.{ℕ, _+_, _-_, _≤_}
 use mathlib.Core.Path.{_≡_, sym, ap, _∙_}
-use mathlib.Core.Bool.{Bool}
 use mathlib.Core.List.{_++_, append-nil}
 use native.Mathlib.Omega.{arith}
 use lib.ListN.{length, take, drop, replicate, length-replicate}
@@ -10,7 +9,6 @@ use Rattle.rules.specs.Limits.{limits, outputRoom}
 use Rattle.rules.specs.Basic.{Bytes}
 use Rattle.rules.specs.Term.{encode, size}
 use Rattle.laws.specs.reading.Fits.{within}
-use Rattle.rules.specs.declared.Counts.{Counts}
 use Rattle.rules.specs.Reduction.{Reduced, stopped, outgrew}
 use Rattle.substitution.proofs.place.Writes.{zeros}
 use Rattle.reduction.specs.Turning.{last, Repeats}
@@ -18,6 +16,7 @@ use Rattle.reduction.specs.Told.{repeatedOf}
 use Rattle.reduction.specs.declared.course.Repeated.{Repeated}
 use Rattle.reduction.specs.declared.course.Repeated.the-variants.{Stopped, Outgrown}
 use Rattle.reduction.specs.Answers.{Reducing}
+use Rattle.reduction.specs.declared.Reduction.{Reduction}
 use Rattle.reduction.specs.declared.Reduced.the-variants.{Stopped as IsStopped, Refused as IsRefused}
 
 zeros-behind : (out xs : Bytes) (l : ℕ) → take l out ≡ xs → l ≡ length xs → l ≤ length out → sets out l (replicate (length out - l) 0) ≡ xs ++ replicate (length out - length xs) 0
@@ -31,8 +30,10 @@ zeros-behind out xs l e h g =
     ∙ ap (λ (z : Bytes). z ++ zs) e
     ∙ ap (λ (k : ℕ). xs ++ replicate (length out - k) 0) h
 
-stops : (d : Reduced) {n : ℕ} {c : Counts} {b : Bool} {l : ℕ} → Stopped n c b l ≡ repeatedOf d → (d ≡ stopped n c b (last d)) × (l ≡ size (last d))
-stops (stopped n c b t) e = (cc, cc)
+stops : (d : Reduced) {x : Reduction} → Stopped x ≡ repeatedOf d → (d ≡ stopped (x .steps) (x .counts) (x .normal) (last d)) × (x .length ≡ size (last d))
+stops (stopped n c b t) {x} e =
+    let q : x ≡ record { steps = n; counts = c; normal = b; length = size t } = cc in
+    (sym (ap (λ (y : Reduction). stopped (y .steps) (y .counts) (y .normal) t) q), ap (λ (y : Reduction). y .length) q)
 stops (outgrew n t) e = absurd (let z : _≡_ {A = ℕ} 0 1 = cc in omega arith)
 
 over : (d : Reduced) {n l : ℕ} → Outgrown n l ≡ repeatedOf d → (d ≡ outgrew n (last d)) × (l ≡ size (last d))
@@ -45,19 +46,22 @@ module _ {d : Reduced} {out₁ : Bytes} {r : Repeated} (w : Repeats d out₁ r) 
       z ∙ zeros-behind out₁ (encode (last d)) l (rw e (w .bytes)) e (omega (arith, within limits (last d) (w .fits)))
       ∙ ap (λ (k : ℕ). encode (last d) ++ replicate (k - size (last d)) 0) same
 
-  module _ {n : ℕ} {c : Counts} {b : Bool} {l : ℕ} (e : r ≡ Stopped n c b l) where
-    at-stop : (d ≡ stopped n c b (last d)) × (l ≡ size (last d))
+  module _ {x : Reduction} (e : r ≡ Stopped x) where
+    abbrev l : ℕ
+    l = x .length
+
+    at-stop : (d ≡ stopped (x .steps) (x .counts) (x .normal) (last d)) × (l ≡ size (last d))
     at-stop = stops d (sym e ∙ w .says)
 
     pub stop-room : l ≤ length out₁
     stop-room = omega (arith, at-stop .1, within limits (last d) (w .fits))
 
     module _ (scratch scratch₁ : Bytes) {scratch₂ out₂ : Bytes} (p : length scratch₁ ≡ length scratch) (q : scratch₂ ≡ sets scratch₁ 0 (replicate (length scratch₁ - 0) 0)) (z : out₂ ≡ sets out₁ l (replicate (length out₁ - l) 0)) where
-      pub stop : Reducing d out scratch (IsStopped (record { steps = n; counts = c; normal = b; length = l })) out₂ scratch₂
+      pub stop : Reducing d out scratch (IsStopped x) out₂ scratch₂
       stop =
           let s = at-stop in
           rw (s .0) (record {
-            says = ap (λ (k : ℕ). IsStopped (record { steps = n; counts = c; normal = b; length = k })) (s .1);
+            says = ap (λ (k : ℕ). IsStopped (record { steps = x .steps; counts = x .counts; normal = x .normal; length = k })) (s .1);
             leaves = behind l (s .1) z;
             clears = q ∙ zeros scratch₁ (length scratch) p;
           })

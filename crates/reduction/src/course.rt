@@ -4,6 +4,7 @@ ghost use Prim.Native.Nat.{_<_};
 ghost use Rattle.rules.specs.Reduction.{noCounts, plus as plusOf};
 ghost use Rattle.reduction.specs.Counted.{total};
 ghost use Rattle.reduction.specs.Told.{onward};
+use crate::Reduction;
 use crate::place::Place;
 use contraction::part::Contraction;
 use rules::Counts;
@@ -17,19 +18,11 @@ pub struct Course {
     pub counts: Counts,
 }
 
-// Stopped, at the limit or because no step remains; or a step outgrew the limits. Either way the steps done, and the length of the
-// last term that fitted.
+// Stopped, at the limit or because no step remains; or a step outgrew the limits: the steps done, and the length of the last term
+// that fitted.
 pub enum Repeated {
-    Stopped {
-        steps: u32,
-        counts: Counts,
-        normal: bool,
-        length: usize,
-    },
-    Outgrown {
-        steps: u32,
-        length: usize,
-    },
+    Stopped(Reduction),
+    Outgrown { steps: u32, length: usize },
 }
 
 pub fn no_counts() -> Counts

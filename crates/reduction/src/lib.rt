@@ -43,34 +43,20 @@ fn reduce_read(term: &[u8], nodes: usize, limit: u32, out: &mut [u8], scratch: &
     requires { ⌜ ((t : Term) × Reads (now term) nodes (now out) t) × (scratchRoom limits ≤ length (now scratch)) ⌝ }
     ensures { λ r. ⌜ ((t : Term) → Reads (now (term .entry)) nodes (now (out .entry)) t → Reducing (reduce limits limit t) (now (out .entry)) (now (scratch .entry)) r (now (out .exit)) (now (scratch .exit))) ⌝ }
 {
-    let repeated = repeat_steps(term, nodes, limit, out, scratch);
-    match repeated {
-        Repeated::Stopped {
-            steps,
-            counts,
-            normal,
-            length,
-        } => {
-            leave(out, length, scratch);
-            Reduced::Stopped(Reduction {
-                steps,
-                counts,
-                normal,
-                length,
-            })
+    match repeat_steps(term, nodes, limit, out, scratch) {
+        Repeated::Stopped(reduction) => {
+            leave(out, reduction.length, scratch);
+            Reduced::Stopped(reduction)
         }
-        Repeated::Outgrown {
-            steps,
-            length: last,
-        } => {
-            leave(out, last, scratch);
+        Repeated::Outgrown { steps, length } => {
+            leave(out, length, scratch);
             Reduced::Refused {
                 refusal: Refusal {
                     number: 8,
                     place: steps as usize,
                     input: 0,
                 },
-                length: last,
+                length,
             }
         }
     }

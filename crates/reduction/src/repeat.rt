@@ -7,6 +7,7 @@ ghost use Rattle.rules.specs.Term.{Term};
 ghost use Rattle.rules.specs.Reduction.{reduce};
 ghost use Rattle.term.specs.Given.{Reads};
 ghost use Rattle.reduction.specs.Turning.{Stands, Room, Repeats};
+use crate::Reduction;
 use crate::course::Course;
 use crate::course::Repeated;
 use crate::course::no_counts;
@@ -84,10 +85,10 @@ pub fn repeat_steps(
         };
         return with_room(from, limit, out, scratch, &mut stack);
     }
-    Repeated::Stopped {
+    Repeated::Stopped(Reduction {
         steps: 0,
         counts,
         normal: true,
         length: at.o,
-    }
+    })
 }

@@ -3,6 +3,7 @@ ghost use Rattle.rules.specs.Term.{Term};
 ghost use Prim.Native.Nat.{ℕ};
 ghost use Rattle.reduction.specs.Fired.{Row};
 ghost use Rattle.reduction.specs.Turning.{Stands, AtRedex, Room, Turns};
+use crate::Reduction;
 use crate::course::Course;
 use crate::course::Repeated;
 use crate::course::one_more;
@@ -69,20 +70,20 @@ pub fn turn(
     let place = to_redex(scratch, from.i, out, from.o, stack, from.depth);
     let o = place.o;
     if !place.going {
-        return Turned::Ended(Repeated::Stopped {
+        return Turned::Ended(Repeated::Stopped(Reduction {
             steps,
             counts,
             normal: true,
             length: o,
-        });
+        }));
     }
     if steps == limit {
-        return Turned::Ended(Repeated::Stopped {
+        return Turned::Ended(Repeated::Stopped(Reduction {
             steps,
             counts,
             normal: false,
             length: run::copy(scratch, place.i, scratch.len(), out, o),
-        });
+        }));
     }
     contract_here(course, place, out, scratch, stack, places, made)
 }

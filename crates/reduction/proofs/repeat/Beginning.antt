@@ -16,7 +16,7 @@ use Rattle.term.specs.Given.{Reads}
 use Rattle.reduction.specs.Standing.{Standing, Finds}
 use Rattle.reduction.specs.declared.place.Place.{Place}
 use Rattle.reduction.proofs.moves.Wholes.{stands-first}
-use Rattle.reduction.specs.declared.course.Repeated.the-variants.{Stopped}
+use Rattle.reduction.specs.Told.{stoppedAt}
 use Rattle.reduction.specs.Turning.{Carried, Stands, Repeats}
 use Rattle.reduction.proofs.repeat.Turns.{rests}
 
@@ -43,5 +43,5 @@ module _ {term : Bytes} {n : ℕ} {out : Bytes} {t : Term} (d : Reads term n out
     first e = record { whole = t; carried = none-done; stands = f .finds e .stands }
 
     -- there is no redex
-    pub settled : p .going ≡ false → Repeats (reduce limits limit t) out₁ (Stopped 0 c true (p .o))
+    pub settled : p .going ≡ false → Repeats (reduce limits limit t) out₁ (stoppedAt 0 c true (p .o))
     settled e = rests none-done (f .ends e)

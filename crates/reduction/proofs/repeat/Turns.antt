@@ -23,10 +23,10 @@ use Rattle.reduction.specs.declared.place.Place.{Place}
 use Rattle.reduction.proofs.moves.Redexes.{redex-steps}
 use Rattle.reduction.proofs.moves.Wholes.{join-long, join-bytes, join-room}
 use Rattle.reduction.specs.Counted.{counted}
-use Rattle.reduction.specs.Told.{onward}
+use Rattle.reduction.specs.Told.{stoppedAt, onward}
 use Rattle.reduction.specs.declared.course.Course.{Course}
 use Rattle.reduction.specs.declared.course.Repeated.{Repeated}
-use Rattle.reduction.specs.declared.course.Repeated.the-variants.{Stopped, Outgrown}
+use Rattle.reduction.specs.declared.course.Repeated.the-variants.{Outgrown}
 use Rattle.reduction.specs.Carried.{at-limit, at-rest, at-found, at-over}
 use Rattle.reduction.specs.Turning.{Carried, Stands, AtRedex, Room, GoesOn, Turns, Repeats}
 use Rattle.reduction.specs.declared.turn.Turned.{Turned}
@@ -42,7 +42,7 @@ still-going false e = sym e
 
 -- no step remains
 pub rests : {limit : ℕ} {t w : Term} {g : Course} {out : List ℕ} {l : ℕ} → Carried limit t w g → Ended w out l
-    → Repeats (reduce limits limit t) out (Stopped (g .steps) (g .counts) true l)
+    → Repeats (reduce limits limit t) out (stoppedAt (g .steps) (g .counts) true l)
 rests {limit} {w = w} {g = g} k e =
     rw (k .carries ∙ at-rest limits (g .steps) (g .counts) w (limit - g .steps) (e .none))
     (record { says = rw (e .long); bytes = rw (← e .long) (e .bytes); fits = e .fits })
@@ -61,7 +61,7 @@ module _ {limit : ℕ} {t : Term} {out scratch stack out₁ stack₁ : List ℕ}
 
   -- at the limit
   pub at-end : g .steps ≡ limit → {out₂ : List ℕ} {q : ℕ} → Wrote out₁ (p .o) (slice (p .i) (length scratch) scratch) out₂ q
-      → Repeats (reduce limits limit t) out₂ (Stopped (g .steps) (g .counts) false q)
+      → Repeats (reduce limits limit t) out₂ (stoppedAt (g .steps) (g .counts) false q)
   at-end h {out₂} {q} v =
       let s = on .stands in
       let z : limit - g .steps ≡ 0 = omega arith in
