@@ -1,4 +1,4 @@
-// Goes ahead over the good nodes of a term as `ahead` does, and tells by the way whether any of them is a redex.
+// Goes ahead over the good nodes of a term as reader::ahead does, and tells by the way whether any of them is a redex.
 ghost use mathlib.Core.Path.{_≡_};
 ghost use mathlib.Core.Bool.{true};
 ghost use Prim.Native.Nat.{_+_, _≤_, _<_};
