@@ -23,15 +23,10 @@ pub const FORMULA: u8 = 2;
 
 pub const INDEX: u8 = 3;
 
+// Those that carry something come first, so that a walk over a checked proof makes no other test.
 pub fn carried_by(tag: u8) -> u8
     ensures { λ r. ⌜ r ≡ carriedBy (headAt ruleHeads tag) ⌝ }
 {
-    if tag < 1 {
-        return NO_RULE;
-    }
-    if 18 < tag {
-        return NO_RULE;
-    }
     if tag == 2 {
         return FORMULA;
     }
@@ -40,6 +35,12 @@ pub fn carried_by(tag: u8) -> u8
     }
     if tag == 17 {
         return INDEX;
+    }
+    if tag < 1 {
+        return NO_RULE;
+    }
+    if 18 < tag {
+        return NO_RULE;
     }
     NOTHING
 }

@@ -1,4 +1,4 @@
-// Goes ahead over the good nodes of a term as `ahead` does, and tells by the way whether any of them is a redex.
+// Goes ahead over the good nodes of a term as reader::ahead does, and tells by the way whether any of them is a redex.
 ghost use mathlib.Core.Path.{_≡_};
 ghost use mathlib.Core.Bool.{true};
 ghost use Prim.Native.Nat.{_+_, _≤_, _<_};
@@ -9,6 +9,7 @@ ghost use Rattle.reader.specs.Classes.{Classes};
 ghost use Rattle.reader.specs.Count.{Gone};
 ghost use Rattle.redex.specs.Swept.{Swept};
 ghost use Rattle.redex.specs.After.{CalmAt};
+use crate::tags::never_reduces;
 use crate::tags::reduces;
 use reader::ahead::Ahead;
 use reader::ahead::last_pair;
@@ -31,10 +32,7 @@ fn ended(next: usize, met: usize, known: usize, names: usize, calm: bool) -> Cal
     Calmly { gone, calm }
 }
 
-// The tags of nodes that some first part makes a redex: one bit a tag. A node with one name is none of them.
-const WANTING: usize = 236112;
-
-// Whether all was calm so far and a node with that tag is no redex either. Its first part follows its names.
+// Whether all was calm so far and a node with that tag is no redex either. Its first part follows its names; one with one name is none.
 fn calm_with(s: &[u8], calm: bool, tag: usize, names: usize, past: usize) -> bool
     requires { ⌜ tag < 20 ⌝ }
     ensures { λ r. ⌜ (r ≡ true → (calm ≡ true) × CalmAt (now (s .entry)) tag names past) ⌝ }
@@ -42,7 +40,7 @@ fn calm_with(s: &[u8], calm: bool, tag: usize, names: usize, past: usize) -> boo
     if names == 1 {
         return calm;
     }
-    if (WANTING >> tag) % 2 == 0 {
+    if never_reduces(tag) {
         return calm;
     }
     if s.len() <= past {

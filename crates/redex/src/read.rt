@@ -60,7 +60,7 @@ fn accepted(s: &[u8], nodes: usize, calm: bool, from: usize) -> Resting
     Resting::Unsure(nodes)
 }
 
-// What reading one node finds, where some were gone over. `ahead` does the same in its read_row: said once for both, it would be a call in every reader.
+// What reading one node finds, where some were gone over. reader::ahead does the same in its read_row: said once for both, it would be a call in every reader.
 fn read_on(s: &[u8], t: &[u8; 256], gone: Ahead) -> Read
     requires { ⌜ Classes (layoutOf Term) (now t) ⌝ }
     requires { ⌜ Gone (layoutOf Term) (now s) 0 1 (gone .next) (gone .met) (gone .known) (gone .names) × (gone .met ≤ 65600) ⌝ }

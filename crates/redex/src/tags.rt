@@ -1,7 +1,9 @@
 // What a node's tag tells of the search: how many of its parts are entered, and with its first part's tag, whether it is a redex.
 ghost use mathlib.Core.Path.{_≡_};
 ghost use Prim.Native.Nat.{_<_};
+ghost use Rattle.rules.specs.Basic.{_==_};
 ghost use Rattle.redex.specs.Searched.{entersAfter, reduces as reducesOf};
+ghost use Rattle.redex.specs.After.{wanting};
 
 // How many parts the search enters: two bits a tag.
 const ENTERS: usize = 27133306496;
@@ -25,4 +27,15 @@ pub fn reduces(tag: usize, first: usize) -> bool
     ensures { λ r. ⌜ r ≡ reducesOf tag first ⌝ }
 {
     (WANTS >> (tag * 3)) % 8 == (GIVES >> (first * 3)) % 8
+}
+
+// The tags whose entry of WANTS is not 7, one bit a tag: a test of WANTS itself costs four instructions more at each node that is read.
+const WANTING: usize = 236112;
+
+// Whether no first part makes a node of that tag a redex.
+pub fn never_reduces(tag: usize) -> bool
+    requires { ⌜ tag < 20 ⌝ }
+    ensures { λ r. ⌜ r ≡ (wanting tag == 0) ⌝ }
+{
+    (WANTING >> tag) % 2 == 0
 }

@@ -33,7 +33,7 @@ module _ (f : ℕ → Bool) where
 
 -- what a tag carries, by the tests of the code
 abbrev pub carriedTests : ℕ → ℕ
-carriedTests b = if b <? 1 then 0 else (if 18 <? b then 0 else (if b == 2 then 2 else (if b == 16 then 3 else (if b == 17 then 3 else 1))))
+carriedTests b = if b == 2 then 2 else (if b == 16 then 3 else (if b == 17 then 3 else (if b <? 1 then 0 else (if 18 <? b then 0 else 1))))
 
 pub carried-is : (b : ℕ) → b < 256 → carriedBy (headAt ruleHeads b) ≡ carriedTests b
 carried-is b h = eqb-true _ _ (below (λ b. carriedBy (headAt ruleHeads b) == carriedTests b) 256 refl b h)
