@@ -28,11 +28,11 @@ pub enum Extraction {
 }
 
 // A draft has five numbers for each rule, and two sizes for each rule and each of the two parts with which it begins.
-pub const ROW: usize = 5;
+const ROW: usize = 5;
 
-pub const FIRST_PARTS: usize = 2;
+const FIRST_PARTS: usize = 2;
 
-pub const SIZE: usize = 2;
+const SIZE: usize = 2;
 
 // Arrays are set to zeros where they are made, so that those for the most rules would cost a short proof more than the work.
 const FEW: usize = 64;

@@ -37,23 +37,25 @@ use Rattle.proof_draft.specs.declared.entry.CutEntry.{CutEntry}
 use Rattle.proof_draft.proofs.entry.Row.{R}
 use Rattle.proof_draft.proofs.entry.Lent.{KeptRow, KeptShared, lend-row, row-back, share-row, shared-back}
 use Rattle.proof_draft.specs.Walk.{Done}
+use Rattle.proof_draft.proofs.own.Walking.{Names}
 use Rattle.extract.specs.Whole.{Checked}
 use Rattle.extract.specs.declared.ending.Ended.{Ended}
 use Rattle.extract.specs.Ending.{Closes}
 use Rattle.extract.proofs.ending.Ended as K
+use Rattle.extract.proofs.ending.Ended.Laws as K′
 use Rattle.proof_draft.specs.Entries.{none, zeroed}
 use Rattle.extract.proofs.ending.close as close-of
 use Rattle.proof_draft.proofs.entry.clear_rows as clear-of
 
-abbrev pub Names : Type 0
-Names = ℕ × GName
-
--- the machine value of a draft, and that what is had is owned as it is spelt
+-- the machine value of a draft, and that a draft or an ending that is had is owned as it is spelt
 abbrev pub mach-draft : Drafted → Val
 mach-draft r = vstruct (vcons (vint w64 (r .next)) (vcons (vint w64 (r .used)) (vcons (vint w64 (r .counter)) (vcons (vint w64 (r .part)) vnil))))
 
 pub draft-is : {v : Val} (r : Drafted) → Is D.the-row r (v ∷ []) → Is D.the-row r (mach-draft r ∷ [])
 draft-is r is = LL.owes D.the-type D′.the-laws r (LL.owed D.the-type D′.the-laws r _ is)
+
+pub whole-is : {v : Val} (r : Ended) → Is K.the-row r (v ∷ []) → Is K.the-row r (LL.vals K.the-type K′.the-laws r)
+whole-is r is = LL.owes K.the-type K′.the-laws r (LL.owed K.the-type K′.the-laws r _ is)
 
 module _ {M : Type 1} (𝓤 : URA M) (H : Heap 𝓤) (A : Atoms 𝓤) (mem : Memory → SProp 𝓤) (run : Routine → Fun 𝓤) where
   -- the contracts that the proof cites
@@ -85,9 +87,6 @@ module _ {M : Type 1} (𝓤 : URA M) (H : Heap 𝓤) (A : Atoms 𝓤) (W : Given
   abbrev v-cs : Val
   v-cs = sliceVal (b-cs, o-cs) m-cs
 
-  abbrev Shr-cs : Lft → GName → List (CutEntry) → Fml
-  Shr-cs ν δ x = ShrSlice erased ν (R) .own (ref-cs δ x) (v-cs ∷ [])
-
   abbrev Mut-cs : Lft → GName → List (CutEntry) → Fml
   Mut-cs ν δ x = MutSlice erased ν (R) .own (ref-cs δ x) (v-cs ∷ [])
 
@@ -115,9 +114,6 @@ module _ {M : Type 1} (𝓤 : URA M) (H : Heap 𝓤) (A : Atoms 𝓤) (W : Given
   abbrev v-out : Val
   v-out = sliceVal (b-out, o-out) m-out
 
-  abbrev Shr-out : Lft → GName → List (ℕ) → Fml
-  Shr-out ν δ x = ShrSlice erased ν (u8) .own (ref-out δ x) (v-out ∷ [])
-
   abbrev Mut-out : Lft → GName → List (ℕ) → Fml
   Mut-out ν δ x = MutSlice erased ν (u8) .own (ref-out δ x) (v-out ∷ [])
 
@@ -129,9 +125,6 @@ module _ {M : Type 1} (𝓤 : URA M) (H : Heap 𝓤) (A : Atoms 𝓤) (W : Given
 
   abbrev v-scr : Val
   v-scr = sliceVal (b-scr, o-scr) m-scr
-
-  abbrev Shr-scr : Lft → GName → List (ℕ) → Fml
-  Shr-scr ν δ x = ShrSlice erased ν (u8) .own (ref-scr δ x) (v-scr ∷ [])
 
   abbrev Mut-scr : Lft → GName → List (ℕ) → Fml
   Mut-scr ν δ x = MutSlice erased ν (u8) .own (ref-scr δ x) (v-scr ∷ [])

@@ -46,12 +46,14 @@ use Rattle.proof_draft.specs.Entries.{none, zeroed, pairs}
 use Rattle.proof_draft.proofs.entry.Row.{R}
 use Rattle.proof_draft.proofs.entry.Rules.{if-then, free-at, free-four, free-eight}
 use Rattle.proof_draft.proofs.entry.Lent.{KeptRow, KeptShared, lend-row, row-back, share-row, shared-back}
+use Rattle.proof_draft.proofs.own.Walking.{Names}
 use Rattle.extract.specs.Whole.{Checked}
 use Rattle.extract.specs.declared.ending.Ended.{Ended}
 use Rattle.extract.specs.Ending.{Extracts, Begins, Closes}
 use Rattle.extract.proofs.ending.Ended as K
 use Rattle.extract.proofs.ending.Ended.Laws as K′
 use Rattle.extract.proofs.ending.Ending.{walk-needs, walk-gives, stop-gives}
+use Rattle.extract.proofs.extractor.Closing.{whole-is}
 use Rattle.extract.proofs.ending.begin as begin-of
 use Rattle.extract.proofs.ending.begin.Symbol as begin-def
 use Rattle.extract.proofs.ending.begin.Symbol.{name as #begin}
@@ -64,12 +66,6 @@ use Rattle.extract.proofs.extractor.extract_with.Key.{name as #f}
 use Rattle.extract.proofs.extractor.extract_with as f
 use Rattle.extract.proofs.extractor.extract_with.Statement as stated
 use Rattle.extract.proofs.extractor.extract_with.Code as code
-
-abbrev Names : Type 0
-Names = ℕ × GName
-
-whole-is : {v : Val} (r : Ended) → Is K.the-row r (v ∷ []) → Is K.the-row r (LL.vals K.the-type K′.the-laws r)
-whole-is r is = LL.owes K.the-type K′.the-laws r (LL.owed K.the-type K′.the-laws r _ is)
 
 abbrev with-stayed : Stays (f.ended .signature .params) (f.ended .kept)
 with-stayed = (stay-none (λ _. u32) yes, (stay-none-slice (0 ∷ []) tt (plain (λ _. u8)) yes, (stay-slice (1 ∷ []) tt (plain (λ _. R)), (stay-slice (2 ∷ []) tt (plain (λ _. u8)), (stay-slice (3 ∷ []) tt (plain (λ _. u8)), tt)))))
@@ -103,9 +99,6 @@ module _ {M : Type 1} (𝓤 : URA M) (H : Heap 𝓤) (A : Atoms 𝓤) (W : Given
 
   abbrev v-cs : Val
   v-cs = sliceVal (b-cs, o-cs) m-cs
-
-  abbrev Shr-cs : Lft → GName → List (CutEntry) → Fml
-  Shr-cs ν δ x = ShrSlice erased ν (R) .own (ref-cs δ x) (v-cs ∷ [])
 
   abbrev Mut-cs : Lft → GName → List (CutEntry) → Fml
   Mut-cs ν δ x = MutSlice erased ν (R) .own (ref-cs δ x) (v-cs ∷ [])

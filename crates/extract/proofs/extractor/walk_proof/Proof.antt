@@ -62,7 +62,7 @@ use Rattle.extract.proofs.ending.Ended.Laws as K′
 use Rattle.extract.proofs.ending.Ending.{rowsRoom, noRows, walk-starts, walk-done, closes-few}
 use Rattle.proof_draft.specs.Entries.{none, zeroed}
 use Rattle.extract.proofs.extractor.Closing as closing
-use Rattle.extract.proofs.extractor.Closing.{draft-is}
+use Rattle.extract.proofs.extractor.Closing.{draft-is, whole-is}
 use Rattle.extract.proofs.ending.close.Symbol as close-def
 use Rattle.extract.proofs.ending.close.Symbol.{name as #close}
 use Rattle.extract.proofs.ending.close.Met as close-thm
@@ -73,9 +73,6 @@ use Rattle.extract.proofs.extractor.walk_proof.Key.{name as #f}
 use Rattle.extract.proofs.extractor.walk_proof as f
 use Rattle.extract.proofs.extractor.walk_proof.Statement as stated
 use Rattle.extract.proofs.extractor.walk_proof.Code as code
-
-whole-is : {v : Val} (r : Ended) → Is K.the-row r (v ∷ []) → Is K.the-row r (LL.vals K.the-type K′.the-laws r)
-whole-is r is = LL.owes K.the-type K′.the-laws r (LL.owed K.the-type K′.the-laws r _ is)
 
 clears-fits : {v : Val} (r : Ended) → Is K.the-row r (v ∷ []) → r .clears < 2 ^ 64
 clears-fits r is = LL.owed K.the-type K′.the-laws r _ is .1 .1 .0 .1
@@ -115,9 +112,6 @@ module _ {M : Type 1} (𝓤 : URA M) (H : Heap 𝓤) (A : Atoms 𝓤) (W : Given
   abbrev v-cs : Val
   v-cs = sliceVal (b-cs, o-cs) m-cs
 
-  abbrev Shr-cs : Lft → GName → List (CutEntry) → Fml
-  Shr-cs ν δ x = ShrSlice erased ν (R) .own (ref-cs δ x) (v-cs ∷ [])
-
   abbrev Mut-cs : Lft → GName → List (CutEntry) → Fml
   Mut-cs ν δ x = MutSlice erased ν (R) .own (ref-cs δ x) (v-cs ∷ [])
 
@@ -130,9 +124,6 @@ module _ {M : Type 1} (𝓤 : URA M) (H : Heap 𝓤) (A : Atoms 𝓤) (W : Given
   abbrev v-out : Val
   v-out = sliceVal (b-out, o-out) m-out
 
-  abbrev Shr-out : Lft → GName → List (ℕ) → Fml
-  Shr-out ν δ x = ShrSlice erased ν (u8) .own (ref-out δ x) (v-out ∷ [])
-
   abbrev Mut-out : Lft → GName → List (ℕ) → Fml
   Mut-out ν δ x = MutSlice erased ν (u8) .own (ref-out δ x) (v-out ∷ [])
 
@@ -144,9 +135,6 @@ module _ {M : Type 1} (𝓤 : URA M) (H : Heap 𝓤) (A : Atoms 𝓤) (W : Given
 
   abbrev v-scr : Val
   v-scr = sliceVal (b-scr, o-scr) m-scr
-
-  abbrev Shr-scr : Lft → GName → List (ℕ) → Fml
-  Shr-scr ν δ x = ShrSlice erased ν (u8) .own (ref-scr δ x) (v-scr ∷ [])
 
   abbrev Mut-scr : Lft → GName → List (ℕ) → Fml
   Mut-scr ν δ x = MutSlice erased ν (u8) .own (ref-scr δ x) (v-scr ∷ [])
