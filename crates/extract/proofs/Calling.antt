@@ -1,13 +1,13 @@
 -- What the rules say of the call, by what its buffers' lengths and the reader's answer are. Assumes nothing.
-use Prim.Native.Nat.{ℕ, _<_, _≤_}
+use Prim.Native.Nat.{ℕ, _≤_}
 use mathlib.Core.Path.{_≡_, refl, sym, ap, _∙_}
 use mathlib.Core.Bool.{Bool, true, false, _&&_}
 use mathlib.Core.List.{List, []}
 use native.Mathlib.Omega.{arith}
 use lib.ListN.{length, replicate}
-use borrow.Author.Tests.{le-leb, lt-leb}
+use borrow.Author.Tests.{le-leb}
 use Rattle.rules.specs.Basic.{Bytes, if_then_else_, _≤?_, _<?_}
-use Rattle.rules.specs.Limits.{limits, mostCounter, entryRoom}
+use Rattle.rules.specs.Limits.{limits, outputRoom, scratchRoom, entryRoom, mostCounter}
 use Rattle.rules.specs.declared.Refusal.{Refusal}
 use Rattle.rules.specs.declared.Answer.the-variants.{Good, Refused as Bad}
 use Rattle.rules.specs.Refusal.{Outcome, good, refused, mapped, answered, refuse}
@@ -19,9 +19,11 @@ use Rattle.rules.specs.Buffers.{lent, filled, cleared}
 use Rattle.rules.specs.Calls.{Entry, workRoom, counterAfter, extractEnding, proofOutcome, extractCall}
 use Rattle.laws.specs.reading.Octets.{Octets}
 use Rattle.laws.specs.reading.Numbers.{proof-spares}
+use Rattle.buffer.specs.Rooms.{Rooms}
 use Rattle.proof.specs.Accepted.{accepts-proof, refuses-proof}
 use Rattle.extract.specs.Sizes.{extract-sizes}
 use Rattle.extract.specs.Whole.{decided, outcome, extraction, told, Finished, Checked}
+use Rattle.extract.specs.Ending.{Alone}
 use Rattle.extract.specs.declared.Extraction.{Extraction}
 use Rattle.extract.specs.declared.Extraction.the-variants.{Refused}
 
@@ -43,17 +45,10 @@ told-is n (good e) = refl
 told-is n (refused q) = refl
 
 module _ (n : ℕ) (p out scratch : Bytes) where
-  -- what the call ensures of its answer, its output and its scratch, whatever row of entries is lent
-  abbrev pub Is : Extraction → Bytes → Bytes → Type 0
-  Is r out′ scratch′ =
-      ((es : List Entry) → entryRoom limits ≤ length es → r ≡ extraction (extractCall limits n p out scratch es .answer) (extractCall limits n p out scratch es .counter))
-      × (((es : List Entry) → entryRoom limits ≤ length es → out′ ≡ extractCall limits n p out scratch es .output)
-      × ((es : List Entry) → entryRoom limits ≤ length es → scratch′ ≡ extractCall limits n p out scratch es .scratch))
-
   -- with that much room, what the proof comes to
   call-is : (b : Bool) → workRoom limits out scratch ≡ b → (o : Outcome (Term × ℕ)) → proofOutcome limits n p ≡ o → {r : Extraction} {out′ scratch′ : Bytes}
       → r ≡ extraction (lent b (extractEnding o) .says) (counterAfter n (lent b (extractEnding o) .says) o)
-      → out′ ≡ filled out (lent b (extractEnding o) .writes) → scratch′ ≡ cleared 0 scratch (lent b (extractEnding o) .says) → Is r out′ scratch′
+      → out′ ≡ filled out (lent b (extractEnding o) .writes) → scratch′ ≡ cleared 0 scratch (lent b (extractEnding o) .says) → Alone n p out scratch r out′ scratch′
   unfolding extractCall
   call-is b e o q {r} {out′} {scratch′} x y z =
       ((λ es h. let k = room es h in rw (k, q) x), ((λ es h. let k = room es h in rw (k, q) y), (λ es h. let k = room es h in rw (k, q) z)))
@@ -68,37 +63,32 @@ module _ (n : ℕ) (p out scratch : Bytes) where
       room : (es : List Entry) → entryRoom limits ≤ length es → (workRoom limits out scratch && (entryRoom limits ≤? length es)) ≡ b
       room es h = both (entryRoom limits ≤? length es) (le-leb (entryRoom limits) (length es) h)
 
-  no-room : workRoom limits out scratch ≡ false → {r : Extraction} → r ≡ told (refuse 1 0 0) → Is r out scratch
-  no-room e q = call-is false e (proofOutcome limits n p) refl q refl refl
+  module _ {b : Bool} (w : Rooms (length out) (length scratch) b) where
+    pub no-room : b ≡ true → {r : Extraction} → r ≡ told (refuse 1 0 0) → Alone n p out scratch r out scratch
+    no-room e q = call-is false (w .few e) (proofOutcome limits n p) refl q refl refl
 
-  pub short-output : length out < 4096 → {r : Extraction} → r ≡ told (refuse 1 0 0) → Is r out scratch
-  short-output h q = no-room (rw (lt-leb 4096 (length out) h)) q
+    module _ (h : b ≡ false) where
+      enough : workRoom limits out scratch ≡ true
+      enough = rw (le-leb (outputRoom limits) (length out) (w .many h .0), le-leb (scratchRoom limits) (length scratch) (w .many h .1))
 
-  pub short-scratch : 4096 ≤ length out → length scratch < 8192 → {r : Extraction} → r ≡ told (refuse 1 0 0) → Is r out scratch
-  short-scratch h k q = no-room (rw (le-leb 4096 (length out) h, lt-leb 8192 (length scratch) k)) q
+      pub bad-proof : (q : Refusal) → answered (mapped rules (readProof limits 1 p)) ≡ Bad q → Alone n p out scratch (Refused q) out scratch
+      bad-proof q e =
+          let r = refuses-proof limits 1 p e in
+          call-is true enough (refused q) (rw r) refl refl (sym (ap (λ (b : Bool). if b then scratch else replicate (length scratch) 0) (proof-spares limits 1 p q r)))
 
-  module _ (h : 4096 ≤ length out) (k : 8192 ≤ length scratch) where
-    enough : workRoom limits out scratch ≡ true
-    enough = rw (le-leb 4096 (length out) h, le-leb 8192 (length scratch) k)
+      module _ (m : ℕ) (o : Octets p) (e : answered (mapped rules (readProof limits 1 p)) ≡ Good m) where
+        pub value : Proof
+        value = accepts-proof limits 1 p o e .value
 
-    pub bad-proof : (q : Refusal) → answered (mapped rules (readProof limits 1 p)) ≡ Bad q → Is (Refused q) out scratch
-    bad-proof q e =
-        let r = refuses-proof limits 1 p e in
-        call-is true enough (refused q) (rw r) refl refl (sym (ap (λ (b : Bool). if b then scratch else replicate (length scratch) 0) (proof-spares limits 1 p q r)))
+        pub read : Checked p out m value
+        unfolding value
+        read = let a = accepts-proof limits 1 p o e in record { holds = a .holds; few = omega (arith, a .counts); room = w .many h .0 }
 
-    module _ (m : ℕ) (o : Octets p) (e : answered (mapped rules (readProof limits 1 p)) ≡ Good m) where
-      pub value : Proof
-      value = accepts-proof limits 1 p o e .value
+        outcome-is : proofOutcome limits n p ≡ outcome (extract terms value [] n)
+        unfolding value
+        outcome-is = let a = accepts-proof limits 1 p o e in rw (a .is) (from-is n (a .value))
 
-      pub read : Checked p out m value
-      unfolding value
-      read = let a = accepts-proof limits 1 p o e in record { holds = a .holds; few = omega (arith, a .counts); room = h }
-
-      outcome-is : proofOutcome limits n p ≡ outcome (extract terms value [] n)
-      unfolding value
-      outcome-is = let a = accepts-proof limits 1 p o e in rw (a .is) (from-is n (a .value))
-
-      pub good-proof : {r : Extraction} {out′ scratch′ : Bytes} → Finished (extract terms value [] n) out scratch r out′ scratch′ → Is r out′ scratch′
-      good-proof w =
-          let z = outcome (extract terms value [] n) in
-          call-is true enough z outcome-is (w .says ∙ told-is n z) (w .leaves) (w .clears)
+        pub good-proof : {r : Extraction} {out′ scratch′ : Bytes} → Finished (extract terms value [] n) out scratch r out′ scratch′ → Alone n p out scratch r out′ scratch′
+        good-proof f =
+            let z = outcome (extract terms value [] n) in
+            call-is true enough z outcome-is (f .says ∙ told-is n z) (f .leaves) (f .clears)

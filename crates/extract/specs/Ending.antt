@@ -5,9 +5,11 @@ use mathlib.Core.Path.{_≡_}
 use mathlib.Core.Bool.{true, false}
 use mathlib.Core.List.{List, []}
 use lib.ListN.{length}
-use Rattle.rules.specs.Basic.{Bytes}
-use Rattle.rules.specs.Refusal.{answered}
+use Rattle.rules.specs.Basic.{Bytes, if_then_else_}
+use Rattle.rules.specs.Refusal.{answered, sparesScratch}
+use Rattle.rules.specs.declared.Refusal.{Refusal}
 use Rattle.rules.specs.declared.Answer.{Answer}
+use Rattle.rules.specs.declared.Answer.the-variants.{Good, Refused as Bad}
 use Rattle.rules.specs.Limits.{limits, entryRoom, mostCounter}
 use Rattle.rules.specs.Term.{Term}
 use Rattle.rules.specs.Proof.{Proof}
@@ -17,11 +19,17 @@ use Rattle.proof_draft.specs.Entries.{zeroed}
 use Rattle.extract.specs.Whole.{extraction, Finished, Checked}
 use Rattle.extract.specs.declared.Extraction.{Extraction}
 use Rattle.extract.specs.declared.Extraction.the-variants.{Made, Refused}
-use Rattle.extract.specs.Ends.{madeEnd, refusedEnd}
 use Rattle.extract.specs.declared.ending.Ended.{Ended}
 
+-- a refusal by 1 to 7 or 9 leaves the row untouched
+abbrev pub clearsOf : (number room : ℕ) → ℕ
+clearsOf number room = if sparesScratch number then 0 else room
+
+abbrev pub refusedEnd : Refusal → (before room : ℕ) → Ended
+refusedEnd q before room = record { answer = Bad q; counter = before; clears = clearsOf (q .number) room; goes = false }
+
 abbrev pub endedOf : Extraction → (before room : ℕ) → Ended
-endedOf (Made b n) before room = madeEnd b n room
+endedOf (Made b n) before room = record { answer = Good b; counter = n; clears = room; goes = false }
 endedOf (Refused q) before room = refusedEnd q before room
 
 -- the answer, the output, the scratch, the entries and the counter are those of x
@@ -37,7 +45,7 @@ abbrev pub Beside : (n : ℕ) (p out scratch : Bytes) (m : ℕ) → Ended → By
 Beside n p out scratch m r out′ scratch′ =
     (es : List Entry) → length es ≡ m → (r .clears ≤ m) × Extracts (extractCall limits n p out scratch es) (r .answer) out′ scratch′ (zeroed noEntry (r .clears) es) (r .counter)
 
--- an extraction says, and leaves, what the call does that has 512 entries
+-- an extraction says, and leaves, what the call does that has entries enough
 abbrev pub Alone : (n : ℕ) (p out scratch : Bytes) → Extraction → Bytes → Bytes → Type 0
 Alone n p out scratch x out′ scratch′ =
     ((es : List Entry) → entryRoom limits ≤ length es → x ≡ extraction (extractCall limits n p out scratch es .answer) (extractCall limits n p out scratch es .counter))
@@ -46,10 +54,10 @@ Alone n p out scratch x out′ scratch′ =
 
 -- a checked proof, a counter that is not over the most, and enough entries: the proof is to be walked
 pub record Walks (n room : ℕ) (p out scratch : Bytes) : Type 0 where
-  pub enough : 512 ≤ room
+  pub enough : entryRoom limits ≤ room
   pub low : n ≤ mostCounter
   pub value : Proof
-  pub checked : Checked p out 512 value
+  pub checked : Checked p out (limits .rules) value
   pub means : (x : Extraction) (out′ scratch′ : Bytes) → Finished (extract terms value [] n) out scratch x out′ scratch′ → Alone n p out scratch x out′ scratch′
 
 -- the call ends before anything is walked, and the row stays as it was; or the proof is to be walked

@@ -3,4 +3,3 @@ pub mod Legals
 pub mod Sizes
 pub mod Whole
 pub mod Ending
-pub mod Ends

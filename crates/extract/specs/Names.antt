@@ -1,8 +1,8 @@
--- Generated names are legal: a lower-cased atom is a legal name, and a stem of at most 16 bytes with the digits of a number
--- below 100,000,000 behind it has at most 24. By the bytes, and by the number of digits. Assumes nothing.
+-- Generated names are legal: a lower-cased atom is a legal name, and a stem as long as an atom may be, with the digits of a number
+-- below the most of the counter behind it, is no longer than a name may be. By the bytes, and by the number of digits. Assumes nothing.
 use Prim.Native.Nat.{ℕ, zero, suc, _+_, _/_, _%_, _^_, _<_, _≤_}
 use mathlib.Core.Path.{_≡_, refl}
-use mathlib.Core.Bool.{Bool, true, false, _&&_, _||_}
+use mathlib.Core.Bool.{Bool, true, false, _||_}
 use mathlib.Core.List.{List, [], _∷_, _++_, map}
 use native.Mathlib.Omega.{arith}
 use native.Mathlib.Nat.{div-lt-iff-lt-mul, mod-lt, pow-suc}
@@ -10,14 +10,12 @@ use lib.Dec.{ltb, leb, eqb}
 use lib.ListN.{length, length-append, length-map}
 use borrow.Author.Tests.{lt-ltb, le-leb, lt-leb, leb-true, ltb-true}
 use Rattle.rules.specs.Basic.{if_then_else_, between, digits, decimal, _‥_}
+use Rattle.rules.specs.Limits.{mostCounter}
 use Rattle.rules.specs.Name.{Name, nameMost, atomMost, leads, follows, lowerByte, lower}
 use Rattle.rules.specs.Legal.{All, LegalName}
+use Rattle.laws.specs.free.Same.{both-true}
 
 -- ---- a byte of a name, lower-cased
-
-both-true : (a b : Bool) → (a && b) ≡ true → (a ≡ true) × (b ≡ true)
-both-true true b e = (refl, e)
-both-true false b e = absurd (let z : _≡_ {A = ℕ} 0 1 = cc in omega arith)
 
 pub lower-leads : (b : ℕ) → leads b ≡ true → leads (lowerByte b) ≡ true
 unfolding leads
@@ -104,8 +102,8 @@ legal-more : (most room : ℕ) (x : Name) (ds : List ℕ) → LegalName most x �
 legal-more most room [] ds l a h = absurd l
 legal-more most room (b ∷ bs) ds l a h = (l .0, all-append follows bs ds (l .1) a, omega (arith, l .2, length-append bs ds))
 
--- A STEM OF AT MOST 16 BYTES AND A COUNTER BELOW 100,000,000 MAKE A LEGAL NAME
-pub fresh-legal : (stem : Name) (n : ℕ) → LegalName atomMost stem → n < 100_000_000 → LegalName nameMost (stem ++ decimal n)
+-- A STEM AS LONG AS AN ATOM MAY BE AND A COUNTER BELOW THE MOST MAKE A LEGAL NAME
+pub fresh-legal : (stem : Name) (n : ℕ) → LegalName atomMost stem → n < mostCounter → LegalName nameMost (stem ++ decimal n)
 fresh-legal stem n l h =
     let few : length (decimal n) ≤ 8 = digits-few 7 (suc n) n h in
     legal-more atomMost nameMost stem (decimal n) l (digits-follow (suc n) n) (omega arith)

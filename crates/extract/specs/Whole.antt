@@ -6,7 +6,7 @@ use mathlib.Core.Bool.{Bool, true, false}
 use mathlib.Core.List.{List}
 use lib.ListN.{length}
 use Rattle.rules.specs.Basic.{Bytes, _<?_}
-use Rattle.rules.specs.Limits.{limits, mostCounter}
+use Rattle.rules.specs.Limits.{limits, outputRoom, mostCounter}
 use Rattle.rules.specs.Refusal.{Outcome, good, refused, refuse, outgrows, counterOver}
 use Rattle.rules.specs.Term.{Term, encode, fits}
 use Rattle.rules.specs.Legal.{Legal}
@@ -19,6 +19,13 @@ use Rattle.draft.specs.Made.{Small}
 use Rattle.proof_draft.specs.declared.put.Drafted.{Drafted}
 use Rattle.extract.specs.declared.Extraction.{Extraction}
 use Rattle.extract.specs.declared.Extraction.the-variants.{Made, Refused}
+
+-- up to how many rules a proof is short, and how many more it may have before it is walked with room for the most
+abbrev pub fewRules : ℕ
+fewRules = 64
+
+abbrev pub someRules : ℕ
+someRules = 192
 
 -- 9, then 8
 abbrev pub decided : (over fit : Bool) → Term × ℕ → Outcome (Term × ℕ)
@@ -45,7 +52,7 @@ pub record Finishes (s : Bytes) (ws : List ℕ) (d : Drafted) (zs : List ℕ) (o
   pub small : Small ws (d .used)
   pub sized : (d .used + 2) * 2 ≤ length zs
   pub legal : e .1 ≤ mostCounter → Legal (e .0)
-  pub room : 4096 ≤ length out
+  pub room : outputRoom limits ≤ length out
 
 -- the answer, the output and the scratch are what the outcome says
 pub record Finished (e : Term × ℕ) (out scratch : Bytes) (r : Extraction) (out′ scratch′ : Bytes) : Type 0 where
@@ -57,4 +64,4 @@ pub record Finished (e : Term × ℕ) (out scratch : Bytes) (r : Extraction) (ou
 pub record Checked (s out : Bytes) (most : ℕ) (p : Proof) : Type 0 where
   pub holds : ProofIn limits s p
   pub few : rules p ≤ most
-  pub room : 4096 ≤ length out
+  pub room : outputRoom limits ≤ length out

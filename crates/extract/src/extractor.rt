@@ -3,21 +3,22 @@ ghost use mathlib.Core.Path.{_≡_};
 ghost use mathlib.Core.List.{[]};
 ghost use Prim.Native.Nat.{_≤_};
 ghost use lib.ListN.{length};
-ghost use Rattle.rules.specs.Limits.{limits};
+ghost use Rattle.rules.specs.Limits.{limits, entryRoom, mostCounter};
 ghost use Rattle.rules.specs.Proof.{Proof};
 ghost use Rattle.rules.specs.Extraction.{terms, extract as extractOf};
 ghost use Rattle.rules.specs.Calls.{startCall, extractCall};
 ghost use Rattle.proof_draft.specs.Entries.{none, zeroed, pairs};
 ghost use Rattle.extract.specs.Whole.{Checked};
 ghost use Rattle.extract.specs.Ending.{Extracts, Closes};
+use crate::ROW;
 use crate::ending::Ended;
 use crate::ending::begin;
 use crate::ending::close;
-use crate::ending::start_of;
 use proof_draft::entry::CutEntry;
 use proof_draft::entry::clear_rows;
 use proof_draft::walk::draft_rule;
 use rules::Answer;
+use rules::MOST_RULES;
 
 pub struct Extractor {
     pub counter: u32,
@@ -55,12 +56,12 @@ fn walk_proof(
     out: &mut [u8],
     scratch: &mut [u8],
 ) -> Ended
-    requires { ⌜ ((p : Proof) × Checked (now proof) (now out) 512 p × (512 ≤ length (now entries)) × (counter ≤ 100000000)) ⌝ }
-    ensures { λ r. ⌜ (now (entries .exit) ≡ zeroed none (r .clears) (now (entries .entry))) × ((p : Proof) → Checked (now (proof .entry)) (now (out .entry)) 512 p
+    requires { ⌜ ((p : Proof) × Checked (now proof) (now out) (limits .rules) p × (entryRoom limits ≤ length (now entries)) × (counter ≤ mostCounter)) ⌝ }
+    ensures { λ r. ⌜ (now (entries .exit) ≡ zeroed none (r .clears) (now (entries .entry))) × ((p : Proof) → Checked (now (proof .entry)) (now (out .entry)) (limits .rules) p
         → Closes counter (length (now (entries .entry))) (extractOf terms p [] counter) (now (out .entry)) (now (scratch .entry)) r (now (out .exit)) (now (scratch .exit))) ⌝ }
 {
-    let mut rows = [0usize; 2560];
-    let start = start_of(counter);
+    let mut rows = [0usize; ROW * MOST_RULES];
+    let start = counter as usize;
     let draft = draft_rule(proof, 0, entries, 0, &mut rows, 0, start);
     let room = entries.len();
     let end = close(counter, room, proof, &rows, draft, out, scratch);

@@ -1,29 +1,25 @@
 // Extraction of terms from proofs: a walk over the checked proof makes a draft of the term (crates/proof_draft/src/walk.rt), and the term is measured and written from the draft.
 ghost use mathlib.Core.Path.{_≡_};
 ghost use mathlib.Core.List.{List, []};
-ghost use Prim.Native.Nat.{ℕ, _≤_};
+ghost use Prim.Native.Nat.{_≤_};
 ghost use lib.ListN.{length};
-ghost use Rattle.rules.specs.Limits.{limits, entryRoom};
-ghost use Rattle.rules.specs.Refusal.{refuse};
-ghost use Rattle.rules.specs.Term.{Term};
+ghost use Rattle.rules.specs.Limits.{limits, entryRoom, mostCounter};
 ghost use Rattle.rules.specs.Proof.{Proof};
 ghost use Rattle.rules.specs.Extraction.{terms, extract as extractOf};
 ghost use Rattle.rules.specs.Calls.{Entry, extractCall};
-ghost use Rattle.extract.specs.Whole.{extraction, told, Finishes, Finished, Checked};
-use buffer::run;
-use draft::size::fits;
-use draft::write::put_part;
-use ending::over_counter;
+ghost use Rattle.extract.specs.Whole.{fewRules, someRules, extraction, Finished, Checked};
+use buffer::room::short;
+use finish::finish;
 use proof_draft::own::draft_few;
 use proof_draft::own::draft_many;
-use proof_draft::put::Drafted;
 use rules::Answer;
-use rules::OUTPUT_ROOM;
+use rules::MOST_COUNTER;
+use rules::MOST_RULES;
 use rules::Refusal;
-use rules::SCRATCH_ROOM;
 
 pub mod ending;
 pub mod extractor;
+pub mod finish;
 
 // The bytes of the term and the counter after it; or a refusal.
 pub enum Extraction {
@@ -31,81 +27,51 @@ pub enum Extraction {
     Refused(Refusal),
 }
 
-const MOST_COUNTER: usize = 100_000_000;
+// A draft has five numbers for each rule, and two sizes for each rule and each of the two parts with which it begins.
+const ROW: usize = 5;
 
-// A refusal that is about no place of an input.
-fn refused(number: u8) -> Extraction
-    ensures { λ r. ⌜ r ≡ told (refuse number 0 0) ⌝ }
-{
-    Extraction::Refused(Refusal {
-        number,
-        place: 0,
-        input: 0,
-    })
-}
+const FIRST_PARTS: usize = 2;
 
-// The term of a draft, unless its counter or its size is over the most.
-pub fn finish(
-    proof: &[u8],
-    rows: &[usize],
-    draft: Drafted,
-    sizes: &mut [usize],
-    out: &mut [u8],
-    scratch: &mut [u8],
-) -> Extraction
-    requires { ⌜ ((t : Term) × (n : ℕ) × Finishes (now proof) (now rows) draft (now sizes) (now out) (t, n)) ⌝ }
-    ensures { λ r. ⌜ ((t : Term) → (n : ℕ) → Finishes (now (proof .entry)) (now (rows .entry)) draft (now (sizes .entry)) (now (out .entry)) (t, n)
-        → Finished (t, n) (now (out .entry)) (now (scratch .entry)) r (now (out .exit)) (now (scratch .exit))) ⌝ }
-{
-    if over_counter(draft.counter) {
-        return refused(9);
-    }
-    if fits(proof, rows, draft.used, draft.part, sizes) {
-        let end = put_part(proof, rows, draft.used, draft.part, out, 0);
-        run::clear(out, end);
-        run::clear(scratch, 0);
-        return Extraction::Made {
-            bytes: end,
-            counter: draft.counter as u32,
-        };
-    }
-    run::clear(scratch, 0);
-    refused(8)
-}
+const SIZE: usize = 2;
 
-// The term of a checked proof of few rules. Arrays are set to zeros where they are made, so that those of the most rules would cost more than the work.
+// Arrays are set to zeros where they are made, so that those for the most rules would cost a short proof more than the work.
+const FEW: usize = 64;
+
+const SOME: usize = 192;
+
+// The term of a checked proof of few rules.
 fn extract_few(start: usize, proof: &[u8], out: &mut [u8], scratch: &mut [u8]) -> Extraction
-    requires { ⌜ ((p : Proof) × Checked (now proof) (now out) 64 p × (start ≤ 100000000)) ⌝ }
-    ensures { λ r. ⌜ ((p : Proof) → Checked (now (proof .entry)) (now (out .entry)) 64 p
+    requires { ⌜ ((p : Proof) × Checked (now proof) (now out) fewRules p × (start ≤ mostCounter)) ⌝ }
+    ensures { λ r. ⌜ ((p : Proof) → Checked (now (proof .entry)) (now (out .entry)) fewRules p
         → Finished (extractOf terms p [] start) (now (out .entry)) (now (scratch .entry)) r (now (out .exit)) (now (scratch .exit))) ⌝ }
 {
-    let mut rows = [0usize; 320];
+    let mut rows = [0usize; ROW * FEW];
     let draft = draft_few(proof, &mut rows, start);
-    let mut sizes = [0usize; 132];
+    let mut sizes = [0usize; SIZE * (FEW + FIRST_PARTS)];
     finish(proof, &rows, draft, &mut sizes, out, scratch)
 }
 
 // The same of a proof of some more rules; only the row of entries is that of the most.
 fn extract_some(start: usize, proof: &[u8], out: &mut [u8], scratch: &mut [u8]) -> Extraction
-    requires { ⌜ ((p : Proof) × Checked (now proof) (now out) 192 p × (start ≤ 100000000)) ⌝ }
-    ensures { λ r. ⌜ ((p : Proof) → Checked (now (proof .entry)) (now (out .entry)) 192 p
+    requires { ⌜ ((p : Proof) × Checked (now proof) (now out) someRules p × (start ≤ mostCounter)) ⌝ }
+    ensures { λ r. ⌜ ((p : Proof) → Checked (now (proof .entry)) (now (out .entry)) someRules p
         → Finished (extractOf terms p [] start) (now (out .entry)) (now (scratch .entry)) r (now (out .exit)) (now (scratch .exit))) ⌝ }
 {
-    let mut rows = [0usize; 960];
+    let mut rows = [0usize; ROW * SOME];
     let draft = draft_many(proof, &mut rows, start);
-    let mut sizes = [0usize; 388];
+    let mut sizes = [0usize; SIZE * (SOME + FIRST_PARTS)];
     finish(proof, &rows, draft, &mut sizes, out, scratch)
 }
 
 // The same of a proof of up to the most rules.
 fn extract_many(start: usize, proof: &[u8], out: &mut [u8], scratch: &mut [u8]) -> Extraction
-    requires { ⌜ ((p : Proof) × Checked (now proof) (now out) 512 p × (start ≤ 100000000)) ⌝ }
-    ensures { λ r. ⌜ ((p : Proof) → Checked (now (proof .entry)) (now (out .entry)) 512 p
+    requires { ⌜ ((p : Proof) × Checked (now proof) (now out) (limits .rules) p × (start ≤ mostCounter)) ⌝ }
+    ensures { λ r. ⌜ ((p : Proof) → Checked (now (proof .entry)) (now (out .entry)) (limits .rules) p
         → Finished (extractOf terms p [] start) (now (out .entry)) (now (scratch .entry)) r (now (out .exit)) (now (scratch .exit))) ⌝ }
 {
-    let mut rows = [0usize; 2560];
+    let mut rows = [0usize; ROW * MOST_RULES];
     let draft = draft_many(proof, &mut rows, start);
-    let mut sizes = [0usize; 1028];
+    let mut sizes = [0usize; SIZE * (MOST_RULES + FIRST_PARTS)];
     finish(proof, &rows, draft, &mut sizes, out, scratch)
 }
 
@@ -123,12 +89,12 @@ fn extract_read(
 {
     let start = counter as usize;
     if MOST_COUNTER < start {
-        return refused(9);
+        return Extraction::Refused(Refusal::of_no_input(9));
     }
-    if 192 < rules {
+    if SOME < rules {
         return extract_many(start, proof, out, scratch);
     }
-    if 64 < rules {
+    if FEW < rules {
         return extract_some(start, proof, out, scratch);
     }
     extract_few(start, proof, out, scratch)
@@ -144,11 +110,8 @@ pub fn extract(counter: u32, proof: &[u8], out: &mut [u8], scratch: &mut [u8]) -
     ensures { λ _. ⌜ ((es : List Entry) → entryRoom limits ≤ length es
         → now (scratch .exit) ≡ extractCall limits counter (now (proof .entry)) (now (out .entry)) (now (scratch .entry)) es .scratch) ⌝ }
 {
-    if out.len() < OUTPUT_ROOM {
-        return refused(1);
-    }
-    if scratch.len() < SCRATCH_ROOM {
-        return refused(1);
+    if short(out.len(), scratch.len()) {
+        return Extraction::Refused(Refusal::of_no_input(1));
     }
     match proof::proof_input(proof, 1) {
         Answer::Refused(r) => Extraction::Refused(r),

@@ -5,7 +5,7 @@ use mathlib.Core.Bool.{Bool, _||_}
 use native.Mathlib.Omega.{arith}
 use borrow.Author.Tests.{le-leb, lt-leb, ne-eqb}
 use Rattle.rules.specs.Basic.{if_then_else_, _==_}
-use Rattle.extract.specs.Ends.{clearsOf}
+use Rattle.extract.specs.Ending.{clearsOf}
 
 pub spares-low : (k m : ℕ) → k < 8 → 0 ≡ clearsOf k m
 spares-low k m h = let i : k ≤ 7 = omega (arith, h) in sym (ap (λ (b : Bool). if b || (k == 9) then 0 else m) (le-leb k 7 i))

@@ -9,24 +9,18 @@ use Rattle.extract.proofs.ending.end_of.Tie as tie
 enum-known-made : tie.Need-enum-known-made
 enum-known-made c = search needs
 
-made-requires : tie.Need-made-requires
-made-requires c κs = search needs
-
 enum-known-made-2 : tie.Need-enum-known-made-2
 enum-known-made-2 c = search needs
 
-refused-requires : tie.Need-refused-requires
-refused-requires c κs = search needs
+refused-end-requires : tie.Need-refused-end-requires
+refused-end-requires c κs = search needs
 
 returns : tie.Need-returns
-returns c =
-    let a = c .before .before .before .before .args in
-    c .made2 .ensures ∙ sym (ap (λ (x : Extraction). endedOf x (a .before) (a .room)) (c .before .before .made .given .1))
+returns c = sym (ap (λ (x : Extraction). endedOf x (c .before .before .before .args .before) (c .before .before .before .args .room)) (c .before .made .given .1))
 
 returns-2 : tie.Need-returns-2
-returns-2 c =
-    let a = c .before .before .before .before .args in
-    c .refused .ensures ∙ sym (ap (λ (x : Extraction). endedOf x (a .before) (a .room)) (c .before .before .made3 .given .1))
+returns-2 c = c .refused-end .ensures ∙ sym (ap (λ (x : Extraction). endedOf x (c .before .before .before .before .args .before) (c .before .before .before .before .args .room)) (c .before .before .made2 .given .1))
 
 pub end-of-spec : {M : Type 1} → statement M
-end-of-spec = tie.close (tie.spec enum-known-made made-requires enum-known-made-2 refused-requires returns returns-2)
+end-of-spec =
+    tie.close (tie.spec enum-known-made enum-known-made-2 refused-end-requires returns returns-2)

@@ -37,7 +37,7 @@ use denote.Triple.Statement.{Contract, Triple}
 use denote.Triple.Table.{cited, entered}
 use denote.Triple.Walked.{says, Stays, stay-none, stay-none-slice, stay-slice, walkOf, goes-none, goes-none-slice, goes-slice, ends-at, Walks, walked, walk-meets}
 use denote.Struct.Laws as LL
-use Rattle.rules.specs.Limits.{limits}
+use Rattle.rules.specs.Limits.{limits, entryRoom, mostCounter}
 use Rattle.rules.specs.Proof.{Proof}
 use Rattle.rules.specs.Extraction.{terms, extract}
 use Rattle.rules.specs.Calls.{extractCall}
@@ -46,12 +46,14 @@ use Rattle.proof_draft.specs.Entries.{none, zeroed, pairs}
 use Rattle.proof_draft.proofs.entry.Row.{R}
 use Rattle.proof_draft.proofs.entry.Rules.{if-then, free-at, free-four, free-eight}
 use Rattle.proof_draft.proofs.entry.Lent.{KeptRow, KeptShared, lend-row, row-back, share-row, shared-back}
+use Rattle.proof_draft.proofs.own.Walking.{Names}
 use Rattle.extract.specs.Whole.{Checked}
 use Rattle.extract.specs.declared.ending.Ended.{Ended}
 use Rattle.extract.specs.Ending.{Extracts, Begins, Closes}
 use Rattle.extract.proofs.ending.Ended as K
 use Rattle.extract.proofs.ending.Ended.Laws as K′
 use Rattle.extract.proofs.ending.Ending.{walk-needs, walk-gives, stop-gives}
+use Rattle.extract.proofs.extractor.Closing.{whole-is}
 use Rattle.extract.proofs.ending.begin as begin-of
 use Rattle.extract.proofs.ending.begin.Symbol as begin-def
 use Rattle.extract.proofs.ending.begin.Symbol.{name as #begin}
@@ -64,12 +66,6 @@ use Rattle.extract.proofs.extractor.extract_with.Key.{name as #f}
 use Rattle.extract.proofs.extractor.extract_with as f
 use Rattle.extract.proofs.extractor.extract_with.Statement as stated
 use Rattle.extract.proofs.extractor.extract_with.Code as code
-
-abbrev Names : Type 0
-Names = ℕ × GName
-
-whole-is : {v : Val} (r : Ended) → Is K.the-row r (v ∷ []) → Is K.the-row r (LL.vals K.the-type K′.the-laws r)
-whole-is r is = LL.owes K.the-type K′.the-laws r (LL.owed K.the-type K′.the-laws r _ is)
 
 abbrev with-stayed : Stays (f.ended .signature .params) (f.ended .kept)
 with-stayed = (stay-none (λ _. u32) yes, (stay-none-slice (0 ∷ []) tt (plain (λ _. u8)) yes, (stay-slice (1 ∷ []) tt (plain (λ _. R)), (stay-slice (2 ∷ []) tt (plain (λ _. u8)), (stay-slice (3 ∷ []) tt (plain (λ _. u8)), tt)))))
@@ -103,9 +99,6 @@ module _ {M : Type 1} (𝓤 : URA M) (H : Heap 𝓤) (A : Atoms 𝓤) (W : Given
 
   abbrev v-cs : Val
   v-cs = sliceVal (b-cs, o-cs) m-cs
-
-  abbrev Shr-cs : Lft → GName → List (CutEntry) → Fml
-  Shr-cs ν δ x = ShrSlice erased ν (R) .own (ref-cs δ x) (v-cs ∷ [])
 
   abbrev Mut-cs : Lft → GName → List (CutEntry) → Fml
   Mut-cs ν δ x = MutSlice erased ν (R) .own (ref-cs δ x) (v-cs ∷ [])
@@ -247,7 +240,7 @@ module _ {M : Type 1} (𝓤 : URA M) (H : Heap 𝓤) (A : Atoms 𝓤) (W : Given
   abbrev to-proof : Names × (Names × (Names)) → List (CutEntry) → List (ℕ) → List (ℕ) → ℕ → ProofC 𝓤 H A mem run .Ghost
   to-proof p l-cs l-out l-scr n = (((κ-s, (p .0 .0 ∷ [], (p .1 .0 .0 ∷ [], (p .1 .1 .0 ∷ [], tt)))), (q-s, (fullShare, (fullShare, (fullShare, tt)))), tt, (n, (ref-s γ-s ts-s, (ref-cs (p .0 .1) l-cs, (ref-out (p .1 .0 .1) l-out, (ref-scr (p .1 .1 .1) l-scr, tt))))), (vint w32 n ∷ [], (v-s ∷ [], (v-cs ∷ [], (v-out ∷ [], (v-scr ∷ [], tt)))))), tt)
 
-  goes-proof : (p : Names × (Names × (Names))) (l-cs : List (CutEntry)) (l-out : List (ℕ)) (l-scr : List (ℕ)) (n : ℕ) → n < 2 ^ 32 → ((p : Proof) × Checked ts-s l-out 512 p × (512 ≤ length l-cs) × (n ≤ 100000000)) → ent 𝓤 (⋆ 𝓤 H A (‵ (flft (κ-s) q-s) ∷ ‵ (flft (p .0 .0 ∷ []) fullShare) ∷ ‵ (flft (p .1 .0 .0 ∷ []) fullShare) ∷ ‵ (flft (p .1 .1 .0 ∷ []) fullShare) ∷ ‵ (Shr-s (κ-s) γ-s ts-s) ∷ ‵ (Mut-cs (p .0 .0 ∷ []) (p .0 .1) l-cs) ∷ ‵ (Mut-out (p .1 .0 .0 ∷ []) (p .1 .0 .1) l-out) ∷ ‵ (Mut-scr (p .1 .1 .0 ∷ []) (p .1 .1 .1) l-scr) ∷ [])) (ProofC 𝓤 H A mem run .pre (to-proof p l-cs l-out l-scr n))
+  goes-proof : (p : Names × (Names × (Names))) (l-cs : List (CutEntry)) (l-out : List (ℕ)) (l-scr : List (ℕ)) (n : ℕ) → n < 2 ^ 32 → ((p : Proof) × Checked ts-s l-out (limits .rules) p × (entryRoom limits ≤ length l-cs) × (n ≤ mostCounter)) → ent 𝓤 (⋆ 𝓤 H A (‵ (flft (κ-s) q-s) ∷ ‵ (flft (p .0 .0 ∷ []) fullShare) ∷ ‵ (flft (p .1 .0 .0 ∷ []) fullShare) ∷ ‵ (flft (p .1 .1 .0 ∷ []) fullShare) ∷ ‵ (Shr-s (κ-s) γ-s ts-s) ∷ ‵ (Mut-cs (p .0 .0 ∷ []) (p .0 .1) l-cs) ∷ ‵ (Mut-out (p .1 .0 .0 ∷ []) (p .1 .0 .1) l-out) ∷ ‵ (Mut-scr (p .1 .1 .0 ∷ []) (p .1 .1 .1) l-scr) ∷ [])) (ProofC 𝓤 H A mem run .pre (to-proof p l-cs l-out l-scr n))
   goes-proof p l-cs l-out l-scr n g-n req =
       qed W (‵ (flft (κ-s) q-s) ∷ ‵ (flft (p .0 .0 ∷ []) fullShare) ∷ ‵ (flft (p .1 .0 .0 ∷ []) fullShare) ∷ ‵ (flft (p .1 .1 .0 ∷ []) fullShare) ∷ ‵ (Shr-s (κ-s) γ-s ts-s) ∷ ‵ (Mut-cs (p .0 .0 ∷ []) (p .0 .1) l-cs) ∷ ‵ (Mut-out (p .1 .0 .0 ∷ []) (p .1 .0 .1) l-out) ∷ ‵ (Mut-scr (p .1 .1 .0 ∷ []) (p .1 .1 .1) l-scr) ∷ []) ∵ says ! req $
       nothing ! $
@@ -276,7 +269,7 @@ module _ {M : Type 1} (𝓤 : URA M) (H : Heap 𝓤) (A : Atoms 𝓤) (W : Given
   abbrev Kept-proof : Names × (Names × (Names)) → List (CutEntry) → List (ℕ) → List (ℕ) → Fml
   Kept-proof p l-cs l-out l-scr = fsep (Shr-s κ-s γ-s ts-s) (fsep (KeptRow (R) κ-cs q-cs γ-cs b-cs o-cs m-cs (p .0) l-cs) (fsep (KeptRow (u8) κ-out q-out γ-out b-out o-out m-out (p .1 .0) l-out) (KeptRow (u8) κ-scr q-scr γ-scr b-scr o-scr m-scr (p .1 .1) l-scr)))
 
-  before-proof : (l-cs : List (CutEntry)) (l-out : List (ℕ)) (l-scr : List (ℕ)) (n : ℕ) → length l-cs ≡ m-cs → length l-out ≡ m-out → length l-scr ≡ m-scr → n < 2 ^ 32 → ((p : Proof) × Checked ts-s l-out 512 p × (512 ≤ length l-cs) × (n ≤ 100000000)) → ent 𝓤 ⟦ P-s ⊛ (P-cs l-cs ⊛ (P-out l-out ⊛ (P-scr l-scr))) ⟧ (H .⇛ (ex 𝓤 (λ (p : Names × (Names × (Names))). sep 𝓤 (ProofC 𝓤 H A mem run .pre (to-proof p l-cs l-out l-scr n)) (sem 𝓤 H A (Kept-proof p l-cs l-out l-scr)))))
+  before-proof : (l-cs : List (CutEntry)) (l-out : List (ℕ)) (l-scr : List (ℕ)) (n : ℕ) → length l-cs ≡ m-cs → length l-out ≡ m-out → length l-scr ≡ m-scr → n < 2 ^ 32 → ((p : Proof) × Checked ts-s l-out (limits .rules) p × (entryRoom limits ≤ length l-cs) × (n ≤ mostCounter)) → ent 𝓤 ⟦ P-s ⊛ (P-cs l-cs ⊛ (P-out l-out ⊛ (P-scr l-scr))) ⟧ (H .⇛ (ex 𝓤 (λ (p : Names × (Names × (Names))). sep 𝓤 (ProofC 𝓤 H A mem run .pre (to-proof p l-cs l-out l-scr n)) (sem 𝓤 H A (Kept-proof p l-cs l-out l-scr)))))
   before-proof l-cs l-out l-scr n e-cs e-out e-scr g-n req = qed W ((P-s ⊛ (P-cs l-cs ⊛ (P-out l-out ⊛ (P-scr l-scr)))) ∷ []) ∵ updating ! $
       split ! $
       move ! (1 ∷ []) $
@@ -306,11 +299,11 @@ module _ {M : Type 1} (𝓤 : URA M) (H : Heap 𝓤) (A : Atoms 𝓤) (W : Given
       move ! (11 ∷ 8 ∷ 5 ∷ 2 ∷ 9 ∷ 6 ∷ 3 ∷ 0 ∷ 10 ∷ 7 ∷ 4 ∷ 1 ∷ []) $
       group ! 8 $ use1 W (raw (ProofC 𝓤 H A mem run .pre (to-proof (p-cs, (p-out, (p-scr))) l-cs l-out l-scr n))) (goes-proof (p-cs, (p-out, (p-scr))) l-cs l-out l-scr n g-n req) $ at-once ! $ show ! (λ (p : Names × (Names × (Names))). sep 𝓤 (ProofC 𝓤 H A mem run .pre (to-proof p l-cs l-out l-scr n)) (sem 𝓤 H A (Kept-proof p l-cs l-out l-scr))) (p-cs, (p-out, (p-scr))) $ done !)))
 
-  after-proof : (p : Names × (Names × (Names))) (l-cs : List (CutEntry)) (l-out : List (ℕ)) (l-scr : List (ℕ)) (n : ℕ) (v : Val) → length l-cs ≡ m-cs → length l-out ≡ m-out → length l-scr ≡ m-scr → ent 𝓤 (sep 𝓤 (ProofC 𝓤 H A mem run .post (to-proof p l-cs l-out l-scr n) v) (sem 𝓤 H A (Kept-proof p l-cs l-out l-scr))) (H .⇛ (ex 𝓤 (λ (r : Ended × (List (CutEntry) × (List (ℕ) × (List (ℕ))))). guard 𝓤 ((length (r .1 .0) ≡ m-cs) × ((length (r .1 .1 .0) ≡ m-out) × ((length (r .1 .1 .1) ≡ m-scr) × (((r .1 .0) ≡ zeroed none ((r .0) .clears) l-cs) × ((p : Proof) → Checked ts-s l-out 512 p → Closes n (length l-cs) (extract terms p [] n) l-out l-scr (r .0) (r .1 .1 .0) (r .1 .1 .1)))))) (sep 𝓤 (sem 𝓤 H A (K.the-row .own (r .0) (v ∷ []))) ⟦ P-s ⊛ (P-cs (r .1 .0) ⊛ (P-out (r .1 .1 .0) ⊛ (P-scr (r .1 .1 .1)))) ⟧))))
-  after-proof p l-cs l-out l-scr n v e-cs e-out e-scr = qed W (raw (ProofC 𝓤 H A mem run .post (to-proof p l-cs l-out l-scr n) v) ∷ ‵ (Kept-proof p l-cs l-out l-scr) ∷ []) ∵ updating ! $ use1 W (later (some (λ (r : Ended). ((‵ (flft (κ-s) q-s) ⊛ (‵ (flft (p .0 .0 ∷ []) fullShare) ⊛ (‵ (flft (p .1 .0 .0 ∷ []) fullShare) ⊛ (‵ (flft (p .1 .1 .0 ∷ []) fullShare) ⊛ ‵ ftrue)))) ⊛ ‵ (K.the-row .own r (v ∷ []))) ⊛ some (λ (ws : Unit {0} × (Unit {0} × (List (CutEntry) × (List (ℕ) × (List (ℕ) × Unit {0}))))). ‵ (lasts proof-of.ended (κ-s, (p .0 .0 ∷ [], (p .1 .0 .0 ∷ [], (p .1 .1 .0 ∷ [], tt)))) (n, (ref-s γ-s ts-s, (ref-cs (p .0 .1) l-cs, (ref-out (p .1 .0 .1) l-out, (ref-scr (p .1 .1 .1) l-scr, tt))))) ws) ⊛ raw (fact 𝓤 (((ws .1 .1 .0) ≡ zeroed none (r .clears) l-cs) × ((p : Proof) → Checked ts-s l-out 512 p → Closes n (length l-cs) (extract terms p [] n) l-out l-scr r (ws .1 .1 .1 .0) (ws .1 .1 .1 .1 .0)))))))) (id⊢ 𝓤 _) $ await ! tt $ pick ! (λ r.
+  after-proof : (p : Names × (Names × (Names))) (l-cs : List (CutEntry)) (l-out : List (ℕ)) (l-scr : List (ℕ)) (n : ℕ) (v : Val) → length l-cs ≡ m-cs → length l-out ≡ m-out → length l-scr ≡ m-scr → ent 𝓤 (sep 𝓤 (ProofC 𝓤 H A mem run .post (to-proof p l-cs l-out l-scr n) v) (sem 𝓤 H A (Kept-proof p l-cs l-out l-scr))) (H .⇛ (ex 𝓤 (λ (r : Ended × (List (CutEntry) × (List (ℕ) × (List (ℕ))))). guard 𝓤 ((length (r .1 .0) ≡ m-cs) × ((length (r .1 .1 .0) ≡ m-out) × ((length (r .1 .1 .1) ≡ m-scr) × (((r .1 .0) ≡ zeroed none ((r .0) .clears) l-cs) × ((p : Proof) → Checked ts-s l-out (limits .rules) p → Closes n (length l-cs) (extract terms p [] n) l-out l-scr (r .0) (r .1 .1 .0) (r .1 .1 .1)))))) (sep 𝓤 (sem 𝓤 H A (K.the-row .own (r .0) (v ∷ []))) ⟦ P-s ⊛ (P-cs (r .1 .0) ⊛ (P-out (r .1 .1 .0) ⊛ (P-scr (r .1 .1 .1)))) ⟧))))
+  after-proof p l-cs l-out l-scr n v e-cs e-out e-scr = qed W (raw (ProofC 𝓤 H A mem run .post (to-proof p l-cs l-out l-scr n) v) ∷ ‵ (Kept-proof p l-cs l-out l-scr) ∷ []) ∵ updating ! $ use1 W (later (some (λ (r : Ended). ((‵ (flft (κ-s) q-s) ⊛ (‵ (flft (p .0 .0 ∷ []) fullShare) ⊛ (‵ (flft (p .1 .0 .0 ∷ []) fullShare) ⊛ (‵ (flft (p .1 .1 .0 ∷ []) fullShare) ⊛ ‵ ftrue)))) ⊛ ‵ (K.the-row .own r (v ∷ []))) ⊛ some (λ (ws : Unit {0} × (Unit {0} × (List (CutEntry) × (List (ℕ) × (List (ℕ) × Unit {0}))))). ‵ (lasts proof-of.ended (κ-s, (p .0 .0 ∷ [], (p .1 .0 .0 ∷ [], (p .1 .1 .0 ∷ [], tt)))) (n, (ref-s γ-s ts-s, (ref-cs (p .0 .1) l-cs, (ref-out (p .1 .0 .1) l-out, (ref-scr (p .1 .1 .1) l-scr, tt))))) ws) ⊛ raw (fact 𝓤 (((ws .1 .1 .0) ≡ zeroed none (r .clears) l-cs) × ((p : Proof) → Checked ts-s l-out (limits .rules) p → Closes n (length l-cs) (extract terms p [] n) l-out l-scr r (ws .1 .1 .1 .0) (ws .1 .1 .1 .1 .0)))))))) (id⊢ 𝓤 _) $ await ! tt $ pick ! (λ r.
       split ! $
       move ! (1 ∷ []) $
-      pick ! (λ ws. split ! $ move ! (1 ∷ []) $ heard ! (((ws .1 .1 .0) ≡ zeroed none (r .clears) l-cs) × ((p : Proof) → Checked ts-s l-out 512 p → Closes n (length l-cs) (extract terms p [] n) l-out l-scr r (ws .1 .1 .1 .0) (ws .1 .1 .1 .1 .0))) (λ is.
+      pick ! (λ ws. split ! $ move ! (1 ∷ []) $ heard ! (((ws .1 .1 .0) ≡ zeroed none (r .clears) l-cs) × ((p : Proof) → Checked ts-s l-out (limits .rules) p → Closes n (length l-cs) (extract terms p [] n) l-out l-scr r (ws .1 .1 .1 .0) (ws .1 .1 .1 .1 .0))) (λ is.
       fsplit ! $
       drop ! $
       fsplit ! $
@@ -362,7 +355,7 @@ module _ {M : Type 1} (𝓤 : URA M) (H : Heap 𝓤) (A : Atoms 𝓤) (W : Given
       join ! $
       move ! (1 ∷ 0 ∷ []) $
       join ! $
-      at-once ! $ show ! (λ (r : Ended × (List (CutEntry) × (List (ℕ) × (List (ℕ))))). guard 𝓤 ((length (r .1 .0) ≡ m-cs) × ((length (r .1 .1 .0) ≡ m-out) × ((length (r .1 .1 .1) ≡ m-scr) × (((r .1 .0) ≡ zeroed none ((r .0) .clears) l-cs) × ((p : Proof) → Checked ts-s l-out 512 p → Closes n (length l-cs) (extract terms p [] n) l-out l-scr (r .0) (r .1 .1 .0) (r .1 .1 .1)))))) (sep 𝓤 (sem 𝓤 H A (K.the-row .own (r .0) (v ∷ []))) ⟦ P-s ⊛ (P-cs (r .1 .0) ⊛ (P-out (r .1 .1 .0) ⊛ (P-scr (r .1 .1 .1)))) ⟧)) (r, ((ws .1 .1 .0), ((ws .1 .1 .1 .0), (ws .1 .1 .1 .1 .0)))) $ check ! (w-cs ∙ e-cs, (w-out ∙ e-out, (w-scr ∙ e-scr, is))) $
+      at-once ! $ show ! (λ (r : Ended × (List (CutEntry) × (List (ℕ) × (List (ℕ))))). guard 𝓤 ((length (r .1 .0) ≡ m-cs) × ((length (r .1 .1 .0) ≡ m-out) × ((length (r .1 .1 .1) ≡ m-scr) × (((r .1 .0) ≡ zeroed none ((r .0) .clears) l-cs) × ((p : Proof) → Checked ts-s l-out (limits .rules) p → Closes n (length l-cs) (extract terms p [] n) l-out l-scr (r .0) (r .1 .1 .0) (r .1 .1 .1)))))) (sep 𝓤 (sem 𝓤 H A (K.the-row .own (r .0) (v ∷ []))) ⟦ P-s ⊛ (P-cs (r .1 .0) ⊛ (P-out (r .1 .1 .0) ⊛ (P-scr (r .1 .1 .1)))) ⟧)) (r, ((ws .1 .1 .0), ((ws .1 .1 .1 .0), (ws .1 .1 .1 .1 .0)))) $ check ! (w-cs ∙ e-cs, (w-out ∙ e-out, (w-scr ∙ e-scr, is))) $
       move ! (2 ∷ 0 ∷ []) $
       keep ! (0 ∷ 1 ∷ []) $ done !))))))
 
@@ -481,7 +474,7 @@ module _ {M : Type 1} (𝓤 : URA M) (H : Heap 𝓤) (A : Atoms 𝓤) (W : Given
           -- extractor::walk_proof
           group ! 4 $ use1 W (later (some (λ (p1 : Names × (Names × (Names))). raw (ProofC 𝓤 H A mem run .pre (to-proof p1 l0-cs l0-out l0-scr n)) ⊛ ‵ (Kept-proof p1 l0-cs l0-out l0-scr)))) (before-proof l0-cs l0-out l0-scr n e0-cs e0-out e0-scr g-n (walk-needs l0-cs e0-cs e0 h0)) $ await ! tt $ pick ! (λ p1. split ! $
           calls-at ! fm (ProofC 𝓤 H A mem run) known-proof (to-proof p1 l0-cs l0-out l0-scr n) (and-then ! (load ! (from ! (stop !)) (look ! 36 refl)) (and-then ! (load ! (from ! (stop !)) (look ! 34 refl)) (and-then ! (load ! (from ! (stop !)) (look ! 10 refl)) (and-then ! (load ! (from ! (stop !)) (look ! 6 refl)) (and-then ! (load ! (from ! (stop !)) (look ! 2 refl)) (no-more !)))))) (λ v1.
-          use2 W (later (some (λ (r1 : Ended × (List (CutEntry) × (List (ℕ) × (List (ℕ))))). given ((length (r1 .1 .0) ≡ m-cs) × ((length (r1 .1 .1 .0) ≡ m-out) × ((length (r1 .1 .1 .1) ≡ m-scr) × (((r1 .1 .0) ≡ zeroed none ((r1 .0) .clears) l0-cs) × ((p : Proof) → Checked ts-s l0-out 512 p → Closes n (length l0-cs) (extract terms p [] n) l0-out l0-scr (r1 .0) (r1 .1 .1 .0) (r1 .1 .1 .1)))))) (‵ (K.the-row .own (r1 .0) (v1 ∷ [])) ⊛ P-s ⊛ (P-cs (r1 .1 .0) ⊛ (P-out (r1 .1 .1 .0) ⊛ (P-scr (r1 .1 .1 .1)))))))) (after-proof p1 l0-cs l0-out l0-scr n v1 e0-cs e0-out e0-scr) $ await ! tt $ pick ! (λ r1. learn ! (λ e1. split ! $
+          use2 W (later (some (λ (r1 : Ended × (List (CutEntry) × (List (ℕ) × (List (ℕ))))). given ((length (r1 .1 .0) ≡ m-cs) × ((length (r1 .1 .1 .0) ≡ m-out) × ((length (r1 .1 .1 .1) ≡ m-scr) × (((r1 .1 .0) ≡ zeroed none ((r1 .0) .clears) l0-cs) × ((p : Proof) → Checked ts-s l0-out (limits .rules) p → Closes n (length l0-cs) (extract terms p [] n) l0-out l0-scr (r1 .0) (r1 .1 .1 .0) (r1 .1 .1 .1)))))) (‵ (K.the-row .own (r1 .0) (v1 ∷ [])) ⊛ P-s ⊛ (P-cs (r1 .1 .0) ⊛ (P-out (r1 .1 .1 .0) ⊛ (P-scr (r1 .1 .1 .1)))))))) (after-proof p1 l0-cs l0-out l0-scr n v1 e0-cs e0-out e0-scr) $ await ! tt $ pick ! (λ r1. learn ! (λ e1. split ! $
           peeks ! K.the-row (Is K.the-row) (shows 𝓤 H A K.the-row) (r1 .0) (v1 ∷ []) (λ is1.
           land ! (from ! (stop !)) (init ! 38 refl (LL.lawful K.the-type K′.the-laws 𝓤 H A W .typed (r1 .0) _ is1 .0)) $
           rewrite ! 38 (λ (u : Val). ‵ (fat fullShare K′.mir l₀ 0 u)) (ap only (LL.tells K.the-type K′.the-laws (r1 .0) _ is1)) refl $

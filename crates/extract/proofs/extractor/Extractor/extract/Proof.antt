@@ -45,6 +45,7 @@ use Rattle.rules.specs.declared.Answer.{Answer}
 use Rattle.rules.proofs.Answer as B
 use Rattle.rules.proofs.Answer.Laws as B′
 use Rattle.proof_draft.specs.declared.entry.CutEntry.{CutEntry}
+use Rattle.proof_draft.proofs.own.Walking.{Names}
 use Rattle.extract.specs.declared.extractor.Extractor.{Extractor}
 use Rattle.extract.specs.declared.ending.Ended.{Ended}
 use Rattle.proof_draft.specs.Entries.{pairs}
@@ -64,9 +65,6 @@ use Rattle.extract.proofs.extractor.Extractor.extract.Key.{name as #f}
 use Rattle.extract.proofs.extractor.Extractor.extract as f
 use Rattle.extract.proofs.extractor.Extractor.extract.Statement as stated
 use Rattle.extract.proofs.extractor.Extractor.extract.Code as code
-
-abbrev Names : Type 0
-Names = ℕ × GName
 
 -- the parts of an ending that are stored and answered
 counter-fits : {v : Val} (r : Ended) → Is K.the-row r (v ∷ []) → r .counter < 2 ^ 32
@@ -136,9 +134,6 @@ module _ {M : Type 1} (𝓤 : URA M) (H : Heap 𝓤) (A : Atoms 𝓤) (W : Given
   abbrev v-out : Val
   v-out = sliceVal (b-out, o-out) m-out
 
-  abbrev Shr-out : Lft → GName → List (ℕ) → Fml
-  Shr-out ν δ x = ShrSlice erased ν (u8) .own (ref-out δ x) (v-out ∷ [])
-
   abbrev Mut-out : Lft → GName → List (ℕ) → Fml
   Mut-out ν δ x = MutSlice erased ν (u8) .own (ref-out δ x) (v-out ∷ [])
 
@@ -150,9 +145,6 @@ module _ {M : Type 1} (𝓤 : URA M) (H : Heap 𝓤) (A : Atoms 𝓤) (W : Given
 
   abbrev v-scr : Val
   v-scr = sliceVal (b-scr, o-scr) m-scr
-
-  abbrev Shr-scr : Lft → GName → List (ℕ) → Fml
-  Shr-scr ν δ x = ShrSlice erased ν (u8) .own (ref-scr δ x) (v-scr ∷ [])
 
   abbrev Mut-scr : Lft → GName → List (ℕ) → Fml
   Mut-scr ν δ x = MutSlice erased ν (u8) .own (ref-scr δ x) (v-scr ∷ [])

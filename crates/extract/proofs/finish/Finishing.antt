@@ -71,7 +71,7 @@ module _ (s : Bytes) (ws : List ℕ) (d : Drafted) (zs : List ℕ) (out : Bytes)
       fit : (t : Term) → Drafts s ws (d .used) (d .part) t → fits limits t ≡ true
       fit t x = sym (g t x) ∙ z
 
-      short : (t : Term) → Drafts s ws (d .used) (d .part) t → size t ≤ 4096
+      short : (t : Term) → Drafts s ws (d .used) (d .part) t → size t ≤ limits .bytes
       unfolding fits
       short t x = leb-true _ _ (both-true (nodes t ≤? limits .nodes) (size t ≤? limits .bytes) (fit t x) .1)
 
