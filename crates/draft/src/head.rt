@@ -30,7 +30,7 @@ fn tag_of(kind: usize) -> u8
     ((TAGS >> (kind * 5)) % 32) as u8
 }
 
-pub fn parts_of(kind: usize) -> usize
+pub fn row_parts(kind: usize) -> usize
     ensures { λ r. ⌜ r ≡ partsOf (shapeOf kind) ⌝ }
 {
     if 10 < kind {

@@ -1,7 +1,7 @@
 // The sizes of the parts of a draft, held at a cap: a branching writes a part twice, so that a term can be far larger than its draft.
 use crate::head::head_len;
 use crate::head::nodes_of;
-use crate::head::parts_of;
+use crate::head::row_parts;
 use rules::MOST_BYTES;
 use rules::MOST_NODES;
 ghost use mathlib.Core.Path.{_≡_};
@@ -49,7 +49,7 @@ fn measure_row(s: &[u8], rows: &[usize], used: usize, i: usize, sizes: &mut [usi
     let kind = rows[row];
     let first = rows[row + 1] * 2;
     let second = rows[row + 2] * 2;
-    let count = parts_of(kind);
+    let count = row_parts(kind);
     let own = head_len(s, kind, rows[row + 3], rows[row + 4]);
     let bytes = total(count, own, sizes[first], sizes[second]);
     let nodes = total(count, nodes_of(kind), sizes[first + 1], sizes[second + 1]);

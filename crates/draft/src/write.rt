@@ -1,6 +1,6 @@
 // The term of a part, written from its rows.
-use crate::head::parts_of;
 use crate::head::put_head;
+use crate::head::row_parts;
 ghost use Rattle.rules.specs.Term.{Term};
 ghost use Rattle.draft.specs.Made.{Small};
 ghost use Rattle.draft.specs.Writing.{Writable, Puts};
@@ -29,7 +29,7 @@ pub fn put_part(
     let kind = rows[row];
     let second = rows[row + 2];
     let past = put_head(s, kind, rows[row + 3], rows[row + 4], out, at);
-    let count = parts_of(kind);
+    let count = row_parts(kind);
     if count == 0 {
         return past;
     }

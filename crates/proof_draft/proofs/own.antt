@@ -1,3 +1,4 @@
 pub mod Starting
 pub mod Walking
 pub mod Locals
+pub mod Drafting

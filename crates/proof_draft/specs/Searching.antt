@@ -35,16 +35,16 @@ pub record Going (s : Bytes) (row : List CutEntry) (k i n : ℕ) (q : Search) : 
   pub more : 0 < q .formulas
   pub atom : getD s (q .at) 0 < 3
   pub formulas : Row s row k (q .at) (q .formulas)
-  pub rest : Left s (q .at) row k (k - q .left)
+  pub rest : Left s (q .at) row k (q .oldest)
   pub enough : (o : Option Name) → Takes s row k (q .at) (q .formulas) o → Takes s row k i n o
 
 -- a search for the name that the n formulas from i on take: with no entry left it is over
 pub record Seeks (s : Bytes) (row : List CutEntry) (k i n : ℕ) (q : Search) : Type 0 where
-  pub few : q .left ≤ k
+  pub few : q .oldest ≤ k
   pub small : q .number < mostNumber
-  pub over : q .left ≡ 0 → Takes s row k i n (nameSaid s q)
-  pub goes : 0 < q .left → Going s row k i n q
+  pub over : q .oldest ≡ k → Takes s row k i n (nameSaid s q)
+  pub goes : q .oldest < k → Going s row k i n q
 
 -- how much of a search is left
 abbrev pub weight : (k : ℕ) → Search → ℕ
-weight k q = q .formulas * (k + 1) + q .left
+weight k q = q .formulas * (k + 1) + (k - q .oldest)

@@ -6,6 +6,10 @@ use Rattle.rules.specs.Basic.{Bytes}
 use Rattle.rules.specs.Proof.{Proof, rules}
 use Rattle.proof.specs.Place.{ProofAt}
 
+-- for a proof of at most so many rules a short row is made
+abbrev pub fewRules : ℕ
+fewRules = 64
+
 -- s is the proof p, of so many rules at most; there are rows for them, and the counter leaves room for their names
 pub record Whole (s : Bytes) (most : ℕ) (ws : List ℕ) (n : ℕ) (p : Proof) : Type 0 where
   pub proof : ProofAt s 0 p

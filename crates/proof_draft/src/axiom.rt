@@ -1,11 +1,11 @@
 // The name that an Axiom takes: that of the oldest cut entry that is the opposite of one of its atoms, or an atom's own.
 ghost use mathlib.Core.Path.{_≡_};
-ghost use mathlib.Core.Bool.{false, true};
+ghost use mathlib.Core.Bool.{false};
 ghost use mathlib.Core.List.{List};
-ghost use Prim.Native.Nat.{ℕ, _+_, _-_, _≤_, _<_};
+ghost use Prim.Native.Nat.{ℕ, _+_, _≤_, _<_};
 ghost use lib.ListN.{length, getD};
 ghost use Rattle.rules.specs.Name.{Name};
-ghost use Rattle.rules.specs.Formula.{Formula, Sign, atom as atomOf, plain, negated, signTag};
+ghost use Rattle.rules.specs.Formula.{Formula, Sign, atom as atomOf};
 ghost use Rattle.rules.specs.Extraction.{cutsAtom};
 ghost use Rattle.draft.specs.Made.{mostNumber};
 ghost use Rattle.proof.specs.Place.{FormulaAt};
@@ -17,11 +17,11 @@ use crate::entry::entry_at;
 use proof::rule::skip_formulas;
 use term::node;
 
-// The atom, how many formulas there are from it on, and how many entries are left for it. With none left the search is over, and has a name or none.
+// The atom, how many formulas there are from it on, and the oldest of k entries that is left for it. Where that is k none is left: the search is over, and has a name or none.
 pub struct Search {
     pub at: usize,
     pub formulas: usize,
-    pub left: usize,
+    pub oldest: usize,
     pub found: bool,
     pub stem: usize,
     pub number: usize,
@@ -44,33 +44,33 @@ fn opposed(s: &[u8], atom: usize, place: usize) -> bool
     node::same_name(s, place + 1, &s[from..end])
 }
 
-fn over(found: bool, stem: usize, number: usize) -> Search
-    ensures { λ r. ⌜ r ≡ record { at = 0; formulas = 0; left = 0; found = found; stem = stem; number = number } ⌝ }
+fn over(k: usize, found: bool, stem: usize, number: usize) -> Search
+    ensures { λ r. ⌜ r ≡ record { at = 0; formulas = 0; oldest = k; found = found; stem = stem; number = number } ⌝ }
 {
     Search {
         at: 0,
         formulas: 0,
-        left: 0,
+        oldest: k,
         found,
         stem,
         number,
     }
 }
 
-fn going(at: usize, formulas: usize, left: usize) -> Search
-    ensures { λ r. ⌜ r ≡ record { at = at; formulas = formulas; left = left; found = false; stem = 0; number = 0 } ⌝ }
+fn going(at: usize, formulas: usize, oldest: usize) -> Search
+    ensures { λ r. ⌜ r ≡ record { at = at; formulas = formulas; oldest = oldest; found = false; stem = 0; number = 0 } ⌝ }
 {
     Search {
         at,
         formulas,
-        left,
+        oldest,
         found: false,
         stem: 0,
         number: 0,
     }
 }
 
-// The search goes to the first atom of n formulas from `at` on. With no entries at all an Atom is its own name, and a NegAtom is passed over.
+// The search goes to the first atom of n formulas from `at` on. With no entries at all an Atom, tag 1, is its own name, and a NegAtom, tag 2, is passed over.
 fn search_from(s: &[u8], at: usize, n: usize, k: usize) -> Search
     requires { ⌜ ((row : List CutEntry) × Row (now s) row k at n) ⌝ }
     ensures { λ r. ⌜ ((row : List CutEntry) → Row (now (s .entry)) row k at n → Seeks (now (s .entry)) row k at n r) ⌝ }
@@ -80,21 +80,21 @@ fn search_from(s: &[u8], at: usize, n: usize, k: usize) -> Search
     let mut formulas = n;
     while 0 < formulas {
         let tag = s[i];
-        if no_atom(tag) {
+        if 2 < tag {
             i = skip_formulas(s, i, 1);
             formulas -= 1;
             continue;
         }
         if 0 < k {
-            return going(i, formulas, k);
+            return going(i, formulas, 0);
         }
-        if own_name(tag) {
-            return over(true, i + 1, 0);
+        if tag == 1 {
+            return over(k, true, i + 1, 0);
         }
         i = skip_formulas(s, i, 1);
         formulas -= 1;
     }
-    over(false, 0, 0)
+    over(k, false, 0, 0)
 }
 
 // The search through the formulas that are counted at `linear`.
@@ -107,21 +107,22 @@ fn search_at(s: &[u8], linear: usize, k: usize) -> Search
     search_from(s, linear + 1, many, k)
 }
 
-// The search after a look at the oldest entry that is left.
+// The search after a look at the oldest entry that is left: the one after it is the oldest then.
 fn compared(s: &[u8], k: usize, search: Search, entry: CutEntry) -> Search
-    requires { ⌜ (0 < search .left) × ((row : List CutEntry) × (i : ℕ) × (n : ℕ) × Seeks (now s) row k i n search × (entry ≡ inRow row (k - search .left))) ⌝ }
+    requires { ⌜ (search .oldest < k) × ((row : List CutEntry) × (i : ℕ) × (n : ℕ) × Seeks (now s) row k i n search × (entry ≡ inRow row (search .oldest))) ⌝ }
     ensures { λ r. ⌜ (weight k r < weight k search) × ((row : List CutEntry) → (i : ℕ) → (n : ℕ) → Seeks (now (s .entry)) row k i n search
-        → entry ≡ inRow row (k - search .left) → Seeks (now (s .entry)) row k i n r) ⌝ }
+        → entry ≡ inRow row (search .oldest) → Seeks (now (s .entry)) row k i n r) ⌝ }
 {
     let at = search.at;
     if opposed(s, at, entry.place) {
-        return over(true, entry.place + 1, entry.counter as usize + 1);
+        return over(k, true, entry.place + 1, entry.counter as usize + 1);
     }
-    if 1 < search.left {
-        return going(at, search.formulas, search.left - 1);
+    let newer = search.oldest + 1;
+    if newer < k {
+        return going(at, search.formulas, newer);
     }
-    if own_name(s[at]) {
-        return over(true, at + 1, 0);
+    if s[at] == 1 {
+        return over(k, true, at + 1, 0);
     }
     let next = skip_formulas(s, at, 1);
     search_from(s, next, search.formulas - 1, k)
@@ -133,40 +134,9 @@ pub fn axiom_name(s: &[u8], linear: usize, row: &[CutEntry], k: usize) -> Search
     ensures { λ r. ⌜ Takes (now (s .entry)) (now (row .entry)) k (linear + 1) (getD (now (s .entry)) linear 0) (nameSaid (now (s .entry)) r) × (r .number < mostNumber) ⌝ }
 {
     let mut search = search_at(s, linear, k);
-    while 0 < search.left {
-        let entry = entry_at(row, oldest_left(k, search.left));
+    while search.oldest < k {
+        let entry = entry_at(row, search.oldest);
         search = compared(s, k, search, entry);
     }
     search
-}
-
-// What is decided of one formula, and of one cut entry, where the name that an Axiom takes is sought.
-
-// Whether a formula of this tag is neither an Atom nor a NegAtom.
-pub fn no_atom(tag: u8) -> bool
-    ensures { λ r. ⌜ (r ≡ true → signTag negated < tag) × (r ≡ false → tag ≤ signTag negated) ⌝ }
-{
-    if 2 < tag {
-        return true;
-    }
-    false
-}
-
-// Whether an atom of this tag is its own name where no entry is its opposite: an Atom is, a NegAtom is not.
-pub fn own_name(tag: u8) -> bool
-    ensures { λ r. ⌜ (r ≡ true → tag ≡ signTag plain) × (r ≡ false → tag ≡ signTag plain → ⊥) ⌝ }
-{
-    if tag == 1 {
-        return true;
-    }
-    false
-}
-
-// Of k entries, of which some are left, the oldest of those that are left.
-pub fn oldest_left(k: usize, left: usize) -> usize
-    requires { ⌜ (0 < left) × (left ≤ k) ⌝ }
-    ensures { λ r. ⌜ r ≡ k - left ⌝ }
-{
-    let entry = k - left;
-    entry
 }

@@ -156,18 +156,18 @@ pub four-long : (zs : List ℕ) → length (set (set (set (set zs 0 1) 1 1) 2 1)
 four-long zs = simp length-set
 
 -- a limit below the cap is kept or broken by the capped size as by the size itself
-limit-same : (n : ℕ) (b : Bool) → leb n 512 ≡ b → leb (capped n) 512 ≡ leb n 512
-limit-same n true e = le-leb (capped n) 512 (omega (arith, leb-true n 512 e)) ∙ sym e
-limit-same n false e = lt-leb (capped n) 512 (omega (arith, leb-false n 512 e)) ∙ sym e
+limit-same : (n : ℕ) (b : Bool) → leb n (limits .nodes) ≡ b → leb (capped n) (limits .nodes) ≡ leb n (limits .nodes)
+limit-same n true e = le-leb (capped n) (limits .nodes) (omega (arith, leb-true n (limits .nodes) e)) ∙ sym e
+limit-same n false e = lt-leb (capped n) (limits .nodes) (omega (arith, leb-false n (limits .nodes) e)) ∙ sym e
 
-pub too-long : (b : ℕ) (t : Term) → b ≡ capped (size t) → 4096 < b → false ≡ fits limits t
+pub too-long : (b : ℕ) (t : Term) → b ≡ capped (size t) → limits .bytes < b → false ≡ fits limits t
 unfolding fits
-too-long b t e h = rw (lt-leb (size t) 4096 (omega arith)) (sym (and-false (leb (nodes t) 512)))
+too-long b t e h = rw (lt-leb (size t) (limits .bytes) (omega arith)) (sym (and-false (leb (nodes t) (limits .nodes))))
 
-pub short-enough : (b m : ℕ) (t : Term) → b ≡ capped (size t) → m ≡ capped (nodes t) → b ≤ 4096 → leb m 512 ≡ fits limits t
+pub short-enough : (b m : ℕ) (t : Term) → b ≡ capped (size t) → m ≡ capped (nodes t) → b ≤ limits .bytes → leb m (limits .nodes) ≡ fits limits t
 unfolding fits
 short-enough b m t e f h =
-    ap (λ (k : ℕ). leb k 512) f ∙ limit-same (nodes t) (leb (nodes t) 512) refl ∙ rw (le-leb (size t) 4096 (omega arith)) (sym (and-true (leb (nodes t) 512)))
+    ap (λ (k : ℕ). leb k (limits .nodes)) f ∙ limit-same (nodes t) (leb (nodes t) (limits .nodes)) refl ∙ rw (le-leb (size t) (limits .bytes) (omega arith)) (sym (and-true (leb (nodes t) (limits .nodes))))
 
 -- the words of a row's parts stand in the list
 pub first-in : {ws : List ℕ} {n : ℕ} {zs : List ℕ} → Countable ws n zs → (i : ℕ) → i < n → rowAt ws i .first * 2 + 2 ≤ length zs

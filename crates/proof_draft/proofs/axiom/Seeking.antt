@@ -20,37 +20,36 @@ use Rattle.proof_draft.specs.declared.axiom.Search.{Search}
 use Rattle.proof_draft.proofs.axiom.Opposites.{Two, Cuts, Sought, left-all, left-next, finds-none, finds-here, entry-two, entry-room}
 use Rattle.proof_draft.proofs.axiom.Axioms.{Gives, given-inside, atom-sought, gives-own, gives-entry, gives-nothing, row-first, row-one, row-next, takes-none, takes-first, takes-next}
 
-abbrev pub ended : Bool → (stem number : ℕ) → Search
-ended f p m = record { at = 0; formulas = 0; left = 0; found = f; stem = p; number = m }
+abbrev pub ended : (k : ℕ) → Bool → (stem number : ℕ) → Search
+ended k f p m = record { at = 0; formulas = 0; oldest = k; found = f; stem = p; number = m }
 
-abbrev pub still : (at formulas left : ℕ) → Search
-still i n j = record { at = i; formulas = n; left = j; found = false; stem = 0; number = 0 }
+abbrev pub still : (at formulas oldest : ℕ) → Search
+still i n j = record { at = i; formulas = n; oldest = j; found = false; stem = 0; number = 0 }
 
 -- an atom that is no Atom gives nothing where there are no entries
 pub gives-none : (s : Bytes) (row : List CutEntry) (k j : ℕ) → getD s j 0 < 3 → k ≡ 0 → (getD s j 0 ≡ 1 → ⊥) → Gives s row k j none
 gives-none s row k j a e b = gives-nothing s row k j a none (finds-none s j row k 0 (omega arith) (left-all s j row k)) b refl
 
 module _ {s : Bytes} {row : List CutEntry} {k i n : ℕ} where
-  no-more : {p m : ℕ} {f : Bool} → m < mostNumber → Takes s row k i n (nameSaid s (ended f p m)) → Seeks s row k i n (ended f p m)
-  no-more h t = record { few = omega arith; small = h; over = λ z. t; goes = λ z. absurd (omega arith) }
+  no-more : {p m : ℕ} {f : Bool} → m < mostNumber → Takes s row k i n (nameSaid s (ended k f p m)) → Seeks s row k i n (ended k f p m)
+  no-more h t = record { few = omega arith; small = h; over = λ z. t; goes = λ z. absurd (omega (arith, z)) }
 
   -- ---- from formula to formula, with the entries still to be looked at
   module _ {j m : ℕ} (r : Row s row k j m) (t : (o : Option Name) → Takes s row k j m o → Takes s row k i n o) where
-    pub from-none : m ≡ 0 → Seeks s row k i n (ended false 0 0)
+    pub from-none : m ≡ 0 → Seeks s row k i n (ended k false 0 0)
     from-none z = no-more (omega arith) (t none (takes-none s row k j m z))
 
     module _ (h : 0 < m) where
-      pub from-atom : getD s j 0 < 3 → 0 < k → Seeks s row k i n (still j m k)
+      pub from-atom : getD s j 0 < 3 → 0 < k → Seeks s row k i n (still j m 0)
       from-atom a g =
-          let z : k - k ≡ 0 = omega arith in
           record {
             few = omega arith;
             small = omega arith;
-            over = λ e. absurd (omega arith);
-            goes = λ e. record { more = h; atom = a; formulas = r; rest = subst (λ (x : ℕ). Left s j row k x) (sym z) (left-all s j row k); enough = t };
+            over = λ e. absurd (omega (arith, e, g));
+            goes = λ e. record { more = h; atom = a; formulas = r; rest = left-all s j row k; enough = t };
           }
 
-      pub from-own : k ≡ 0 → getD s j 0 ≡ 1 → Seeks s row k i n (ended true (j + 1) 0)
+      pub from-own : k ≡ 0 → getD s j 0 ≡ 1 → Seeks s row k i n (ended k true (j + 1) 0)
       from-own e a =
           let f = finds-none s j row k 0 (omega arith) (left-all s j row k) in
           no-more (omega arith) (t (some (nameOf s (j + 1) 0)) (takes-first s row k j m h (nameOf s (j + 1) 0) (gives-own s row k j (omega arith) none f a refl)))
@@ -62,29 +61,23 @@ module _ {s : Bytes} {row : List CutEntry} {k i n : ℕ} where
 
   -- ---- from entry to entry
 
-  module _ (q : Search) (w : Seeks s row k i n q) (h : 0 < q .left) (x : CutEntry) (e : x ≡ inRow row (k - q .left)) where
-    abbrev entry : ℕ
-    entry = k - q .left
-
+  module _ (q : Search) (w : Seeks s row k i n q) (h : q .oldest < k) (x : CutEntry) (e : x ≡ inRow row (q .oldest)) where
     abbrev spot : CutEntry
-    spot = inRow row entry
+    spot = inRow row (q .oldest)
 
     going : Going s row k i n q
     going = w .goes h
-
-    inside : entry < k
-    inside = omega (arith, w .few)
 
     sought : Sought s (q .at) row k
     sought = atom-sought s row k (q .at) (going .atom) (row-first s row k (q .at) (q .formulas) (going .more) (going .formulas))
 
     pub seeks-two : Two s (q .at) (x .place)
-    seeks-two = subst (λ (z : CutEntry). Two s (q .at) (z .place)) (sym e) (entry-two s (q .at) row k entry inside sought)
+    seeks-two = subst (λ (z : CutEntry). Two s (q .at) (z .place)) (sym e) (entry-two s (q .at) row k (q .oldest) h sought)
 
     pub seeks-room : (x .place < length s) × (x .counter + 1 < mostNumber)
     seeks-room =
         let (g, a, es, v, y) = sought in
-        subst (λ (z : CutEntry). (z .place < length s) × (z .counter + 1 < mostNumber)) (sym e) (entry-room s (q .at) row k entry inside sought, y .each entry inside .low)
+        subst (λ (z : CutEntry). (z .place < length s) × (z .counter + 1 < mostNumber)) (sym e) (entry-room s (q .at) row k (q .oldest) h sought, y .each (q .oldest) h .low)
 
     pub seeks-inside : q .at < length s
     seeks-inside = given-inside s row k (q .at) (row-first s row k (q .at) (q .formulas) (going .more) (going .formulas))
@@ -99,38 +92,36 @@ module _ {s : Bytes} {row : List CutEntry} {k i n : ℕ} where
       c : Cuts s (q .at) (spot .place) r
       c = subst (λ (z : CutEntry). Cuts s (q .at) (z .place) r) e cuts
 
-      pub seeks-found : r ≡ true → Seeks s row k i n (ended true (x .place + 1) (x .counter + 1))
+      pub seeks-found : r ≡ true → Seeks s row k i n (ended k true (x .place + 1) (x .counter + 1))
       seeks-found z =
           let y = nameOf s (spot .place + 1) (spot .counter + 1) in
-          let f = finds-here s (q .at) row k entry inside (going .rest) r c z in
-          subst (λ (u : CutEntry). Seeks s row k i n (ended true (u .place + 1) (u .counter + 1))) (sym e)
+          let f = finds-here s (q .at) row k (q .oldest) h (going .rest) r c z in
+          subst (λ (u : CutEntry). Seeks s row k i n (ended k true (u .place + 1) (u .counter + 1))) (sym e)
           (no-more (subst (λ (u : CutEntry). u .counter + 1 < mostNumber) e (seeks-room .1)) (going .enough (some y) (takes-first s row k (q .at) (q .formulas) (going .more) y (gives-entry s row k (q .at) (going .atom) (some y) f y refl))))
 
       module _ (z : r ≡ false) where
-        passed : Left s (q .at) row k (entry + 1)
-        passed = left-next s (q .at) row k entry inside (going .rest) r c z
+        passed : Left s (q .at) row k (q .oldest + 1)
+        passed = left-next s (q .at) row k (q .oldest) h (going .rest) r c z
 
-        pub seeks-on : 1 < q .left → Seeks s row k i n (still (q .at) (q .formulas) (q .left - 1))
+        pub seeks-on : q .oldest + 1 < k → Seeks s row k i n (still (q .at) (q .formulas) (q .oldest + 1))
         seeks-on l =
-            let y : entry + 1 ≡ k - (q .left - 1) = omega (arith, w .few) in
             record {
-              few = omega (arith, w .few);
+              few = omega (arith, l);
               small = omega arith;
-              over = λ z. absurd (omega arith);
-              goes =
-                  λ _. record { more = going .more; atom = going .atom; formulas = going .formulas; rest = subst (λ (x : ℕ). Left s (q .at) row k x) y passed; enough = going .enough };
+              over = λ z. absurd (omega (arith, l, z));
+              goes = λ _. record { more = going .more; atom = going .atom; formulas = going .formulas; rest = passed; enough = going .enough };
             }
 
-        module _ (l : q .left ≤ 1) where
-          pub seeks-own : getD s (q .at) 0 ≡ 1 → Seeks s row k i n (ended true (q .at + 1) 0)
+        module _ (l : k ≤ q .oldest + 1) where
+          pub seeks-own : getD s (q .at) 0 ≡ 1 → Seeks s row k i n (ended k true (q .at + 1) 0)
           seeks-own a =
-              let f = finds-none s (q .at) row k (entry + 1) (omega (arith, w .few)) passed in
+              let f = finds-none s (q .at) row k (q .oldest + 1) l passed in
               let y = nameOf s (q .at + 1) 0 in
               no-more (omega arith) (going .enough (some y) (takes-first s row k (q .at) (q .formulas) (going .more) y (gives-own s row k (q .at) (going .atom) none f a refl)))
 
           module _ (a : getD s (q .at) 0 ≡ 1 → ⊥) (j : ℕ) (d : SkipIs encodeFormula s (q .at) 1 j) where
             silent : Gives s row k (q .at) none
-            silent = gives-nothing s row k (q .at) (going .atom) none (finds-none s (q .at) row k (entry + 1) (omega (arith, w .few)) passed) a refl
+            silent = gives-nothing s row k (q .at) (going .atom) none (finds-none s (q .at) row k (q .oldest + 1) l passed) a refl
 
             pub seeks-row : Row s row k j (q .formulas - 1)
             seeks-row = row-next s row k (q .at) (q .formulas) (going .more) j d (going .formulas)
@@ -148,15 +139,15 @@ module _ {s : Bytes} {row : List CutEntry} {k i n : ℕ} where
                 }
 
 -- a search that is over weighs less than one that is not, and one entry less weighs less
-pub weighs : (k : ℕ) (q : Search) → 0 < q .left → 0 * (k + 1) + 0 < weight k q
+pub weighs : (k : ℕ) (q : Search) → q .oldest < k → 0 * (k + 1) + (k - k) < weight k q
 weighs k q h = omega (arith, h)
 
-pub weighs-less : (k m f : ℕ) → 0 < f → m * (k + 1) + (f - 1) < m * (k + 1) + f
-weighs-less k m f h = omega (arith, h)
+pub weighs-less : (k m e : ℕ) → e < k → m * (k + 1) + (k - (e + 1)) < m * (k + 1) + (k - e)
+weighs-less k m e h = omega (arith, h)
 
 -- a formula less weighs less
-pub lighter : (k a b e f : ℕ) → b < a → e ≤ k → 0 < f → b * (k + 1) + e < a * (k + 1) + f
-lighter k a b e f l h g =
+pub lighter : (k a b e f : ℕ) → b < a → b * (k + 1) + (k - e) < a * (k + 1) + (k - f)
+lighter k a b e f l =
     let z : (b + 1) * (k + 1) ≤ a * (k + 1) = mul-le-mul-right (k + 1) (omega (arith, l)) in
     let y : (b + 1) * (k + 1) ≡ b * (k + 1) + (k + 1) = omega arith in
-    omega (arith, z, y, h, g)
+    omega (arith, z, y)

@@ -1,5 +1,5 @@
 -- What a failed test of two numbers tells. Assumes nothing.
-use Prim.Native.Nat.{ℕ, _-_, _<_, _≤_}
+use Prim.Native.Nat.{ℕ, _<_, _≤_}
 use mathlib.Core.Path.{_≡_, subst}
 use mathlib.Core.Bool.{not}
 use native.Mathlib.Omega.{arith}
@@ -14,8 +14,8 @@ not-below m n h = let z : (m < n → ⊥) = λ l. T-not (ltb m n) h (lt→ltb m 
 pub only-two : (m : ℕ) → m < 3 → 2 ≤ m → m ≡ 2
 only-two m a b = omega (arith, a, b)
 
-pub none-left : (m : ℕ) → T (not (ltb 0 m)) → m ≡ 0
-none-left m h = let z : (0 < m → ⊥) = λ l. T-not (ltb 0 m) h (lt→ltb 0 m l) in omega (arith, z)
+pub none-left : {m n : ℕ} → m ≤ n → T (not (ltb m n)) → m ≡ n
+none-left {m} {n} l h = let z : n ≤ m = not-below m n h in omega (arith, l, z)
 
-pub within : {k left i m : ℕ} → left ≤ k → 0 < left → i ≡ k - left → k ≤ m → i < m
-within a b e c = omega (arith, a, b, e, c)
+pub within : {i k m : ℕ} → i < k → k ≤ m → i < m
+within a c = omega (arith, a, c)

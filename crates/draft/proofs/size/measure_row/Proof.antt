@@ -46,8 +46,8 @@ mul-second-2 c =
     let b = c .before .before .before .before .before .before in
     omega (arith, second-in (b .pre .0) (b .args .i) (b .pre .2))
 
-parts-of-requires : tie.Need-parts-of-requires
-parts-of-requires c κs = search needs
+row-parts-requires : tie.Need-row-parts-requires
+row-parts-requires c κs = search needs
 
 add-head-len : tie.Need-add-head-len
 add-head-len c = search needs
@@ -168,8 +168,8 @@ returns c =
     let h = b .pre .2 in
     measured-as (omega arith)
     (measured-more (c .before .before .before .before .total .result) (c .total2 .result) (omega (arith, b .pre .0 .room, h)) (b .pre .1)
-    (row-bytes i (b .pre .0 .rows) h (b .pre .1) _ _ _ (c .before .before .before .before .before .before .before .before .before .before .parts-of .ensures) (c .before .before .before .before .before .before .before .head-len .ensures .0) (c .before .before .before .before .total .ensures))
-    (row-nodes i (b .pre .0 .rows) h (b .pre .1) _ _ _ (c .before .before .before .before .before .before .before .before .before .before .parts-of .ensures) (c .before .before .before .nodes-of .ensures) (c .total2 .ensures)))
+    (row-bytes i (b .pre .0 .rows) h (b .pre .1) _ _ _ (c .before .before .before .before .before .before .before .before .before .before .row-parts .ensures) (c .before .before .before .before .before .before .before .head-len .ensures .0) (c .before .before .before .before .total .ensures))
+    (row-nodes i (b .pre .0 .rows) h (b .pre .1) _ _ _ (c .before .before .before .before .before .before .before .before .before .before .row-parts .ensures) (c .before .before .before .nodes-of .ensures) (c .total2 .ensures)))
 
 pub measure-row-spec : {M : Type 1} → statement M
 measure-row-spec =
@@ -186,7 +186,7 @@ measure-row-spec =
     mul-second
     shared-slice-read-second
     mul-second-2
-    parts-of-requires
+    row-parts-requires
     add-head-len
     mul-head-len
     shared-slice-read-head-len

@@ -12,7 +12,7 @@ use borrow.Fn.PlainCycle.{Measures, is, falls, and}
 use Rattle.draft.proofs.write.put_part.Reads as put-part
 use Rattle.draft.proofs.write.put_part.Kinds as put-part-kinds
 use Rattle.draft.proofs.write.+put_part.Lts-put_part as put-part-lts
-use Rattle.draft.proofs.head.parts_of.Reads as parts-of-reads
+use Rattle.draft.proofs.head.row_parts.Reads as row-parts-reads
 use Rattle.draft.proofs.head.put_head.Reads as put-head-reads
 use Rattle.draft.proofs.write.+put_part.{statement}
 use Rattle.draft.proofs.write.+put_part.Tie.{close}
@@ -28,7 +28,7 @@ put-part-below t =
     and 3 put-part-kinds.ps (falls 3 put-part-kinds.ps _<_ μ-put-part t) put-part.Pre
 
 abbrev put-part-claims : ℕ → put-part-lts.Claims
-put-part-claims t = (put-head-reads.Asked, put-head-reads.Learnt, parts-of-reads.Asked, parts-of-reads.Learnt, put-part-below t, put-part.Post)
+put-part-claims t = (put-head-reads.Asked, put-head-reads.Learnt, row-parts-reads.Asked, row-parts-reads.Learnt, put-part-below t, put-part.Post)
 
 put-part-slice-write-out : (t : ℕ) → put-part-lts.Need-slice-write-out (put-part-claims t) (put-part-at t) put-part.Post
 put-part-slice-write-out t c =
@@ -134,14 +134,14 @@ put-part-put-head-requires t c κs =
     let b = c .before .before .before .before .before .before .before .before .before .before in
     head-room (b .pre .1 .1 .1) (c .before .before .before .before .before .before .if1 .left) (c .before .before .before .before .before .if2 .left) (b .pre .1 .0)
 
-put-part-parts-of-requires : (t : ℕ) → put-part-lts.Need-parts-of-requires (put-part-claims t) (put-part-at t) put-part.Post
-put-part-parts-of-requires t c κs = tt
+put-part-row-parts-requires : (t : ℕ) → put-part-lts.Need-row-parts-requires (put-part-claims t) (put-part-at t) put-part.Post
+put-part-row-parts-requires t c κs = tt
 
 put-part-same-length-3 : (t : ℕ) → put-part-lts.Need-same-length-3 (put-part-claims t) (put-part-at t) put-part.Post
 put-part-same-length-3 t c = c .before .before .before .before .put-head .kept .1 .1 .1 .1 .0
 
 put-part-returns-3 : (t : ℕ) → put-part-lts.Need-returns-3 (put-part-claims t) (put-part-at t) put-part.Post
-put-part-returns-3 t c = let a = c .before .before .before .before .before .before .before .before .before .before .before .before .before .before .before .args in end-head (now (a .s)) (now (a .rows)) (a .used) (a .part) (c .before .before .before .before .before .before .before .before .before .before .before .if1 .left) (c .before .before .before .before .before .before .before .before .before .before .if2 .left) (c .before .before .before .before .put-head .ensures) (c .before .parts-of .result) (c .before .parts-of .ensures) (c .if3 .taken)
+put-part-returns-3 t c = let a = c .before .before .before .before .before .before .before .before .before .before .before .before .before .before .before .args in end-head (now (a .s)) (now (a .rows)) (a .used) (a .part) (c .before .before .before .before .before .before .before .before .before .before .before .if1 .left) (c .before .before .before .before .before .before .before .before .before .before .if2 .left) (c .before .before .before .before .put-head .ensures) (c .before .row-parts .result) (c .before .row-parts .ensures) (c .if3 .taken)
 
 put-part-add-put-part : (t : ℕ) → put-part-lts.Need-add-put-part (put-part-claims t) (put-part-at t) put-part.Post
 put-part-add-put-part t c =
@@ -161,35 +161,35 @@ put-part-shared-slice-read-put-part t c =
 put-part-put-part-requires : (t : ℕ) → put-part-lts.Need-put-part-requires (put-part-claims t) (put-part-at t) put-part.Post
 put-part-put-part-requires t c κs =
     let b = c .before .before .before .before .before .before .before .before .before .before .before .before .before .before .before .before .before in
-    (omega (arith, b .pre .0, first-before (b .args .part) (c .before .before .before .before .before .before .before .before .before .before .before .before .before .if1 .left) (c .before .before .before .before .before .before .before .before .before .before .before .before .if2 .left) (b .pre .1 .1 .1 .drafts)), (b .pre .1 .0, first-room (b .pre .1 .1 .1) (c .before .before .before .before .before .before .before .before .before .before .before .before .before .if1 .left) (c .before .before .before .before .before .before .before .before .before .before .before .before .if2 .left) (c .before .before .before .before .before .before .put-head .ensures) (c .before .before .before .parts-of .result) (c .before .before .before .parts-of .ensures) (c .before .before .if3 .left)))
+    (omega (arith, b .pre .0, first-before (b .args .part) (c .before .before .before .before .before .before .before .before .before .before .before .before .before .if1 .left) (c .before .before .before .before .before .before .before .before .before .before .before .before .if2 .left) (b .pre .1 .1 .1 .drafts)), (b .pre .1 .0, first-room (b .pre .1 .1 .1) (c .before .before .before .before .before .before .before .before .before .before .before .before .before .if1 .left) (c .before .before .before .before .before .before .before .before .before .before .before .before .if2 .left) (c .before .before .before .before .before .before .put-head .ensures) (c .before .before .before .row-parts .result) (c .before .before .before .row-parts .ensures) (c .before .before .if3 .left)))
 
 put-part-same-length-4 : (t : ℕ) → put-part-lts.Need-same-length-4 (put-part-claims t) (put-part-at t) put-part.Post
 put-part-same-length-4 t c = c .before .before .before .put-part .kept .1 .1 .1 .1 .0 ∙ c .before .before .before .before .before .before .before .before .before .before .put-head .kept .1 .1 .1 .1 .0
 
 put-part-returns-4 : (t : ℕ) → put-part-lts.Need-returns-4 (put-part-claims t) (put-part-at t) put-part.Post
-put-part-returns-4 t c = let a = c .before .before .before .before .before .before .before .before .before .before .before .before .before .before .before .before .before .before .before .before .before .args in end-first (now (a .s)) (now (a .rows)) (a .used) (a .part) (c .before .before .before .before .before .before .before .before .before .before .before .before .before .before .before .before .before .if1 .left) (c .before .before .before .before .before .before .before .before .before .before .before .before .before .before .before .before .if2 .left) (c .before .before .before .before .before .before .before .before .before .before .put-head .ensures) (c .before .before .before .before .before .before .before .parts-of .result) (c .before .before .before .before .before .before .before .parts-of .ensures) (c .before .before .before .put-part .ensures) (c .if4 .taken)
+put-part-returns-4 t c = let a = c .before .before .before .before .before .before .before .before .before .before .before .before .before .before .before .before .before .before .before .before .before .args in end-first (now (a .s)) (now (a .rows)) (a .used) (a .part) (c .before .before .before .before .before .before .before .before .before .before .before .before .before .before .before .before .before .if1 .left) (c .before .before .before .before .before .before .before .before .before .before .before .before .before .before .before .before .if2 .left) (c .before .before .before .before .before .before .before .before .before .before .put-head .ensures) (c .before .before .before .before .before .before .before .row-parts .result) (c .before .before .before .before .before .before .before .row-parts .ensures) (c .before .before .before .put-part .ensures) (c .if4 .taken)
 
 put-part-put-part-requires-2 : (t : ℕ) → put-part-lts.Need-put-part-requires-2 (put-part-claims t) (put-part-at t) put-part.Post
 put-part-put-part-requires-2 t c κs =
     let b = c .before .before .before .before .before .before .before .before .before .before .before .before .before .before .before .before .before .before .before .before .before .before in
-    (omega (arith, b .pre .0, second-before (b .args .part) (c .before .before .before .before .before .before .before .before .before .before .before .before .before .before .before .before .before .before .if1 .left) (c .before .before .before .before .before .before .before .before .before .before .before .before .before .before .before .before .before .if2 .left) (b .pre .1 .1 .1 .drafts)), (b .pre .1 .0, second-room (b .pre .1 .1 .1) (c .before .before .before .before .before .before .before .before .before .before .before .before .before .before .before .before .before .before .if1 .left) (c .before .before .before .before .before .before .before .before .before .before .before .before .before .before .before .before .before .if2 .left) (c .before .before .before .before .before .before .before .before .before .before .before .put-head .ensures) (c .before .before .before .before .before .before .before .before .parts-of .result) (c .before .before .before .before .before .before .before .before .parts-of .ensures) (c .before .before .before .before .before .before .before .if3 .left) (c .before .before .before .before .put-part .ensures) (c .before .if4 .left)))
+    (omega (arith, b .pre .0, second-before (b .args .part) (c .before .before .before .before .before .before .before .before .before .before .before .before .before .before .before .before .before .before .if1 .left) (c .before .before .before .before .before .before .before .before .before .before .before .before .before .before .before .before .before .if2 .left) (b .pre .1 .1 .1 .drafts)), (b .pre .1 .0, second-room (b .pre .1 .1 .1) (c .before .before .before .before .before .before .before .before .before .before .before .before .before .before .before .before .before .before .if1 .left) (c .before .before .before .before .before .before .before .before .before .before .before .before .before .before .before .before .before .if2 .left) (c .before .before .before .before .before .before .before .before .before .before .before .put-head .ensures) (c .before .before .before .before .before .before .before .before .row-parts .result) (c .before .before .before .before .before .before .before .before .row-parts .ensures) (c .before .before .before .before .before .before .before .if3 .left) (c .before .before .before .before .put-part .ensures) (c .before .if4 .left)))
 
 put-part-same-length-5 : (t : ℕ) → put-part-lts.Need-same-length-5 (put-part-claims t) (put-part-at t) put-part.Post
 put-part-same-length-5 t c = c .before .before .before .put-part2 .kept .1 .1 .1 .1 .0 ∙ c .before .before .before .before .before .before .before .before .put-part .kept .1 .1 .1 .1 .0 ∙ c .before .before .before .before .before .before .before .before .before .before .before .before .before .before .before .put-head .kept .1 .1 .1 .1 .0
 
 put-part-returns-5 : (t : ℕ) → put-part-lts.Need-returns-5 (put-part-claims t) (put-part-at t) put-part.Post
-put-part-returns-5 t c = let a = c .before .before .before .before .before .before .before .before .before .before .before .before .before .before .before .before .before .before .before .before .before .before .before .before .before .before .args in end-second (now (a .s)) (now (a .rows)) (a .used) (a .part) (c .before .before .before .before .before .before .before .before .before .before .before .before .before .before .before .before .before .before .before .before .before .before .if1 .left) (c .before .before .before .before .before .before .before .before .before .before .before .before .before .before .before .before .before .before .before .before .before .if2 .left) (c .before .before .before .before .before .before .before .before .before .before .before .before .before .before .before .put-head .ensures) (c .before .before .before .before .before .before .before .before .before .before .before .before .parts-of .result) (c .before .before .before .before .before .before .before .before .before .before .before .before .parts-of .ensures) (c .before .before .before .before .before .before .before .before .put-part .ensures) (c .before .before .before .put-part2 .ensures) (c .if5 .taken)
+put-part-returns-5 t c = let a = c .before .before .before .before .before .before .before .before .before .before .before .before .before .before .before .before .before .before .before .before .before .before .before .before .before .before .args in end-second (now (a .s)) (now (a .rows)) (a .used) (a .part) (c .before .before .before .before .before .before .before .before .before .before .before .before .before .before .before .before .before .before .before .before .before .before .if1 .left) (c .before .before .before .before .before .before .before .before .before .before .before .before .before .before .before .before .before .before .before .before .before .if2 .left) (c .before .before .before .before .before .before .before .before .before .before .before .before .before .before .before .put-head .ensures) (c .before .before .before .before .before .before .before .before .before .before .before .before .row-parts .result) (c .before .before .before .before .before .before .before .before .before .before .before .before .row-parts .ensures) (c .before .before .before .before .before .before .before .before .put-part .ensures) (c .before .before .before .put-part2 .ensures) (c .if5 .taken)
 
 put-part-put-part-requires-3 : (t : ℕ) → put-part-lts.Need-put-part-requires-3 (put-part-claims t) (put-part-at t) put-part.Post
 put-part-put-part-requires-3 t c κs =
     let b = c .before .before .before .before .before .before .before .before .before .before .before .before .before .before .before .before .before .before .before .before .before .before .before .before .before .before .before in
-    (omega (arith, b .pre .0, second-before (b .args .part) (c .before .before .before .before .before .before .before .before .before .before .before .before .before .before .before .before .before .before .before .before .before .before .before .if1 .left) (c .before .before .before .before .before .before .before .before .before .before .before .before .before .before .before .before .before .before .before .before .before .before .if2 .left) (b .pre .1 .1 .1 .drafts)), (b .pre .1 .0, third-room (b .pre .1 .1 .1) (c .before .before .before .before .before .before .before .before .before .before .before .before .before .before .before .before .before .before .before .before .before .before .before .if1 .left) (c .before .before .before .before .before .before .before .before .before .before .before .before .before .before .before .before .before .before .before .before .before .before .if2 .left) (c .before .before .before .before .before .before .before .before .before .before .before .before .before .before .before .before .put-head .ensures) (c .before .before .before .before .before .before .before .before .before .before .before .before .before .parts-of .result) (c .before .before .before .before .before .before .before .before .before .before .before .before .before .parts-of .ensures) (c .before .before .before .before .before .before .before .before .before .before .before .before .if3 .left) (c .before .before .before .before .before .before .before .before .before .put-part .ensures) (c .before .before .before .before .before .before .if4 .left) (c .before .before .before .before .put-part2 .ensures) (c .before .if5 .left)))
+    (omega (arith, b .pre .0, second-before (b .args .part) (c .before .before .before .before .before .before .before .before .before .before .before .before .before .before .before .before .before .before .before .before .before .before .before .if1 .left) (c .before .before .before .before .before .before .before .before .before .before .before .before .before .before .before .before .before .before .before .before .before .before .if2 .left) (b .pre .1 .1 .1 .drafts)), (b .pre .1 .0, third-room (b .pre .1 .1 .1) (c .before .before .before .before .before .before .before .before .before .before .before .before .before .before .before .before .before .before .before .before .before .before .before .if1 .left) (c .before .before .before .before .before .before .before .before .before .before .before .before .before .before .before .before .before .before .before .before .before .before .if2 .left) (c .before .before .before .before .before .before .before .before .before .before .before .before .before .before .before .before .put-head .ensures) (c .before .before .before .before .before .before .before .before .before .before .before .before .before .row-parts .result) (c .before .before .before .before .before .before .before .before .before .before .before .before .before .row-parts .ensures) (c .before .before .before .before .before .before .before .before .before .before .before .before .if3 .left) (c .before .before .before .before .before .before .before .before .before .put-part .ensures) (c .before .before .before .before .before .before .if4 .left) (c .before .before .before .before .put-part2 .ensures) (c .before .if5 .left)))
 
 put-part-same-length-6 : (t : ℕ) → put-part-lts.Need-same-length-6 (put-part-claims t) (put-part-at t) put-part.Post
 put-part-same-length-6 t c = c .before .before .put-part3 .kept .1 .1 .1 .1 .0 ∙ c .before .before .before .before .before .before .before .put-part2 .kept .1 .1 .1 .1 .0 ∙ c .before .before .before .before .before .before .before .before .before .before .before .before .put-part .kept .1 .1 .1 .1 .0 ∙ c .before .before .before .before .before .before .before .before .before .before .before .before .before .before .before .before .before .before .before .put-head .kept .1 .1 .1 .1 .0
 
 put-part-returns-6 : (t : ℕ) → put-part-lts.Need-returns-6 (put-part-claims t) (put-part-at t) put-part.Post
-put-part-returns-6 t c = let a = c .before .before .before .before .before .before .before .before .before .before .before .before .before .before .before .before .before .before .before .before .before .before .before .before .before .before .before .before .before .before .args in end-third (now (a .s)) (now (a .rows)) (a .used) (a .part) (c .before .before .before .before .before .before .before .before .before .before .before .before .before .before .before .before .before .before .before .before .before .before .before .before .before .before .if1 .left) (c .before .before .before .before .before .before .before .before .before .before .before .before .before .before .before .before .before .before .before .before .before .before .before .before .before .if2 .left) (c .before .before .before .before .before .before .before .before .before .before .before .before .before .before .before .before .before .before .before .put-head .ensures) (c .before .before .before .before .before .before .before .before .before .before .before .before .before .before .before .before .parts-of .result) (c .before .before .before .before .before .before .before .before .before .before .before .before .before .before .before .before .parts-of .ensures) (c .before .before .before .before .before .before .before .before .before .before .before .before .put-part .ensures) (c .before .before .before .before .before .before .before .put-part2 .ensures) (c .before .before .put-part3 .ensures) (c .before .before .before .before .before .before .before .before .before .before .before .before .before .before .before .if3 .left) (c .before .before .before .before .before .before .before .before .before .if4 .left) (c .before .before .before .before .if5 .left)
+put-part-returns-6 t c = let a = c .before .before .before .before .before .before .before .before .before .before .before .before .before .before .before .before .before .before .before .before .before .before .before .before .before .before .before .before .before .before .args in end-third (now (a .s)) (now (a .rows)) (a .used) (a .part) (c .before .before .before .before .before .before .before .before .before .before .before .before .before .before .before .before .before .before .before .before .before .before .before .before .before .before .if1 .left) (c .before .before .before .before .before .before .before .before .before .before .before .before .before .before .before .before .before .before .before .before .before .before .before .before .before .if2 .left) (c .before .before .before .before .before .before .before .before .before .before .before .before .before .before .before .before .before .before .before .put-head .ensures) (c .before .before .before .before .before .before .before .before .before .before .before .before .before .before .before .before .row-parts .result) (c .before .before .before .before .before .before .before .before .before .before .before .before .before .before .before .before .row-parts .ensures) (c .before .before .before .before .before .before .before .before .before .before .before .before .put-part .ensures) (c .before .before .before .before .before .before .before .put-part2 .ensures) (c .before .before .put-part3 .ensures) (c .before .before .before .before .before .before .before .before .before .before .before .before .before .before .before .if3 .left) (c .before .before .before .before .before .before .before .before .before .if4 .left) (c .before .before .before .before .if5 .left)
 
 pub +put-part-spec : {M : Type 1} → statement M
 +put-part-spec = close μ-put-part λ t. put-part-lts.spec (put-part-claims t) (put-part-at t)
@@ -216,7 +216,7 @@ pub +put-part-spec : {M : Type 1} → statement M
     (put-part-mul-put-head-2 t)
     (put-part-shared-slice-read-put-head-2 t)
     (put-part-put-head-requires t)
-    (put-part-parts-of-requires t)
+    (put-part-row-parts-requires t)
     (put-part-same-length-3 t)
     (put-part-returns-3 t)
     (put-part-add-put-part t)

@@ -82,7 +82,7 @@ abbrev mach-plan : Plan → Val
 mach-plan r = vstruct (vcons (vint w64 (r .act)) (vcons (vint w64 (r .kind)) (vcons (vint w64 (r .names)) (vcons (vint w64 (r .linear)) (vcons (vint w64 (r .premises)) (vcons (vint w64 (r .first)) vnil))))))
 
 abbrev mach-search : Search → Val
-mach-search r = vstruct (vcons (vint w64 (r .at)) (vcons (vint w64 (r .formulas)) (vcons (vint w64 (r .left)) (vcons (vbool (r .found)) (vcons (vint w64 (r .stem)) (vcons (vint w64 (r .number)) vnil))))))
+mach-search r = vstruct (vcons (vint w64 (r .at)) (vcons (vint w64 (r .formulas)) (vcons (vint w64 (r .oldest)) (vcons (vbool (r .found)) (vcons (vint w64 (r .stem)) (vcons (vint w64 (r .number)) vnil))))))
 
 abbrev mach-draft : Drafted → Val
 mach-draft r = vstruct (vcons (vint w64 (r .next)) (vcons (vint w64 (r .used)) (vcons (vint w64 (r .counter)) (vcons (vint w64 (r .part)) vnil))))
