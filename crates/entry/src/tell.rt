@@ -1,5 +1,4 @@
-// Answers, told as 16 numbers: a refusal's number, place and input, or three zeros; the values of the answer; zeros. The array's length is part
-// of its type, so nobody can lend too few.
+// Answers, told as 16 numbers: a refusal's number, place and input, or three zeros; the values of the answer; zeros. (Steps and reductions: tell_steps.rt.)
 ghost use mathlib.Core.Path.{_≡_};
 ghost use Rattle.entry.specs.Told.{toldRefusal, toldAnswer};
 ghost use Rattle.entry.specs.Child.{ordered, toldPiece};
@@ -51,8 +50,6 @@ pub fn tell_piece(piece: Piece, told: &mut [u64; 16])
         }
     }
 }
-
-// What the larger calls answer, told as 16 numbers: verdicts and extractions here, steps and reductions in a file of their own.
 
 // Yes, no or a refusal, told as numbers.
 pub fn tell_verdict(v: Verdict, told: &mut [u64; 16])

@@ -1,6 +1,7 @@
 -- What printing leaves in its buffers. Assumes nothing: these are definitions.
+use Prim.Native.Nat.{ℕ, _+_}
 use Rattle.rules.specs.Basic.{Bytes}
-use Rattle.rules.specs.Limits.{Limits}
+use Rattle.rules.specs.Limits.{Limits, textRoom}
 use Rattle.rules.specs.Refusal.{good, refused, _>>=_}
 use Rattle.rules.specs.Reading.{readTerm}
 use Rattle.rules.specs.Reduction.{reduce}
@@ -8,6 +9,10 @@ use Rattle.rules.specs.Calls.{reduceCall}
 use Rattle.rules.specs.Stored.{opened}
 use Rattle.rules.specs.Program.{programSteps, report, reducedReport}
 use Rattle.rules.specs.declared.Kind.the-variants.{Term as aTerm}
+
+-- a term's text, and the line of the counts
+abbrev pub printedRoom : Limits → ℕ
+printedRoom L = textRoom L + 512
 
 -- what is printed for a term's bytes
 unfoldable pub printedFor : Limits → (content : Bytes) → Bytes

@@ -2,24 +2,11 @@
 -- Assumes nothing: these are definitions.
 use Prim.Native.Nat.{ℕ, _+_, _*_, _/_, _%_, _^_}
 use mathlib.Core.Bool.{Bool, false, _||_}
-use mathlib.Core.List.{_∷_}
-use Rattle.rules.specs.Basic.{Bytes, _==_, if_then_else_}
-use Rattle.rules.specs.Name.{Name, same, encodeNames}
-use Rattle.rules.specs.Term.{Term, var, leaf, one, two, abs, both, branch, leafTag, oneTag, twoTag, bothTag}
+use Rattle.rules.specs.Basic.{_==_, if_then_else_}
+use Rattle.rules.specs.Name.{Name, same}
+use Rattle.rules.specs.Term.{Term, var, leaf, one, two, abs, both, branch}
 pub use Rattle.rules.specs.Term.{names}
-pub use Rattle.laws.specs.size.Parts.{encodeAll}
-
-abbrev pub tag : Term → ℕ
-tag (var x) = 1
-tag (leaf k) = leafTag k
-tag (one k e) = oneTag k
-tag (two k a b) = twoTag k
-tag (abs x e) = 5
-tag (both k x y e b) = bothTag k
-tag (branch x y e l r) = 9
-
-abbrev pub head : Term → Bytes
-head t = tag t ∷ encodeNames (names t)
+pub use Rattle.laws.specs.size.Parts.{encodeAll, tag, head}
 
 -- the term is the variable x
 abbrev pub isVar : Name → Term → Bool

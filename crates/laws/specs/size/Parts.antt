@@ -7,9 +7,9 @@ use mathlib.Core.Option.{some}
 use native.Mathlib.Omega.{arith}
 use lib.ListN.{length, take, drop, getElem?, length-append}
 use Rattle.rules.specs.Basic.{Bytes, _‥_}
-use Rattle.rules.specs.Name.{encodeName}
+use Rattle.rules.specs.Name.{encodeName, encodeNames}
 use Rattle.rules.specs.Legal.{Legal}
-use Rattle.rules.specs.Term.{Term, var, leaf, one, two, abs, both, branch, leafTag, oneTag, twoTag, bothTag, encode, nodes, parts}
+use Rattle.rules.specs.Term.{Term, var, leaf, one, two, abs, both, branch, leafTag, oneTag, twoTag, bothTag, encode, nodes, names, parts}
 
 -- a row of terms: its bytes, its nodes, and that each is legal
 abbrev pub encodeAll : List Term → Bytes
@@ -24,37 +24,29 @@ abbrev pub AllLegal : List Term → Type 0
 AllLegal [] = Unit {0}
 AllLegal (t ∷ ts) = Legal t × AllLegal ts
 
--- a node's own bytes: its tag and its names
-abbrev pub ownBytes : Term → Bytes
-ownBytes (var x) = 1 ∷ encodeName x
-ownBytes (leaf k) = leafTag k ∷ []
-ownBytes (one k e) = oneTag k ∷ []
-ownBytes (two k a b) = twoTag k ∷ []
-ownBytes (abs x e) = 5 ∷ encodeName x
-ownBytes (both k x y e b) = bothTag k ∷ (encodeName x ‥ encodeName y)
-ownBytes (branch x y e l r) = 9 ∷ (encodeName x ‥ encodeName y)
+-- a node's tag; its head: the tag and the names as bytes
+abbrev pub tag : Term → ℕ
+tag (var x) = 1
+tag (leaf k) = leafTag k
+tag (one k e) = oneTag k
+tag (two k a b) = twoTag k
+tag (abs x e) = 5
+tag (both k x y e b) = bothTag k
+tag (branch x y e l r) = 9
 
-own-some : (t : Term) → 1 ≤ length (ownBytes t)
-own-some (var x) = omega arith
-own-some (leaf k) = omega arith
-own-some (one k e) = omega arith
-own-some (two k a b) = omega arith
-own-some (abs x e) = omega arith
-own-some (both k x y e b) = omega arith
-own-some (branch x y e l r) = omega arith
+abbrev pub head : Term → Bytes
+head t = tag t ∷ encodeNames (names t)
 
-own-two : (x : Bytes) (n : ℕ) (y l m : Bytes) → l ≡ m → x ++ (n ∷ (y ++ l)) ≡ (x ++ (n ∷ y)) ++ m
-own-two x n y l m e = rw (append-assoc x (n ∷ y) m, e)
-
-pub parts-bytes : (t : Term) → encode t ≡ ownBytes t ‥ encodeAll (parts t)
+-- a term is its head, then its parts
+pub apart : (t : Term) → encode t ≡ head t ‥ encodeAll (parts t)
 unfolding encode
-parts-bytes (var x) = simp append-nil
-parts-bytes (leaf k) = refl
-parts-bytes (one k e) = simp append-nil
-parts-bytes (two k a b) = simp append-nil
-parts-bytes (abs x e) = simp append-nil
-parts-bytes (both k x y e b) = ap (λ l. bothTag k ∷ length x ∷ l) (own-two x (length y) y (encode e ++ encode b) _ (simp append-nil))
-parts-bytes (branch x y e l r) = ap (λ l. 9 ∷ length x ∷ l) (own-two x (length y) y (encode e ++ (encode l ++ encode r)) _ (simp append-nil))
+apart (var x) = simp append-nil
+apart (leaf k) = refl
+apart (one k e) = simp append-nil
+apart (two k a b) = simp append-nil
+apart (abs x e) = rw (append-nil x, append-nil (encode e))
+apart (both k x y e b) = rw (append-nil y, append-nil (encode b), append-assoc x (encodeName y))
+apart (branch x y e l r) = rw (append-nil y, append-nil (encode r), append-assoc x (encodeName y))
 
 pub parts-nodes : (t : Term) → nodes t ≡ 1 + nodesOfAll (parts t)
 unfolding nodes
@@ -102,25 +94,24 @@ row-legal (t ∷ ts) zero u e l = let z : t ≡ u = cc in rw (← z) (l .0)
 row-legal (t ∷ ts) (suc k) u e l = row-legal ts k u e (l .1)
 
 module _ (t : Term) (k : ℕ) (u : Term) (e : getElem? (parts t) k ≡ some u) where
-  pub child-bytes : encode t ≡ (ownBytes t ‥ encodeAll (take k (parts t))) ‥ encode u ‥ encodeAll (drop (suc k) (parts t))
+  pub child-bytes : encode t ≡ (head t ‥ encodeAll (take k (parts t))) ‥ encode u ‥ encodeAll (drop (suc k) (parts t))
   child-bytes =
-      parts-bytes t ∙ ap (λ l. ownBytes t ++ l) (row-bytes (parts t) k u e)
-      ∙ sym (append-assoc (ownBytes t) (encodeAll (take k (parts t))) (encode u ‥ encodeAll (drop (suc k) (parts t))))
+      apart t ∙ ap (λ l. head t ++ l) (row-bytes (parts t) k u e)
+      ∙ sym (append-assoc (head t) (encodeAll (take k (parts t))) (encode u ‥ encodeAll (drop (suc k) (parts t))))
 
   pub child-nodes : nodes u < nodes t
   child-nodes = omega (arith, parts-nodes t, row-nodes (parts t) k u e)
 
   pub child-size : length (encode u) < length (encode t)
   child-size =
-      let front : Bytes = ownBytes t ‥ encodeAll (take k (parts t)) in
+      let front : Bytes = head t ‥ encodeAll (take k (parts t)) in
       let back : Bytes = encodeAll (drop (suc k) (parts t)) in
       omega (
         arith,
-        own-some t,
         ap length child-bytes,
         length-append front (encode u ‥ back),
         length-append (encode u) back,
-        length-append (ownBytes t) (encodeAll (take k (parts t))),
+        length-append (head t) (encodeAll (take k (parts t))),
       )
 
   pub child-legal : Legal t → Legal u

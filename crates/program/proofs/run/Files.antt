@@ -5,7 +5,7 @@ use native.Mathlib.Omega.{arith}
 use lib.ListN.{length, take, replicate}
 use borrow.Author.Tests.{le-leb}
 use Rattle.rules.specs.Basic.{Bytes}
-use Rattle.rules.specs.Limits.{limits}
+use Rattle.rules.specs.Limits.{limits, outputRoom}
 use Rattle.rules.specs.declared.Refusal.{Refusal}
 use Rattle.rules.specs.Refusal.{Outcome, good, refused, answered}
 use Rattle.rules.specs.declared.Answer.{Answer}
@@ -14,15 +14,15 @@ use Rattle.rules.specs.declared.Kind.the-variants.{Term as aTerm}
 use Rattle.rules.specs.Stored.{opened}
 use Rattle.rules.specs.Buffers.{Wrote, bytesOr, wrote}
 use Rattle.rules.specs.Calls.{loadCall, reduceCall}
-use Rattle.rules.specs.Program.{refusalLine, patchrun}
+use Rattle.rules.specs.Program.{programSteps, refusalLine, patchrun}
 use Rattle.program.specs.Printing.{printedFor, termAfter, scratchAfter}
 use Rattle.program.proofs.run.Starting.{starts-append, starts-inside}
 
 -- a file that opens: its content stands at the start of the output, and is all that what follows depends on
 pub record Opened (file term scratch out₁ : Bytes) (n : ℕ) : Type 0 where
   pub prints : patchrun limits file ≡ printedFor limits (take n out₁)
-  pub terms : termAfter limits file term scratch ≡ reduceCall limits (take n out₁) 1000 term scratch .output
-  pub scratches : scratchAfter limits file term scratch ≡ reduceCall limits (take n out₁) 1000 term scratch .scratch
+  pub terms : termAfter limits file term scratch ≡ reduceCall limits (take n out₁) programSteps term scratch .output
+  pub scratches : scratchAfter limits file term scratch ≡ reduceCall limits (take n out₁) programSteps term scratch .scratch
   pub inside : n ≤ length out₁
 
 -- a file that does not: the refusal, and nothing else is touched
@@ -31,13 +31,13 @@ pub record Unopened (file term scratch : Bytes) (q : Refusal) : Type 0 where
   pub terms : termAfter limits file term scratch ≡ term
   pub scratches : scratchAfter limits file term scratch ≡ scratch
 
-module _ (file term scratch out : Bytes) (room : 4096 ≤ length out) where
+module _ (file term scratch out : Bytes) (room : outputRoom limits ≤ length out) where
   abbrev ends : Outcome Bytes → Wrote ℕ
   ends o = wrote out (bytesOr o)
 
   calls : loadCall limits aTerm file out ≡ ends (opened limits aTerm file)
   unfolding loadCall
-  calls = rw (le-leb 4096 (length out) room)
+  calls = rw (le-leb (outputRoom limits) (length out) room)
 
   opened-from : (o : Outcome Bytes) → opened limits aTerm file ≡ o → (n : ℕ) → answered (ends o .answer) ≡ Good n → (out₁ : Bytes) → out₁ ≡ ends o .output → Opened file term scratch out₁ n
   unfolding patchrun printedFor termAfter scratchAfter

@@ -6,7 +6,7 @@ use native.Mathlib.Omega.{arith}
 use lib.ListN.{length, take, replicate}
 use borrow.Author.Tests.{le-leb}
 use Rattle.rules.specs.Basic.{Bytes, _‥_}
-use Rattle.rules.specs.Limits.{limits}
+use Rattle.rules.specs.Limits.{limits, outputRoom, scratchRoom}
 use Rattle.rules.specs.declared.Refusal.{Refusal}
 use Rattle.rules.specs.Refusal.{Outcome, good, refused}
 use Rattle.rules.specs.Term.{Term, encode}
@@ -15,7 +15,7 @@ use Rattle.rules.specs.Reading.{readTerm}
 use Rattle.rules.specs.Reduction as rules
 use Rattle.rules.specs.Buffers.{written}
 use Rattle.rules.specs.Calls.{ReduceCall, reduceEnding, readEnding, reduceWith, reduceCall}
-use Rattle.rules.specs.Program.{countsLine, refusalLine, report, reducedReport}
+use Rattle.rules.specs.Program.{programSteps, countsLine, refusalLine, report, reducedReport}
 use Rattle.laws.specs.reading.Decoding.{TermIn, term-sound}
 use Rattle.laws.specs.reading.Fits.{fits-accepted, accepted-fits}
 use Rattle.reduction.specs.Answers.{reducedBy}
@@ -45,13 +45,13 @@ refuses : (d : rules.Reduced) (q : Refusal) (l : ℕ) → reducedBy (reduceEndin
 refuses (rules.stopped n c b t) q l e = absurd (let z : _≡_ {A = ℕ} 0 1 = cc in omega arith)
 refuses (rules.outgrew n t) q l e = ap refusalLine (cc)
 
-module _ (s out scratch : Bytes) (room : 4096 ≤ length out) (scratch-room : 8192 ≤ length scratch) where
+module _ (s out scratch : Bytes) (room : outputRoom limits ≤ length out) (scratch-room : scratchRoom limits ≤ length scratch) where
   abbrev ends : Outcome Term → ReduceCall
-  ends o = reduceWith out scratch (readEnding o (λ u. reduceEnding (rules.reduce limits 1000 u)))
+  ends o = reduceWith out scratch (readEnding o (λ u. reduceEnding (rules.reduce limits programSteps u)))
 
-  calls : reduceCall limits s 1000 out scratch ≡ ends (readTerm limits 1 s)
+  calls : reduceCall limits s programSteps out scratch ≡ ends (readTerm limits 1 s)
   unfolding reduceCall
-  calls = rw (le-leb 4096 (length out) room, le-leb 8192 (length scratch) scratch-room)
+  calls = rw (le-leb (outputRoom limits) (length out) room, le-leb (scratchRoom limits) (length scratch) scratch-room)
 
   told-from : (o : Outcome Term) → readTerm limits 1 s ≡ o → (a : Reduction) → reducedBy (ends o .answer) (ends o .outputLength) ≡ Stopped a → (out₁ : Bytes) → out₁ ≡ ends o .output
       → (t : Term) × Told s out₁ a t
@@ -59,9 +59,9 @@ module _ (s out scratch : Bytes) (room : 4096 ≤ length out) (scratch-room : 81
   told-from (refused q) e a q′ out₁ l = absurd (let z : _≡_ {A = ℕ} 0 1 = cc in omega arith)
   told-from (good u) e a h out₁ l =
       let r = term-sound limits 1 s u e in
-      let d = stops (rules.reduce limits 1000 u) a h in
+      let d = stops (rules.reduce limits programSteps u) a h in
       let t = d .0 in
-      let v : Sound limits t = rw (d .1) at (reduced-sound limits 1000 0 rules.noCounts u (r .legal, accepted-fits limits s u r)) in
+      let v : Sound limits t = rw (d .1) at (reduced-sound limits programSteps 0 rules.noCounts u (r .legal, accepted-fits limits s u r)) in
       let b = starts-append (encode t) (replicate (length out - length (encode t)) 0) (rw (d .1) at l) (d .2) in (
         t,
         record {
@@ -74,11 +74,11 @@ module _ (s out scratch : Bytes) (room : 4096 ≤ length out) (scratch-room : 81
   refused-from : (o : Outcome Term) → readTerm limits 1 s ≡ o → (q : Refusal) (l : ℕ) → reducedBy (ends o .answer) (ends o .outputLength) ≡ Refused q l → printedFor limits s ≡ refusalLine q
   unfolding printedFor
   refused-from (refused q′) e q l h = rw e (ap refusalLine (cc))
-  refused-from (good u) e q l h = rw e (refuses (rules.reduce limits 1000 u) q l h)
+  refused-from (good u) e q l h = rw e (refuses (rules.reduce limits programSteps u) q l h)
 
   -- what the call answers and leaves
   abbrev call : ReduceCall
-  call = reduceCall limits s 1000 out scratch
+  call = reduceCall limits s programSteps out scratch
 
   module _ {r : Reduced} (says : r ≡ reducedBy (call .answer) (call .outputLength)) where
     pub told : (a : Reduction) → r ≡ Stopped a → (out₁ : Bytes) → out₁ ≡ call .output → (t : Term) × Told s out₁ a t

@@ -6,7 +6,7 @@ use native.Mathlib.Omega.{arith}
 use lib.ListN.{length, set, replicate}
 use borrow.Author.Tests.{le-leb}
 use Rattle.rules.specs.Basic.{Bytes, _‥_}
-use Rattle.rules.specs.Limits.{limits}
+use Rattle.rules.specs.Limits.{limits, textRoom}
 use Rattle.rules.specs.declared.Refusal.{Refusal}
 use Rattle.rules.specs.Refusal.{answered}
 use Rattle.rules.specs.declared.Answer.{Answer}
@@ -19,10 +19,11 @@ use Rattle.laws.specs.size.TextSize.{term-text-size}
 use Rattle.buffer.specs.Writing.{chain}
 use Rattle.program.specs.Field.{Line}
 use Rattle.words.specs.Digits.{wrote-one}
+use Rattle.program.specs.Printing.{printedRoom}
 use Rattle.program.specs.Starts.{Starts}
 use Rattle.program.proofs.run.Starting.{starts-wrote, starts-append, starts-again}
 
-module _ {term : Bytes} {t : Term} (w : TermIn limits term t) (out : Bytes) (room : 20992 ≤ length out) where
+module _ {term : Bytes} {t : Term} (w : TermIn limits term t) (out : Bytes) (room : printedRoom limits ≤ length out) where
   -- the printer's answer and output
   abbrev Printed : Answer → Bytes → Type 0
   Printed r o = (r ≡ answered (textCall limits term out .answer)) × (o ≡ textCall limits term out .output)
@@ -30,7 +31,7 @@ module _ {term : Bytes} {t : Term} (w : TermIn limits term t) (out : Bytes) (roo
   prints : Printed (Good (length (text t))) (text t ‥ replicate (length out - length (text t)) 0)
   unfolding textCall
   prints =
-      let l = le-leb 20480 (length out) (omega arith) in
+      let l = le-leb (textRoom limits) (length out) (omega arith) in
       let e = term-complete limits 1 term t w in
       (rw (l, e), rw (l, e))
 
@@ -46,8 +47,10 @@ module _ {term : Bytes} {t : Term} (w : TermIn limits term t) (out : Bytes) (roo
       text-ends = let a = tells in cc
 
       -- with room behind it for the line of the counts
-      pub text-short : end + 1 + 256 ≤ length out
-      text-short = omega (arith, text-ends, term-text-size t, ap (λ (z : Bytes). length z) (w .bytes), w .short, w .few)
+      pub text-short : (end + 1 + 256 ≤ length out) × (end ≤ textRoom limits)
+      text-short =
+          let e : end ≤ textRoom limits = omega (arith, text-ends, term-text-size t, ap (λ (z : Bytes). length z) (w .bytes), w .short, w .few) in
+          (omega arith, e)
 
       module _ {out₁ : Bytes} (leaves : out₁ ≡ textCall limits term out .output) (kept : length out₁ ≡ length out) where
         text-starts : Starts out₁ (text t) end

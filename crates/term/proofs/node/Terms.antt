@@ -5,23 +5,12 @@ use mathlib.Core.Path.{_≡_, refl, sym, ap, _∙_}
 use mathlib.Core.List.{List, [], _∷_, _++_, append-nil, append-assoc}
 use native.Mathlib.Omega.{arith}
 use lib.ListN.{length, getD, drop, length-append}
-use Rattle.rules.specs.Name.{Name, encodeName, encodeNames}
+use Rattle.rules.specs.Name.{Name, encodeNames}
 use Rattle.rules.specs.Term.{Term, var, leaf, one, two, abs, both, branch, Leaf, unit, trivial, One, inl, inr, fst, snd, abort, promote, derelict, Two, pair, app, discard, Both, letPair, copy, leafTag, oneTag, twoTag, bothTag, encode, size, parts}
+pub use Rattle.laws.specs.size.Parts.{apart}
 use Rattle.term.specs.Node.{tag, names, head, encodeAll, namesAfter, partsAfter}
 use Rattle.term.specs.Place.{TermAt, TermsAt, NamesAt}
 use Rattle.term.proofs.node.Names.{drop-app, head-byte, long, AfterIs}
-
--- ---- a term is its head, then its parts
-
-pub apart : (t : Term) → encode t ≡ head t ++ encodeAll (parts t)
-unfolding encode
-apart (var x) = simp append-nil
-apart (leaf k) = refl
-apart (one k e) = simp append-nil
-apart (two k a b) = simp append-nil
-apart (abs x e) = rw (append-nil x, append-nil (encode e))
-apart (both k x y e b) = rw (append-nil y, append-nil (encode b), append-assoc x (encodeName y))
-apart (branch x y e l r) = rw (append-nil y, append-nil (encode r), append-assoc x (encodeName y))
 
 pub apart-size : (t : Term) → size t ≡ length (head t) + length (encodeAll (parts t))
 apart-size t = ap (λ (z : List ℕ). length z) (apart t) ∙ length-append (head t) (encodeAll (parts t))

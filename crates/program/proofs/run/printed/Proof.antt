@@ -9,8 +9,8 @@ use Rattle.program.proofs.run.printed.Tie as tie
 print-file-requires : tie.Need-print-file-requires
 print-file-requires c κs = search needs
 
-end-requires : tie.Need-end-requires
-end-requires c κs =
+clear-requires : tie.Need-clear-requires
+clear-requires c κs =
     let p = c .before .print-file in
     omega (arith, starts-inside (p .ensures .0), p .kept .1 .1 .1 .0)
 
@@ -18,7 +18,7 @@ returns : tie.Need-returns
 returns c =
     let p = c .before .before .print-file in
     let a = c .before .before .before .before .before .before .before .args in
-    (p .ensures .0 .ends, (starts-filled (p .ensures .0) (now (a .out)) (p .kept .1 .1 .1 .0) (c .end .ensures), p .ensures .1))
+    (p .ensures .0 .ends, (starts-filled (p .ensures .0) (now (a .out)) (p .kept .1 .1 .1 .0) (c .clear .ensures), p .ensures .1))
 
 pub printed-spec : {M : Type 1} → statement M
-printed-spec = tie.close (tie.spec print-file-requires end-requires returns)
+printed-spec = tie.close (tie.spec print-file-requires clear-requires returns)
