@@ -5,12 +5,14 @@ use mathlib.Core.Bool.{true}
 use mathlib.Core.List.{List}
 use native.Mathlib.Omega.{arith}
 use Rattle.rules.specs.Basic.{Bytes}
+use Rattle.rules.specs.Limits.{limits}
 use Rattle.rules.specs.Name.{Name}
 use Rattle.rules.specs.Term.{Term, nodes, size}
+use Rattle.laws.specs.reading.Fits.{fits-yes}
 use Rattle.term.specs.Place.{TermAt}
 use Rattle.term.specs.Measured.{Measured}
 use Rattle.term.specs.declared.span.Extent.{Extent}
-use Rattle.substitution.proofs.put.Puts.{fits-yes, beside-yes}
+use Rattle.substitution.proofs.put.Puts.{beside-yes}
 use Rattle.contraction.specs.Contracts.{Redex}
 use Rattle.contraction.specs.Parts.{Kept, PartIs}
 use Rattle.contraction.specs.declared.part.Body.{Body}
@@ -24,7 +26,7 @@ part-is j {u = u} w m le ls =
       stands = w;
       ends = m .next;
       count = m .nodes;
-      fits = fits-yes u (omega (arith, j .nodes-in, j .few)) (omega (arith, j .bytes-in, j .short));
+      fits = fits-yes limits u (omega (arith, j .nodes-in, j .few)) (omega (arith, j .bytes-in, j .short));
     }
 
 -- a body with its places, at its own place
