@@ -11,13 +11,8 @@ use Rattle.rules.specs.Basic.{say, _≤?_}
 use Rattle.rules.specs.Term.{Term, two, Leaf, unit, trivial, One, inl, inr, fst, snd, abort, promote, derelict, Two, pair, app, discard, leafTag, oneTag, twoTag}
 use Rattle.rules.specs.Text.{leafText, oneText, text}
 use Rattle.laws.specs.free.Same.{both-true}
+use Rattle.term.specs.Shape.{Bracketed}
 use Rattle.term_text.specs.Words.{longOf, signOf, betweenOf}
-
--- what is printed in brackets
-abbrev pub Bracketed : Two → Type 0
-Bracketed pair = Unit {0}
-Bracketed app = Unit {0}
-Bracketed discard = ⊥
 
 -- a test that passes at each number below n
 abbrev all : (ℕ → Bool) → ℕ → Bool
