@@ -15,7 +15,7 @@ use Rattle.draft.specs.Made.{made, mostNumber, over, Added}
 use Rattle.draft.specs.Steady.{drafts-unit}
 use Rattle.proof.specs.Place.{FormulaAt}
 use Rattle.proof.specs.Shape.{formulaTag}
-use Rattle.proof_draft.specs.Puts.{Open, Put}
+use Rattle.proof_draft.specs.Puts.{Open, Put, rowMade}
 use Rattle.proof_draft.specs.declared.put.Drafted.{Drafted}
 use Rattle.proof.proofs.rule.Formulas.{formula-tag}
 
@@ -24,10 +24,11 @@ module _ {s : Bytes} {ws ws′ : List ℕ} {used n end : ℕ} where
   put-is q w = rw q at w
 
   pub put-new : {kind first second number stem : ℕ} {a b : Term} → Open ws used → Added ws used kind first second number stem ws′
-      → Drafts s ws used first a → Drafts s ws used second b → number < mostNumber → (m : ℕ) → m ≤ n + 2
-      → Put s ws ws′ used n end (made s kind a b number stem, m) (record { next = end; used = used + 1; counter = m; part = used + 2 })
-  put-new {kind} {first} {second} {number} {stem} {a} {b} o w x y h m l =
-      record {
+      → Drafts s ws used first a → Drafts s ws used second b → number < mostNumber → (m : ℕ) → m ≤ n + 2 → {r : Drafted} → r ≡ rowMade end used m
+      → Put s ws ws′ used n end (made s kind a b number stem, m) r
+  put-new {kind} {first} {second} {number} {stem} {a} {b} o w x y h m l e =
+      rw e
+      (record {
         next = refl;
         counter = refl;
         part = w .new s a b x y;
@@ -35,12 +36,12 @@ module _ {s : Bytes} {ws ws′ : List ℕ} {used n end : ℕ} where
         few = omega arith;
         low = l;
         still = λ i t d. w .still s i t d;
-      }
+      })
 
   -- a row over Unit
-  pub put-bare : {kind : ℕ} → Open ws used → Added ws used kind 0 0 0 0 ws′
-      → Put s ws ws′ used n end (made s kind (leaf unit) (leaf unit) 0 0, n) (record { next = end; used = used + 1; counter = n; part = used + 2 })
-  put-bare {kind} o w = put-new o w (drafts-unit (o .rows)) (drafts-unit (o .rows)) (omega arith) n (omega arith)
+  pub put-bare : {kind : ℕ} {r : Drafted} → Open ws used → Added ws used kind 0 0 0 0 ws′ → r ≡ rowMade end used n
+      → Put s ws ws′ used n end (made s kind (leaf unit) (leaf unit) 0 0, n) r
+  put-bare o w e = put-new o w (drafts-unit (o .rows)) (drafts-unit (o .rows)) (omega arith) n (omega arith) e
 
 module _ {s : Bytes} {ws : List ℕ} {used n end part : ℕ} {t : Term} (kind number : ℕ) (o : Open ws used) (d : Drafts s ws used part t) where
   pub put-pass : kind ≡ 12 → Put s ws ws used n end (over s kind number t, n) (record { next = end; used = used; counter = n; part = part })
@@ -48,15 +49,15 @@ module _ {s : Bytes} {ws : List ℕ} {used n end part : ℕ} {t : Term} (kind nu
       put-is (ap (λ (b : Bool). (if b then t else made s kind t t number 0, n)) (sym (eq-eqb kind 12 e)))
       (record { next = refl; counter = refl; part = d; small = o .small; few = omega arith; low = omega arith; still = λ i u x. x })
 
-  pub put-over : {ws′ : List ℕ} → (kind ≡ 12 → ⊥) → number < mostNumber → Added ws used kind part part number 0 ws′
-      → Put s ws ws′ used n end (over s kind number t, n) (record { next = end; used = used + 1; counter = n; part = used + 2 })
-  put-over {ws′} e h w =
-      put-is (ap (λ (b : Bool). (if b then t else made s kind t t number 0, n)) (sym (ne-eqb kind 12 e))) (put-new o w d d h n (omega arith))
+  pub put-over : {ws′ : List ℕ} {r : Drafted} → (kind ≡ 12 → ⊥) → number < mostNumber → Added ws used kind part part number 0 ws′ → r ≡ rowMade end used n
+      → Put s ws ws′ used n end (over s kind number t, n) r
+  put-over e h w i =
+      put-is (ap (λ (b : Bool). (if b then t else made s kind t t number 0, n)) (sym (ne-eqb kind 12 e))) (put-new o w d d h n (omega arith) i)
 
 module _ {s : Bytes} {ws ws′ : List ℕ} {used n end first second : ℕ} {a b : Term} (o : Open ws used) where
-  pub put-pair : Added ws used 6 first second 0 0 ws′ → Drafts s ws used first a → Drafts s ws used second b
-      → Put s ws ws′ used n end (two pair a b, n) (record { next = end; used = used + 1; counter = n; part = used + 2 })
-  put-pair w x y = put-new o w x y (omega arith) n (omega arith)
+  pub put-pair : {r : Drafted} → Added ws used 6 first second 0 0 ws′ → r ≡ rowMade end used n → Drafts s ws used first a → Drafts s ws used second b
+      → Put s ws ws′ used n end (two pair a b, n) r
+  put-pair w e x y = put-new o w x y (omega arith) n (omega arith) e
 
 -- ---- a Cut
 
@@ -114,22 +115,22 @@ module _ (s : Bytes) (a b : Term) (n : ℕ) where
   joined-other (connective Plus g h) p q = absurd (q refl)
   joined-other (connective Lolli g h) p q = refl
 
--- what `put_join` ensures
+-- what `put_cut` ensures
 abbrev pub Joins : Bytes → (ws ws′ : List ℕ) (used n end own first second : ℕ) → Drafted → Type 0
 Joins s ws ws′ used n end own first second r = (f : Formula) (a b : Term) → FormulaAt s own f → Drafts s ws used first a → Drafts s ws used second b
     → Put s ws ws′ used n end (joined terms f a b n) r
 
-module _ (s : Bytes) {ws ws′ : List ℕ} {used n : ℕ} (end own : ℕ) {first second : ℕ} (o : Open ws used) (h : n + 2 < mostNumber) where
-  pub put-tensor : getD s own 0 ≡ 3 → Added ws used 9 first second n 0 ws′ → Joins s ws ws′ used n end own first second (record { next = end; used = used + 1; counter = n + 2; part = used + 2 })
-  put-tensor e w f a b v x y =
-      put-is (joined-tensor s a b n f (sym (formula-tag s own f v) ∙ e)) (put-new o w x y (omega arith) (n + 2) (omega arith))
+module _ (s : Bytes) {ws ws′ : List ℕ} {used n : ℕ} (end own : ℕ) {first second : ℕ} {r : Drafted} (o : Open ws used) (h : n + 2 < mostNumber) where
+  pub put-tensor : getD s own 0 ≡ 3 → Added ws used 9 first second n 0 ws′ → r ≡ rowMade end used (n + 2) → Joins s ws ws′ used n end own first second r
+  put-tensor e w i f a b v x y =
+      put-is (joined-tensor s a b n f (sym (formula-tag s own f v) ∙ e)) (put-new o w x y (omega arith) (n + 2) (omega arith) i)
 
-  pub put-plus : getD s own 0 ≡ 8 → Added ws used 10 first second n 0 ws′ → Joins s ws ws′ used n end own first second (record { next = end; used = used + 1; counter = n + 2; part = used + 2 })
-  put-plus e w f a b v x y =
-      put-is (joined-plus s a b n f (sym (formula-tag s own f v) ∙ e)) (put-new o w x y (omega arith) (n + 2) (omega arith))
+  pub put-plus : getD s own 0 ≡ 8 → Added ws used 10 first second n 0 ws′ → r ≡ rowMade end used (n + 2) → Joins s ws ws′ used n end own first second r
+  put-plus e w i f a b v x y =
+      put-is (joined-plus s a b n f (sym (formula-tag s own f v) ∙ e)) (put-new o w x y (omega arith) (n + 2) (omega arith) i)
 
-  pub put-app : (getD s own 0 ≡ 3 → ⊥) → (getD s own 0 ≡ 8 → ⊥) → Added ws used 7 second first 0 0 ws′
-      → Joins s ws ws′ used n end own first second (record { next = end; used = used + 1; counter = n; part = used + 2 })
-  put-app e g w f a b v x y =
+  pub put-app : (getD s own 0 ≡ 3 → ⊥) → (getD s own 0 ≡ 8 → ⊥) → Added ws used 7 second first 0 0 ws′ → r ≡ rowMade end used n
+      → Joins s ws ws′ used n end own first second r
+  put-app e g w i f a b v x y =
       let t = formula-tag s own f v in
-      put-is (joined-other s a b n f (λ z. e (t ∙ z)) (λ z. g (t ∙ z))) (put-new o w y x (omega arith) n (omega arith))
+      put-is (joined-other s a b n f (λ z. e (t ∙ z)) (λ z. g (t ∙ z))) (put-new o w y x (omega arith) n (omega arith) i)

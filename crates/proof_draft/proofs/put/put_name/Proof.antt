@@ -7,48 +7,40 @@ use Rattle.proof_draft.proofs.put.put_name.Tie as tie
 put-row-requires : tie.Need-put-row-requires
 put-row-requires c κs = search needs
 
-add-t10 : tie.Need-add-t10
-add-t10 c = search needs
-
-add-t11 : tie.Need-add-t11
-add-t11 c = search needs
+with-row-requires : tie.Need-with-row-requires
+with-row-requires c κs = search needs
 
 same-length : tie.Need-same-length
 same-length c = search needs
 
 returns : tie.Need-returns
-returns c = λ s. put-named (c .before .before .before .before .before .before .args .search) (c .before .before .before .before .if1 .taken) (c .before .before .before .before .before .before .pre .2) (c .before .before .before .before .before .before .pre .0) (c .before .before .put-row .ensures)
+returns c = λ s. put-named (c .before .before .before .before .before .before .before .args .search) (c .before .before .before .before .before .if1 .taken) (c .before .before .before .before .before .before .before .pre .2) (c .before .before .before .before .before .before .before .pre .0) (c .before .before .before .put-row .ensures) (c .with-row .ensures)
 
 put-row-requires-2 : tie.Need-put-row-requires-2
 put-row-requires-2 c κs = search needs
 
-add-t15 : tie.Need-add-t15
-add-t15 c = search needs
+add-with-row : tie.Need-add-with-row
+add-with-row c = search needs
 
-add-t16 : tie.Need-add-t16
-add-t16 c = search needs
-
-add-t17 : tie.Need-add-t17
-add-t17 c = search needs
+with-row-requires-2 : tie.Need-with-row-requires-2
+with-row-requires-2 c κs = search needs
 
 same-length-2 : tie.Need-same-length-2
 same-length-2 c = search needs
 
 returns-2 : tie.Need-returns-2
-returns-2 c = λ s. put-new-name (c .before .before .before .before .before .before .args .search) (c .before .before .before .before .if1 .left) (c .before .before .before .before .before .before .pre .0) (c .before .before .before .before .before .before .pre .1) (c .before .before .put-row2 .ensures)
+returns-2 c = λ s. put-new-name (c .before .before .before .before .before .before .before .args .search) (c .before .before .before .before .before .if1 .left) (c .before .before .before .before .before .before .before .pre .0) (c .before .before .before .before .before .before .before .pre .1) (c .before .before .before .put-row2 .ensures) (c .with-row2 .ensures)
 
 pub put-name-spec : {M : Type 1} → statement M
 put-name-spec =
     tie.close
     (tie.spec
     put-row-requires
-    add-t10
-    add-t11
+    with-row-requires
     same-length
     returns
     put-row-requires-2
-    add-t15
-    add-t16
-    add-t17
+    add-with-row
+    with-row-requires-2
     same-length-2
     returns-2)
