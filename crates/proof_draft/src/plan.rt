@@ -52,6 +52,7 @@ pub fn plan_at(s: &[u8], at: usize) -> Plan
     }
 }
 
+// By the tag: 1 is Axiom, 2 Cut, 3 OneIntro, 5 TensorIntro, 7 TopIntro, 8 WithIntro.
 fn act_of(tag: usize, premises: usize) -> usize
     ensures { λ r. ⌜ r ≡ actOf tag premises ⌝ }
 {
@@ -64,7 +65,7 @@ fn act_of(tag: usize, premises: usize) -> usize
     }
 }
 
-// What is done with one premise, or with two.
+// What is done with one premise, or with two; with more, or none, a leaf is taken.
 fn with_two(premises: usize, one: usize, two: usize) -> usize
     ensures { λ r. ⌜ r ≡ withTwo one two premises ⌝ }
 {
@@ -77,7 +78,7 @@ fn with_two(premises: usize, one: usize, two: usize) -> usize
     LEAF
 }
 
-// The first premise is read; without one, a row of one part stands over Unit.
+// The first premise is read; without one, Inl, Inr, Promote and Derelict stand over Unit.
 fn with_first(premises: usize, tag: usize) -> usize
     ensures { λ r. ⌜ r ≡ withFirst tag premises ⌝ }
 {
@@ -90,6 +91,7 @@ fn with_first(premises: usize, tag: usize) -> usize
     LEAF
 }
 
+// The part of a leaf, or the kind of the row.
 fn kind_for(act: usize, tag: usize) -> usize
     ensures { λ r. ⌜ r ≡ kindFor act tag ⌝ }
 {
@@ -99,7 +101,7 @@ fn kind_for(act: usize, tag: usize) -> usize
     row_over(tag)
 }
 
-// Top and With take Trivial, the others Unit.
+// TopIntro and WithIntro take Trivial, the others Unit.
 fn leaf_of(tag: usize) -> usize
     ensures { λ r. ⌜ r ≡ leafOf tag ⌝ }
 {
@@ -110,6 +112,7 @@ fn leaf_of(tag: usize) -> usize
     }
 }
 
+// Over its first premise PlusIntroLeft puts Inl, PlusIntroRight Inr, OfCourseIntro Promote, Weakening Discard, Contraction Copy, Dereliction Derelict.
 fn row_over(tag: usize) -> usize
     ensures { λ r. ⌜ r ≡ rowOver tag ⌝ }
 {

@@ -31,7 +31,7 @@ pub struct Drafted {
 }
 
 // A row was put behind the `used` ones, and is the part that was made.
-fn with_row(next: usize, used: usize, counter: usize) -> Drafted
+fn row_made(next: usize, used: usize, counter: usize) -> Drafted
     requires { ⌜ used + 2 < 2 ^ 64 ⌝ }
     ensures { λ r. ⌜ r ≡ rowMade next used counter ⌝ }
 {
@@ -66,7 +66,7 @@ fn put_bare(kind: usize, next: usize, rows: &mut [usize], used: usize, counter: 
     ensures { λ r. ⌜ ((s : Bytes) → Put s (now (rows .entry)) (now (rows .exit)) used counter next (made s kind (leaf unit) (leaf unit) 0 0, counter) r) ⌝ }
 {
     put_row(rows, used, kind, 0, 0, 0, 0);
-    with_row(next, used, counter)
+    row_made(next, used, counter)
 }
 
 // An Axiom, whose search is over.
@@ -84,20 +84,26 @@ pub fn put_axiom(
         → Ends (now (s .entry)) at row k (now (rows .entry)) (now (rows .exit)) used counter r) ⌝ }
 {
     let next = skip_proofs(s, plan.first, plan.premises);
-    put_name(search, next, rows, used, counter)
+    put_identity(search, next, rows, used, counter)
 }
 
 // A name, or Abs of a new name over that name.
-fn put_name(search: Search, next: usize, rows: &mut [usize], used: usize, counter: usize) -> Drafted
+fn put_identity(
+    search: Search,
+    next: usize,
+    rows: &mut [usize],
+    used: usize,
+    counter: usize,
+) -> Drafted
     requires { ⌜ Open (now rows) used × (counter + 2 < mostNumber) × (search .number < mostNumber) ⌝ }
     ensures { λ r. ⌜ ((s : Bytes) → Put s (now (rows .entry)) (now (rows .exit)) used counter next (identity terms (nameSaid s search) counter) r) ⌝ }
 {
     if search.found {
         put_row(rows, used, 0, 0, 0, search.number, search.stem);
-        return with_row(next, used, counter);
+        return row_made(next, used, counter);
     }
     put_row(rows, used, 1, 0, 0, counter, 0);
-    with_row(next, used, counter + 1)
+    row_made(next, used, counter + 1)
 }
 
 // The first premise, with a row over it or none; the others are passed over.
@@ -127,7 +133,7 @@ fn put_over(kind: usize, number: usize, next: usize, inner: Drafted, rows: &mut 
         };
     }
     put_row(rows, used, kind, part, part, number, 0);
-    with_row(next, used, inner.counter)
+    row_made(next, used, inner.counter)
 }
 
 // A pair of an earlier part and the one that was made last.
@@ -139,7 +145,7 @@ pub fn put_pair(first: usize, second: Drafted, rows: &mut [usize]) -> Drafted
 {
     let used = second.used;
     put_row(rows, used, 6, first, second.part, 0, 0);
-    with_row(second.next, used, second.counter)
+    row_made(second.next, used, second.counter)
 }
 
 // The producer and the consumer of a Cut, joined as the formula at `own` says.
@@ -160,12 +166,12 @@ pub fn put_cut(
     let counter = consumer.counter;
     if tag == 3 {
         put_row(rows, used, 9, producer.part, consumer.part, counter, 0);
-        return with_row(consumer.next, used, counter + 2);
+        return row_made(consumer.next, used, counter + 2);
     }
     if tag == 8 {
         put_row(rows, used, 10, producer.part, consumer.part, counter, 0);
-        return with_row(consumer.next, used, counter + 2);
+        return row_made(consumer.next, used, counter + 2);
     }
     put_row(rows, used, 7, consumer.part, producer.part, 0, 0);
-    with_row(consumer.next, used, counter)
+    row_made(consumer.next, used, counter)
 }

@@ -15,44 +15,44 @@ cast-tag c = omega (arith, c .shared-slice-known2 .given (c .before .before .bef
 put-row-requires : tie.Need-put-row-requires
 put-row-requires c κs = search needs
 
-add-with-row : tie.Need-add-with-row
-add-with-row c = search needs
+add-row-made : tie.Need-add-row-made
+add-row-made c = search needs
 
-with-row-requires : tie.Need-with-row-requires
-with-row-requires c κs = search needs
+row-made-requires : tie.Need-row-made-requires
+row-made-requires c κs = search needs
 
 same-length : tie.Need-same-length
 same-length c = search needs
 
 returns : tie.Need-returns
-returns c = put-tensor _ _ _ (c .before .before .before .before .before .before .before .before .before .pre .1 .0) (c .before .before .before .before .before .before .before .before .before .pre .1 .1) (c .before .before .before .before .before .if1 .taken) (c .before .before .before .put-row .ensures) (c .with-row .ensures)
+returns c = put-tensor _ _ _ (c .before .before .before .before .before .before .before .before .before .pre .1 .0) (c .before .before .before .before .before .before .before .before .before .pre .1 .1) (c .before .before .before .before .before .if1 .taken) (c .before .before .before .put-row .ensures) (c .row-made .ensures)
 
 put-row-requires-2 : tie.Need-put-row-requires-2
 put-row-requires-2 c κs = search needs
 
-add-with-row-2 : tie.Need-add-with-row-2
-add-with-row-2 c = search needs
+add-row-made-2 : tie.Need-add-row-made-2
+add-row-made-2 c = search needs
 
-with-row-requires-2 : tie.Need-with-row-requires-2
-with-row-requires-2 c κs = search needs
+row-made-requires-2 : tie.Need-row-made-requires-2
+row-made-requires-2 c κs = search needs
 
 same-length-2 : tie.Need-same-length-2
 same-length-2 c = search needs
 
 returns-2 : tie.Need-returns-2
-returns-2 c = put-plus _ _ _ (c .before .before .before .before .before .before .before .before .before .before .pre .1 .0) (c .before .before .before .before .before .before .before .before .before .before .pre .1 .1) (c .before .before .before .before .before .if2 .taken) (c .before .before .before .put-row2 .ensures) (c .with-row2 .ensures)
+returns-2 c = put-plus _ _ _ (c .before .before .before .before .before .before .before .before .before .before .pre .1 .0) (c .before .before .before .before .before .before .before .before .before .before .pre .1 .1) (c .before .before .before .before .before .if2 .taken) (c .before .before .before .put-row2 .ensures) (c .row-made2 .ensures)
 
 put-row-requires-3 : tie.Need-put-row-requires-3
 put-row-requires-3 c κs = search needs
 
-with-row-requires-3 : tie.Need-with-row-requires-3
-with-row-requires-3 c κs = search needs
+row-made-requires-3 : tie.Need-row-made-requires-3
+row-made-requires-3 c κs = search needs
 
 same-length-3 : tie.Need-same-length-3
 same-length-3 c = search needs
 
 returns-3 : tie.Need-returns-3
-returns-3 c = put-app _ _ _ (c .before .before .before .before .before .before .before .before .before .before .pre .1 .0) (c .before .before .before .before .before .before .before .before .before .before .pre .1 .1) (c .before .before .before .before .before .before .if1 .left) (c .before .before .before .before .before .if2 .left) (c .before .before .before .put-row3 .ensures) (c .with-row3 .ensures)
+returns-3 c = put-app _ _ _ (c .before .before .before .before .before .before .before .before .before .before .pre .1 .0) (c .before .before .before .before .before .before .before .before .before .before .pre .1 .1) (c .before .before .before .before .before .before .if1 .left) (c .before .before .before .before .before .if2 .left) (c .before .before .before .put-row3 .ensures) (c .row-made3 .ensures)
 
 pub put-cut-spec : {M : Type 1} → statement M
 put-cut-spec =
@@ -61,16 +61,16 @@ put-cut-spec =
     shared-slice-read-tag
     cast-tag
     put-row-requires
-    add-with-row
-    with-row-requires
+    add-row-made
+    row-made-requires
     same-length
     returns
     put-row-requires-2
-    add-with-row-2
-    with-row-requires-2
+    add-row-made-2
+    row-made-requires-2
     same-length-2
     returns-2
     put-row-requires-3
-    with-row-requires-3
+    row-made-requires-3
     same-length-3
     returns-3)
