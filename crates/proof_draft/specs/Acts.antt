@@ -1,17 +1,18 @@
 -- What the walk does at a rule, told by three numbers: the act, the part or the kind of the row, and how many names are taken before the first premise.
 -- An act is 0 to take a part with which a draft begins, 1 to put a row over Unit, 2 to put the name of an Axiom, 3 to read the first premise, 4 to pair two,
 -- 5 to join the two of a Cut. By the rule's tag and its count of premises; and what extraction makes then. Assumes nothing: these are definitions.
-use Prim.Native.Nat.{ℕ, zero, suc, _+_, _≤_}
+use Prim.Native.Nat.{ℕ, zero, suc, _≤_}
 use mathlib.Core.Path.{_≡_}
 use mathlib.Core.List.{List, [], _∷_}
 use Rattle.rules.specs.Basic.{Bytes, if_then_else_, _≤?_, _==_}
 use Rattle.rules.specs.Formula.{Formula}
 use Rattle.rules.specs.Term.{leaf, Leaf, unit, trivial}
 use Rattle.rules.specs.Proof.{Proof, cut}
-use Rattle.rules.specs.Extraction.{terms, Entries, axiomName, identity, paired, cutting, extract}
-use Rattle.draft.specs.Made.{made, over}
+use Rattle.rules.specs.Extraction.{terms, Entries, axiomName, identity, extract}
+use Rattle.draft.specs.Made.{made}
 use Rattle.proof.specs.Shape.{ruleOf, linearOf, premisesOf}
 use Rattle.proof.specs.declared.rule.Looked.{Looked}
+use Rattle.proof_draft.specs.Walk.{overFirst, pairOf, cutOf}
 use Rattle.proof_draft.specs.declared.plan.Plan.{Plan}
 
 abbrev pub Act : Type 0
@@ -78,15 +79,14 @@ pub record Overs (p : Proof) (k m : ℕ) : Type 0 where
   pub others : List Proof
   pub are : premisesOf p ≡ premise ∷ others
   pub few : m ≤ 3
-  pub is : (s : Bytes) (es : Entries) (n : ℕ)
-      → extract terms p es n ≡ (over s k n (extract terms premise es (n + m) .0), extract terms premise es (n + m) .1)
+  pub is : (s : Bytes) (es : Entries) (n : ℕ) → extract terms p es n ≡ overFirst s k m premise es n
 
 pub record Pairs (p : Proof) (m : ℕ) : Type 0 where
   pub one : Proof
   pub other : Proof
   pub are : premisesOf p ≡ one ∷ other ∷ []
   pub names : m ≡ 0
-  pub is : (es : Entries) (n : ℕ) → extract terms p es n ≡ paired terms unit (extract terms one ∷ extract terms other ∷ []) es n
+  pub is : (es : Entries) (n : ℕ) → extract terms p es n ≡ pairOf one other es n
 
 pub record Cuts (p : Proof) (m : ℕ) : Type 0 where
   pub formula : Formula
@@ -95,7 +95,7 @@ pub record Cuts (p : Proof) (m : ℕ) : Type 0 where
   pub rule : ruleOf p ≡ cut formula
   pub are : premisesOf p ≡ one ∷ other ∷ []
   pub names : m ≡ 1
-  pub is : (es : Entries) (n : ℕ) → extract terms p es n ≡ cutting terms formula (extract terms one ∷ extract terms other ∷ []) es n
+  pub is : (es : Entries) (n : ℕ) → extract terms p es n ≡ cutOf formula one other es n
 
 abbrev pub Acts : (act kind names : ℕ) → Proof → Type 0
 Acts zero k m p = Leaves p k
