@@ -3,9 +3,10 @@ ghost use mathlib.Core.Path.{_≡_};
 ghost use Prim.Native.Nat.{_^_, _<_};
 ghost use Rattle.rules.specs.Proof.{Proof};
 ghost use Rattle.proof.specs.Place.{ProofAt};
-ghost use Rattle.proof_draft.specs.Acts.{withTwo, withFirst, actOf, leafOf, rowOver, kindFor, namesBefore};
+ghost use Rattle.proof_draft.specs.Acts.{cutAct, pairAct, firstAct, actOf, planWith};
 ghost use Rattle.proof_draft.specs.Planning.{Planned};
 use crate::entry::CutEntry;
+use proof::rule::Looked;
 use proof::rule::look_rule;
 
 // A rule that reads no premise takes a part with which a draft begins, puts a row over Unit, or is an Axiom.
@@ -22,7 +23,24 @@ pub const PAIR: usize = 4;
 
 pub const CUT: usize = 5;
 
-// The kind of a row, where none is put over the first premise.
+// The two parts with which a draft begins.
+const UNIT: usize = 0;
+
+const TRIVIAL: usize = 1;
+
+// The kind of the row over a first premise, or of none.
+const INL: usize = 2;
+
+const INR: usize = 3;
+
+const PROMOTE: usize = 4;
+
+const DERELICT: usize = 5;
+
+const DISCARD: usize = 8;
+
+const COPY: usize = 11;
+
 pub const NO_ROW: usize = 12;
 
 // One of the six; the part or the kind of the row, and the names that are taken before the first premise; then what a look at the rule told.
@@ -41,101 +59,78 @@ pub fn plan_at(s: &[u8], at: usize) -> Plan
     ensures { λ r. ⌜ Planned (now (s .entry)) at r ⌝ }
 {
     let rule = look_rule(s, at);
-    let act = act_of(rule.tag, rule.premises);
+    plan_of(rule)
+}
+
+// By the tag; those that are not named only hand on their first premise.
+fn plan_of(rule: Looked) -> Plan
+    ensures { λ r. ⌜ r ≡ planWith rule (actOf (rule .tag) (rule .premises)) ⌝ }
+{
+    let tag = rule.tag;
+    match tag {
+        1 => plan_with(rule, AXIOM, 0, 0),
+        2 => cut_plan(rule),
+        3 => plan_with(rule, LEAF, UNIT, 0),
+        5 => pair_plan(rule, UNIT),
+        7 => plan_with(rule, LEAF, TRIVIAL, 0),
+        8 => pair_plan(rule, TRIVIAL),
+        9 => first_plan(rule, INL, 0),
+        10 => first_plan(rule, INR, 0),
+        11 => first_plan(rule, PROMOTE, 0),
+        13 => first_plan(rule, DISCARD, 0),
+        14 => first_plan(rule, COPY, 3),
+        15 => first_plan(rule, DERELICT, 0),
+        _ => first_plan(rule, NO_ROW, 0),
+    }
+}
+
+fn plan_with(rule: Looked, act: usize, kind: usize, names: usize) -> Plan
+    ensures { λ r. ⌜ r ≡ planWith rule (act, kind, names) ⌝ }
+{
     Plan {
         act,
-        kind: kind_for(act, rule.tag),
-        names: names_before(rule.tag),
+        kind,
+        names,
         linear: rule.linear,
         premises: rule.premises,
         first: rule.first,
     }
 }
 
-// By the tag: 1 is Axiom, 2 Cut, 3 OneIntro, 5 TensorIntro, 7 TopIntro, 8 WithIntro.
-fn act_of(tag: usize, premises: usize) -> usize
-    ensures { λ r. ⌜ r ≡ actOf tag premises ⌝ }
+// Cut takes its own name before the producer; without two premises it is Unit.
+fn cut_plan(rule: Looked) -> Plan
+    ensures { λ r. ⌜ r ≡ planWith rule (cutAct (rule .premises)) ⌝ }
 {
-    match tag {
-        1 => AXIOM,
-        2 => with_two(premises, LEAF, CUT),
-        3 | 7 => LEAF,
-        5 | 8 => with_two(premises, FIRST, PAIR),
-        _ => with_first(premises, tag),
+    if rule.premises == 2 {
+        return plan_with(rule, CUT, 0, 1);
     }
+    plan_with(rule, LEAF, UNIT, 0)
 }
 
-// What is done with one premise, or with two; with more, or none, a leaf is taken.
-fn with_two(premises: usize, one: usize, two: usize) -> usize
-    ensures { λ r. ⌜ r ≡ withTwo one two premises ⌝ }
+// Tensor and With.
+fn pair_plan(rule: Looked, part: usize) -> Plan
+    ensures { λ r. ⌜ r ≡ planWith rule (pairAct part (rule .premises)) ⌝ }
 {
-    if premises == 1 {
-        return one;
+    if rule.premises == 1 {
+        return plan_with(rule, FIRST, NO_ROW, 0);
     }
-    if premises == 2 {
-        return two;
+    if rule.premises == 2 {
+        return plan_with(rule, PAIR, 0, 0);
     }
-    LEAF
+    plan_with(rule, LEAF, part, 0)
 }
 
-// The first premise is read; without one, Inl, Inr, Promote and Derelict stand over Unit.
-fn with_first(premises: usize, tag: usize) -> usize
-    ensures { λ r. ⌜ r ≡ withFirst tag premises ⌝ }
+// A rule that reads its first premise; without one, only Inl, Inr, Promote and Derelict are more than Unit.
+fn first_plan(rule: Looked, kind: usize, names: usize) -> Plan
+    ensures { λ r. ⌜ r ≡ planWith rule (firstAct kind names (rule .premises)) ⌝ }
 {
-    if premises != 0 {
-        return FIRST;
+    if rule.premises != 0 {
+        return plan_with(rule, FIRST, kind, names);
     }
-    if row_over(tag) < 6 {
-        return BARE;
+    if kind <= DERELICT {
+        return plan_with(rule, BARE, kind, 0);
     }
-    LEAF
-}
-
-// The part of a leaf, or the kind of the row.
-fn kind_for(act: usize, tag: usize) -> usize
-    ensures { λ r. ⌜ r ≡ kindFor act tag ⌝ }
-{
-    if act == LEAF {
-        return leaf_of(tag);
-    }
-    row_over(tag)
-}
-
-// TopIntro and WithIntro take Trivial, the others Unit.
-fn leaf_of(tag: usize) -> usize
-    ensures { λ r. ⌜ r ≡ leafOf tag ⌝ }
-{
-    match tag {
-        7 => 1,
-        8 => 1,
-        _ => 0,
-    }
-}
-
-// Over its first premise PlusIntroLeft puts Inl, PlusIntroRight Inr, OfCourseIntro Promote, Weakening Discard, Contraction Copy, Dereliction Derelict.
-fn row_over(tag: usize) -> usize
-    ensures { λ r. ⌜ r ≡ rowOver tag ⌝ }
-{
-    match tag {
-        9 => 2,
-        10 => 3,
-        11 => 4,
-        13 => 8,
-        14 => 11,
-        15 => 5,
-        _ => NO_ROW,
-    }
-}
-
-// A Cut takes its own name, Contraction three.
-fn names_before(tag: usize) -> usize
-    ensures { λ r. ⌜ r ≡ namesBefore tag ⌝ }
-{
-    match tag {
-        2 => 1,
-        14 => 3,
-        _ => 0,
-    }
+    plan_with(rule, LEAF, UNIT, 0)
 }
 
 // The entry of a Cut on the formula at `place`.

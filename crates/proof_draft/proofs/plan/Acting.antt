@@ -1,9 +1,9 @@
 -- What a rule does, by its tag and its count of premises, is what extraction makes of it: by the rule, and by its premises. Assumes nothing.
 use Prim.Native.Nat.{ℕ, zero, suc, _+_, _<_, _≤_}
-use mathlib.Core.Path.{_≡_, refl, ap, subst, _∙_}
-use mathlib.Core.List.{List, _∷_}
+use mathlib.Core.Path.{_≡_, refl, sym, ap, _∙_}
+use mathlib.Core.List.{List}
 use native.Mathlib.Omega.{arith}
-use borrow.Author.Tests.{eq-eqb, ne-eqb, lt-ltb, le-ltb}
+use borrow.Author.Tests.{ne-eqb, le-leb, lt-leb}
 use lib.ListN.{length}
 use Rattle.rules.specs.Basic.{Bytes}
 use Rattle.rules.specs.Formula.{Formula}
@@ -13,44 +13,45 @@ use Rattle.rules.specs.Extraction.{terms, Entries, extract}
 use Rattle.draft.specs.Made.{over}
 use Rattle.proof.specs.Shape.{listed, ruleTag, Sees}
 use Rattle.proof.specs.declared.rule.Looked.{Looked}
-use Rattle.proof_draft.specs.Acts.{withTwo, withFirst, actOf, leafOf, rowOver, kindFor, namesBefore, Overs, Acts}
+use Rattle.proof_draft.specs.Acts.{Act, cutAct, pairAct, firstAct, actOf, planWith, Overs, Acts}
 use Rattle.proof_draft.specs.Planning.{Tells}
+use Rattle.proof_draft.specs.declared.plan.Plan.{Plan}
 
 -- ---- the numbers, as the code tests them
 
-pub two-other : (i j m : ℕ) → (m ≡ 1 → ⊥) → (m ≡ 2 → ⊥) → 0 ≡ withTwo i j m
-two-other i j zero a b = refl
-two-other i j (suc zero) a b = absurd (a refl)
-two-other i j (suc (suc zero)) a b = absurd (b refl)
-two-other i j (suc (suc (suc m))) a b = refl
+pub cut-other : (m : ℕ) → (m ≡ 2 → ⊥) → (0, 0, 0) ≡ cutAct m
+cut-other zero a = refl
+cut-other (suc zero) a = refl
+cut-other (suc (suc zero)) a = absurd (a refl)
+cut-other (suc (suc (suc m))) a = refl
 
-pub first-read : (t m : ℕ) → (m ≡ 0 → ⊥) → 3 ≡ withFirst t m
-first-read t zero a = absurd (a refl)
-first-read t (suc m) a = refl
+pub pair-other : (i m : ℕ) → (m ≡ 1 → ⊥) → (m ≡ 2 → ⊥) → (0, i, 0) ≡ pairAct i m
+pair-other i zero a b = refl
+pair-other i (suc zero) a b = absurd (a refl)
+pair-other i (suc (suc zero)) a b = absurd (b refl)
+pair-other i (suc (suc (suc m))) a b = refl
 
-pub first-bare : (t m k : ℕ) → m ≡ 0 → k ≡ rowOver t → k < 6 → 1 ≡ withFirst t m
-first-bare t m k e i h = rw (e, lt-ltb (rowOver t) 6 (subst (λ (j : ℕ). j < 6) i h)) refl
+pub first-read : (k n m : ℕ) → (m ≡ 0 → ⊥) → (3, k, n) ≡ firstAct k n m
+first-read k n zero a = absurd (a refl)
+first-read k n (suc m) a = refl
 
-pub first-leaf : (t m k : ℕ) → m ≡ 0 → k ≡ rowOver t → 6 ≤ k → 0 ≡ withFirst t m
-first-leaf t m k e i h = rw (e, le-ltb (rowOver t) 6 (subst (λ (j : ℕ). 6 ≤ j) i h)) refl
+pub first-bare : (k n m : ℕ) → m ≡ 0 → k ≤ 5 → (1, k, 0) ≡ firstAct k n m
+first-bare k n m e h = rw (e, le-leb k 5 h) refl
 
-pub act-other : (t m : ℕ) → (t ≡ 1 → ⊥) → (t ≡ 2 → ⊥) → (t ≡ 3 → ⊥) → (t ≡ 7 → ⊥) → (t ≡ 5 → ⊥) → (t ≡ 8 → ⊥) → withFirst t m ≡ actOf t m
-act-other t m a b c d e f = rw (ne-eqb t 1 a, ne-eqb t 2 b, ne-eqb t 3 c, ne-eqb t 7 d, ne-eqb t 5 e, ne-eqb t 8 f) refl
+pub first-leaf : (k n m : ℕ) → m ≡ 0 → 5 < k → (0, 0, 0) ≡ firstAct k n m
+first-leaf k n m e h = rw (e, lt-leb k 5 h) refl
 
-pub leaf-other : (t : ℕ) → (t ≡ 7 → ⊥) → (t ≡ 8 → ⊥) → 0 ≡ leafOf t
-leaf-other t a b = rw (ne-eqb t 7 a, ne-eqb t 8 b) refl
+pub act-other : (t m : ℕ) → (t ≡ 1 → ⊥) → (t ≡ 2 → ⊥) → (t ≡ 3 → ⊥) → (t ≡ 5 → ⊥) → (t ≡ 7 → ⊥) → (t ≡ 8 → ⊥) → (t ≡ 9 → ⊥) → (t ≡ 10 → ⊥) → (t ≡ 11 → ⊥)
+    → (t ≡ 13 → ⊥) → (t ≡ 14 → ⊥) → (t ≡ 15 → ⊥) → firstAct 12 0 m ≡ actOf t m
+act-other t m a b c d e f g h i j k l =
+    rw (ne-eqb t 1 a, ne-eqb t 2 b, ne-eqb t 3 c, ne-eqb t 5 d, ne-eqb t 7 e, ne-eqb t 8 f, ne-eqb t 9 g, ne-eqb t 10 h, ne-eqb t 11 i, ne-eqb t 13 j, ne-eqb t 14 k, ne-eqb t 15 l) refl
 
-pub row-other : (t : ℕ) → (t ≡ 9 → ⊥) → (t ≡ 10 → ⊥) → (t ≡ 11 → ⊥) → (t ≡ 13 → ⊥) → (t ≡ 14 → ⊥) → (t ≡ 15 → ⊥) → 12 ≡ rowOver t
-row-other t a b c d e f = rw (ne-eqb t 9 a, ne-eqb t 10 b, ne-eqb t 11 c, ne-eqb t 13 d, ne-eqb t 14 e, ne-eqb t 15 f) refl
+-- a plan, by the act
+pub acts-so : (q : Looked) {r : Plan} {a b : Act} → r ≡ planWith q a → a ≡ b → r ≡ planWith q b
+acts-so q e f = e ∙ ap (λ (z : Act). planWith q z) f
 
-pub names-other : (t : ℕ) → (t ≡ 2 → ⊥) → (t ≡ 14 → ⊥) → 0 ≡ namesBefore t
-names-other t a b = rw (ne-eqb t 2 a, ne-eqb t 14 b) refl
-
-pub kind-leaf : (a t : ℕ) → a ≡ 0 → leafOf t ≡ kindFor a t
-kind-leaf a t e = rw (eq-eqb a 0 e) refl
-
-pub kind-row : (a t : ℕ) → (a ≡ 0 → ⊥) → rowOver t ≡ kindFor a t
-kind-row a t e = rw (ne-eqb a 0 e) refl
+pub by-tag : (q : Looked) {r : Plan} (t : ℕ) → q .tag ≡ t → r ≡ planWith q (actOf t (q .premises)) → r ≡ planWith q (actOf (q .tag) (q .premises))
+by-tag q t e f = f ∙ ap (λ (i : ℕ). planWith q (actOf i (q .premises))) (sym e)
 
 -- ---- what extraction makes
 
@@ -74,7 +75,7 @@ over-first x l p qs k f =
     }
 
 abbrev Does : Rule → List Formula → Premises → Type 0
-Does x l ps = let t = ruleTag x in let a = actOf t (length (listed ps)) in Acts a (kindFor a t) (namesBefore t) (proof x l ps)
+Does x l ps = let a = actOf (ruleTag x) (length (listed ps)) in Acts (a .0) (a .1) (a .2) (proof x l ps)
 
 does : (x : Rule) (l : List Formula) (ps : Premises) → Does x l ps
 unfolding extract
@@ -125,12 +126,13 @@ does (focus FocusPositive i) l (p then qs) = over-first (focus FocusPositive i) 
 does (focus FocusNegative i) l done = record { among = omega arith; is = λ es n. refl }
 does (focus FocusNegative i) l (p then qs) = over-first (focus FocusNegative i) l p qs 12 (λ s es n. refl)
 
--- the numbers, from a look at the rule
-acts : (x : Rule) (l : List Formula) (ps : Premises) (t c a k m : ℕ) → t ≡ ruleTag x → c ≡ length (listed ps) → a ≡ actOf t c → k ≡ kindFor a t → m ≡ namesBefore t
-    → Acts a k m (proof x l ps)
-acts x l ps t c a k m e f g h i = rw (i, h, g, e, f) (does x l ps)
-
-pub plan-tells : {at : ℕ} (p : Proof) {q : Looked} {a k m : ℕ} → Sees at p q → a ≡ actOf (q .tag) (q .premises) → k ≡ kindFor a (q .tag) → m ≡ namesBefore (q .tag)
-    → Tells at p (record { act = a; kind = k; names = m; linear = q .linear; premises = q .premises; first = q .first })
-plan-tells (proof x l ps) {q} {a} {k} {m} h e f g =
-    record { linear = h .linear; premises = h .premises; first = h .first; acts = acts x l ps (q .tag) (q .premises) a k m (h .tag) (h .premises) e f g }
+-- a look at the rule told its tag and its premises
+pub plan-tells : {at : ℕ} (p : Proof) {q : Looked} {r : Plan} → Sees at p q → r ≡ planWith q (actOf (q .tag) (q .premises)) → Tells at p r
+plan-tells (proof x l ps) {q} h e =
+    rw e
+    (record {
+      linear = h .linear;
+      premises = h .premises;
+      first = h .first;
+      acts = rw (h .tag, h .premises) (does x l ps);
+    })

@@ -7,22 +7,11 @@ use Rattle.proof_draft.proofs.plan.plan_at.Tie as tie
 look-rule-requires : tie.Need-look-rule-requires
 look-rule-requires c κs = search needs
 
-act-of-requires : tie.Need-act-of-requires
-act-of-requires c κs = search needs
-
-kind-for-requires : tie.Need-kind-for-requires
-kind-for-requires c κs = search needs
-
-names-before-requires : tie.Need-names-before-requires
-names-before-requires c κs = search needs
+plan-of-requires : tie.Need-plan-of-requires
+plan-of-requires c κs = search needs
 
 returns : tie.Need-returns
-returns c =
-    record {
-      tells = λ p w. plan-tells p (c .before .before .before .look-rule .ensures p w) (c .before .before .act-of .ensures) (c .before .kind-for .ensures) (c .names-before .ensures);
-    }
+returns c = record { tells = λ p w. plan-tells p (c .before .look-rule .ensures p w) (c .plan-of .ensures) }
 
 pub plan-at-spec : {M : Type 1} → statement M
-plan-at-spec =
-    tie.close
-    (tie.spec look-rule-requires act-of-requires kind-for-requires names-before-requires returns)
+plan-at-spec = tie.close (tie.spec look-rule-requires plan-of-requires returns)
