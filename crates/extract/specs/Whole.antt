@@ -20,10 +20,7 @@ use Rattle.proof_draft.specs.declared.put.Drafted.{Drafted}
 use Rattle.extract.specs.declared.Extraction.{Extraction}
 use Rattle.extract.specs.declared.Extraction.the-variants.{Made, Refused}
 
--- up to how many rules a proof is short, and how many more it may have before it is walked with room for the most
-abbrev pub fewRules : ℕ
-fewRules = 64
-
+-- for a proof of at most so many rules, if they are more than few, arrays are made that are shorter than those for the most
 abbrev pub someRules : ℕ
 someRules = 192
 

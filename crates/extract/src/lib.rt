@@ -7,9 +7,11 @@ ghost use Rattle.rules.specs.Limits.{limits, entryRoom, mostCounter};
 ghost use Rattle.rules.specs.Proof.{Proof};
 ghost use Rattle.rules.specs.Extraction.{terms, extract as extractOf};
 ghost use Rattle.rules.specs.Calls.{Entry, extractCall};
-ghost use Rattle.extract.specs.Whole.{fewRules, someRules, extraction, Finished, Checked};
+ghost use Rattle.proof_draft.specs.Whole.{fewRules};
+ghost use Rattle.extract.specs.Whole.{someRules, extraction, Finished, Checked};
 use buffer::room::short;
 use finish::finish;
+use proof_draft::own::FEW_RULES;
 use proof_draft::own::draft_few;
 use proof_draft::own::draft_many;
 use rules::Answer;
@@ -34,10 +36,8 @@ const FIRST_PARTS: usize = 2;
 
 const SIZE: usize = 2;
 
-// Arrays are set to zeros where they are made, so that those for the most rules would cost a short proof more than the work.
-const FEW: usize = 64;
-
-const SOME: usize = 192;
+// Arrays are set to zeros where they are made, so that a proof of at most so many rules gets shorter ones (specs/Whole.antt has the same number).
+const SOME_RULES: usize = 192;
 
 // The term of a checked proof of few rules.
 fn extract_few(start: usize, proof: &[u8], out: &mut [u8], scratch: &mut [u8]) -> Extraction
@@ -45,9 +45,9 @@ fn extract_few(start: usize, proof: &[u8], out: &mut [u8], scratch: &mut [u8]) -
     ensures { λ r. ⌜ ((p : Proof) → Checked (now (proof .entry)) (now (out .entry)) fewRules p
         → Finished (extractOf terms p [] start) (now (out .entry)) (now (scratch .entry)) r (now (out .exit)) (now (scratch .exit))) ⌝ }
 {
-    let mut rows = [0usize; ROW * FEW];
+    let mut rows = [0usize; ROW * FEW_RULES];
     let draft = draft_few(proof, &mut rows, start);
-    let mut sizes = [0usize; SIZE * (FEW + FIRST_PARTS)];
+    let mut sizes = [0usize; SIZE * (FEW_RULES + FIRST_PARTS)];
     finish(proof, &rows, draft, &mut sizes, out, scratch)
 }
 
@@ -57,9 +57,9 @@ fn extract_some(start: usize, proof: &[u8], out: &mut [u8], scratch: &mut [u8]) 
     ensures { λ r. ⌜ ((p : Proof) → Checked (now (proof .entry)) (now (out .entry)) someRules p
         → Finished (extractOf terms p [] start) (now (out .entry)) (now (scratch .entry)) r (now (out .exit)) (now (scratch .exit))) ⌝ }
 {
-    let mut rows = [0usize; ROW * SOME];
+    let mut rows = [0usize; ROW * SOME_RULES];
     let draft = draft_many(proof, &mut rows, start);
-    let mut sizes = [0usize; SIZE * (SOME + FIRST_PARTS)];
+    let mut sizes = [0usize; SIZE * (SOME_RULES + FIRST_PARTS)];
     finish(proof, &rows, draft, &mut sizes, out, scratch)
 }
 
@@ -91,10 +91,10 @@ fn extract_read(
     if MOST_COUNTER < start {
         return Extraction::Refused(Refusal::of_no_input(9));
     }
-    if SOME < rules {
+    if SOME_RULES < rules {
         return extract_many(start, proof, out, scratch);
     }
-    if FEW < rules {
+    if FEW_RULES < rules {
         return extract_some(start, proof, out, scratch);
     }
     extract_few(start, proof, out, scratch)

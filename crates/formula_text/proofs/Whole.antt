@@ -6,6 +6,7 @@ use mathlib.Core.List.{List, _++_}
 use native.Mathlib.Omega.{arith}
 use lib.ListN.{length, replicate}
 use Rattle.rules.specs.Limits.{limits, formulaTextRoom}
+use Rattle.rules.specs.Name.{nameMost}
 use Rattle.rules.specs.Refusal.{good, answered}
 use Rattle.rules.specs.declared.Refusal.{Refusal}
 use Rattle.rules.specs.declared.Answer.the-variants.{Good, Refused}
@@ -42,7 +43,7 @@ module _ (s o : List ℕ) where
       accepted : FormulaIn limits s x
       accepted = formula-sound limits 1 s x e
 
-      pub few : length (formulaText x) + 24 ≤ formulaTextRoom limits
+      pub few : length (formulaText x) + nameMost ≤ formulaTextRoom limits
       few = let a = accepted in omega (arith, formula-text-size x, ap length (a .bytes), a .short, a .few)
 
       pub size : length (encodeFormula x) < 65536

@@ -29,13 +29,13 @@ fewer xs i =
     omega (arith, ap length e, length-append (encodeNames (take i xs)) (encodeNames (drop i xs)))
 
 -- the first i names stand in the output
-abbrev pub Listed : Bytes → List ℕ → ℕ → Bytes → Bytes → ℕ → ℕ → Type 0
-Listed s row n out₀ out i to = (xs : List Name) → Writes s row n out₀ xs → Wrote out₀ 0 (encodeNames (take i xs)) out to
+abbrev pub Listing : Bytes → List ℕ → ℕ → Bytes → Bytes → ℕ → ℕ → Type 0
+Listing s row n out₀ out i to = (xs : List Name) → Writes s row n out₀ xs → Wrote out₀ 0 (encodeNames (take i xs)) out to
 
-pub listed-none : (s : Bytes) (row : List ℕ) (n : ℕ) (out : Bytes) → Listed s row n out out 0 0
+pub listed-none : (s : Bytes) (row : List ℕ) (n : ℕ) (out : Bytes) → Listing s row n out out 0 0
 listed-none s row n out xs w = wrote-none out 0
 
-module _ {s : Bytes} {row : List ℕ} {n : ℕ} {out₀ out : Bytes} {i to : ℕ} (f : Listed s row n out₀ out i to) (h : i < n) where
+module _ {s : Bytes} {row : List ℕ} {n : ℕ} {out₀ out : Bytes} {i to : ℕ} (f : Listing s row n out₀ out i to) (h : i < n) where
   name-long : (x : Name) → NameAt s (getD row i 0) x → getD s (getD row i 0) 0 ≡ length x
   name-long x v = head-byte s _ (getD row i 0) (length x) (v .bytes)
 
@@ -54,7 +54,7 @@ module _ {s : Bytes} {row : List ℕ} {n : ℕ} {out₀ out : Bytes} {i to : ℕ
         w .room,
       )
 
-  pub listed-more : {out′ : Bytes} {to′ : ℕ} → Wrote out to (slice (getD row i 0) (getD row i 0 + 1 + getD s (getD row i 0) 0) s) out′ to′ → Listed s row n out₀ out′ (i + 1) to′
+  pub listed-more : {out′ : Bytes} {to′ : ℕ} → Wrote out to (slice (getD row i 0) (getD row i 0 + 1 + getD s (getD row i 0) 0) s) out′ to′ → Listing s row n out₀ out′ (i + 1) to′
   listed-more {out′} {to′} v xs w =
       let p = getD row i 0 in
       let x = at xs i in
@@ -64,6 +64,6 @@ module _ {s : Bytes} {row : List ℕ} {n : ℕ} {out₀ out : Bytes} {i to : ℕ
       let u : Wrote out to (encodeName x) out′ to′ = rw d at v in
       rw (one-more xs i (omega (arith, w .held .many))) (chain (f xs w) u)
 
-pub listed-all : {s : Bytes} {row : List ℕ} {n : ℕ} {out₀ out : Bytes} {i to : ℕ} → Listed s row n out₀ out i to → n ≤ i
+pub listed-all : {s : Bytes} {row : List ℕ} {n : ℕ} {out₀ out : Bytes} {i to : ℕ} → Listing s row n out₀ out i to → n ≤ i
     → (xs : List Name) → Writes s row n out₀ xs → Wrote out₀ 0 (encodeNames xs) out to
 listed-all {i = i} f h xs w = let e : take i xs ≡ xs = take-all i xs (omega (arith, w .held .many)) in rw e at (f xs w)

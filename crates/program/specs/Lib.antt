@@ -1,4 +1,3 @@
 pub mod Field
-pub mod Reduct
 pub mod Printing
 pub mod Starts

@@ -14,11 +14,12 @@ use Rattle.rules.specs.Limits.{Limits, blockBytes}
 use Rattle.rules.specs.Refusal.{Outcome, good, refuse}
 use Rattle.rules.specs.declared.Kind.{Kind}
 use Rattle.rules.specs.Stored.{check, blockAt, two-bytes, lengthIn, openBlock, openBlocks, opened, stored, readKind}
+use Rattle.laws.specs.reading.Octets.{Octets}
 use Rattle.stored.specs.Opening.{opens-11}
 use Rattle.stored.specs.Storing.{read-short, right-size}
 use Rattle.stored.specs.Gathering.{joined, openBlocks-suc}
 use Rattle.stored.specs.Inverse.{block-right, blocks-right, opens}
-use Rattle.stored.specs.Octets.{Octets, stored-octets}
+use Rattle.stored.specs.Octets.{octet-at, stored-octets}
 use Rattle.stored.specs.Undone.{opened-stored}
 use Rattle.stored.specs.Tells.{check-tells}
 
@@ -93,7 +94,7 @@ module _ (L : Limits) (k : Kind) (f : Bytes) (many q p v : ℕ) (octets : Octets
   told : (c : Bytes) → openBlock L k f q (blockAt f q) ≡ good c → openBlock L k changed q (blockAt changed q) ≡ refuse 11 q 1
   told c o =
       let right = block-right L k f q (blockAt f q) c o in
-      let old : getD (blockAt f q) p 0 < 256 = rw byte-here (octets (blockBytes * q + p)) in
+      let old : getD (blockAt f q) p 0 < 256 = rw byte-here (octet-at f octets (blockBytes * q + p)) in
       ap (openBlock L k changed q) here
       ∙ opens-11 L k changed q (set (blockAt f q) p v)
       (λ e. other (unchanged (blockAt f q) p v length-here in-it old new (right .sum) e ∙ byte-here))

@@ -11,7 +11,7 @@ use Rattle.rules.specs.Basic.{Bytes, between}
 use Rattle.rules.specs.Limits.{Limits, blockBytes, blocksFor}
 use Rattle.rules.specs.declared.Kind.{Kind}
 use Rattle.rules.specs.Stored.{kindByte, blockAt, two-bytes, lengthIn, headWrong}
-use Rattle.stored.specs.Weights.{and-left, and-right}
+use Rattle.laws.specs.free.Same.{both-true}
 
 -- the length in block 0
 pub first-length : (f : Bytes) → lengthIn (blockAt f 0) ≡ two-bytes f 2
@@ -75,8 +75,8 @@ module _ (L : Limits) (k : Kind) (f : Bytes) (i : ℕ) (b : Bytes) where
       record {
         kind = eqb-true (getD b 0 0) (kindByte k) (not-false t₀ (or-left (not t₀) (not t₁ || (not t₂ || (not t₃ || not t₄))) e));
         number = eqb-true (getD b 1 0) i (not-false t₁ (or-left (not t₁) (not t₂ || (not t₃ || not t₄)) e₁));
-        least = leb-true 1 (lengthIn b) (and-left (leb 1 (lengthIn b)) (leb (lengthIn b) (L .bytes)) within);
-        most = leb-true (lengthIn b) (L .bytes) (and-right (leb 1 (lengthIn b)) (leb (lengthIn b) (L .bytes)) within);
+        least = leb-true 1 (lengthIn b) (both-true (leb 1 (lengthIn b)) (leb (lengthIn b) (L .bytes)) within .0);
+        most = leb-true (lengthIn b) (L .bytes) (both-true (leb 1 (lengthIn b)) (leb (lengthIn b) (L .bytes)) within .1);
         alike = eqb-true (lengthIn b) (lengthIn (blockAt f 0)) (not-false t₃ (or-left (not t₃) (not t₄) e₃));
         count = eqb-true (blocksFor (lengthIn b)) (length f / blockBytes) (not-false t₄ e₄);
       }

@@ -14,7 +14,8 @@ use Rattle.rules.specs.Limits.{Limits, blockBytes, blockContent, blocksFor}
 use Rattle.rules.specs.Refusal.{good}
 use Rattle.rules.specs.declared.Kind.{Kind}
 use Rattle.rules.specs.Stored.{kindByte, check, blockBody, block, blocks, stored, blockAt, lengthIn, usedIn, padded, allZero, openBlock, openBlocks, opened}
-use Rattle.stored.specs.Octets.{Octets}
+use Rattle.laws.specs.reading.Octets.{Octets}
+use Rattle.stored.specs.Octets.{octet-at}
 use Rattle.stored.specs.Weights.{zeros-are}
 use Rattle.stored.specs.Opening.{used-le}
 use Rattle.stored.specs.Blocks.{padded-used}
@@ -155,7 +156,7 @@ module _ (L : Limits) (k : Kind) (f : Bytes) (many : ℕ) (octets : Octets f) (w
         ∙ ap (λ (r : Bytes). r ++ blocks k (suc i) n s) same
       where
         low : (p i : ℕ) → p < blockBytes → getD (blockAt f i) p 0 < 256
-        low p i h = rw (getD-take blockBytes (drop (blockBytes * i) f) p 0 h, getD-drop (blockBytes * i) f p 0) (octets (blockBytes * i + p))
+        low p i h = rw (getD-take blockBytes (drop (blockBytes * i) f) p 0 h, getD-drop (blockBytes * i) f p 0) (octet-at f octets (blockBytes * i + p))
 
 -- a file that loads is the stored form of its content
 pub loaded-stored : (L : Limits) (k : Kind) (f s : Bytes) → Octets f → opened L k f ≡ good s → f ≡ stored k s

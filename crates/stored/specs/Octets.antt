@@ -1,51 +1,40 @@
--- A list of which every number is a byte; a stored form is one if its content is. Assumes nothing.
+-- Each number of a stored form is a byte if each of its content is: by recursion on the parts that it is put together from. Assumes nothing.
 use Prim.Native.Nat.{ℕ, zero, suc, _+_, _-_, _*_, _/_, _%_, _≤_, _<_}
-use mathlib.Core.Path.{_≡_, refl, sym, ap, _∙_}
-use mathlib.Core.Bool.{Bool, true, false}
 use mathlib.Core.List.{[], _∷_, _++_}
 use native.Mathlib.Omega.{arith}
-use lib.Dec.{ltb}
-use lib.ListN.{length, getD, take, drop, replicate, List·getD-append}
-use lib.Seq.{getD-append-add, getD-drop}
-use borrow.Author.Tests.{ltb-true, ltb-false}
+use lib.ListN.{length, getD, take, drop, replicate}
 use Rattle.rules.specs.Basic.{Bytes, low-high}
 use Rattle.rules.specs.Limits.{blockContent, blocksFor}
 use Rattle.rules.specs.declared.Kind.{Kind}
 use Rattle.rules.specs.declared.Kind.the-variants.{Term, Proof}
 use Rattle.rules.specs.Stored.{kindByte, check, padded, blockBody, block, blocks, stored}
+use Rattle.laws.specs.reading.Octets.{Octets}
 
-abbrev pub Octets : Bytes → Type 0
-Octets s = (i : ℕ) → getD s i 0 < 256
-
-cons : (b : ℕ) (s : Bytes) → b < 256 → Octets s → Octets (b ∷ s)
-cons b s h o zero = h
-cons b s h o (suc i) = o i
+pub octet-at : (s : Bytes) → Octets s → (i : ℕ) → getD s i 0 < 256
+octet-at [] o i = omega arith
+octet-at (b ∷ s) o zero = o .0
+octet-at (b ∷ s) o (suc i) = octet-at s (o .1) i
 
 append : (s t : Bytes) → Octets s → Octets t → Octets (s ++ t)
-append s t a b i = at (ltb i (length s)) refl
-  where
-    at : (u : Bool) → ltb i (length s) ≡ u → getD (s ++ t) i 0 < 256
-    at true e = rw (List·getD-append s t 0 i (ltb-true i (length s) e)) (a i)
-    at false e =
-        let h = ltb-false i (length s) e in
-        let j : length s + (i - length s) ≡ i = omega arith in
-        let g : getD (s ++ t) i 0 ≡ getD t (i - length s) 0 = ap (λ (n : ℕ). getD (s ++ t) n 0) (sym j) ∙ getD-append-add s t (i - length s) 0 in
-        rw g (b (i - length s))
+append [] t a b = b
+append (x ∷ s) t a b = (a .0, append s t (a .1) b)
 
 first : (n : ℕ) (s : Bytes) → Octets s → Octets (take n s)
-first zero s o = λ i. omega arith
-first (suc n) [] o = λ i. omega arith
-first (suc n) (b ∷ s) o = cons b (take n s) (o 0) (first n s (λ j. o (suc j)))
+first zero s o = tt
+first (suc n) [] o = tt
+first (suc n) (b ∷ s) o = (o .0, first n s (o .1))
 
 rest : (n : ℕ) (s : Bytes) → Octets s → Octets (drop n s)
-rest n s o i = rw (getD-drop n s i 0) (o (n + i))
+rest zero s o = o
+rest (suc n) [] o = tt
+rest (suc n) (b ∷ s) o = rest n s (o .1)
 
 zeros : (n : ℕ) → Octets (replicate n 0)
-zeros zero = λ i. omega arith
-zeros (suc n) = cons 0 (replicate n 0) (omega arith) (zeros n)
+zeros zero = tt
+zeros (suc n) = (omega arith, zeros n)
 
 two : (n : ℕ) → n ≤ 65535 → Octets (low-high n)
-two n h = cons (n % 256) (n / 256 ∷ []) (omega arith) (cons (n / 256) [] (omega arith) (λ i. omega arith))
+two n h = (omega arith, (omega arith, tt))
 
 kind : (k : Kind) → kindByte k < 256
 kind Term = omega arith
@@ -54,9 +43,8 @@ kind Proof = omega arith
 body-octets : (k : Kind) (i n : ℕ) (s : Bytes) → i < 256 → n ≤ 65535 → Octets s → Octets (blockBody k i n s)
 body-octets k i n s h l o =
     let t = drop (blockContent * i) s in
-    cons (kindByte k) (i ∷ (low-high n ++ padded blockContent t)) (kind k)
-    (cons i (low-high n ++ padded blockContent t) h
-    (append (low-high n) (padded blockContent t) (two n l) (append (take blockContent t) (replicate (blockContent - length t) 0) (first blockContent t (rest (blockContent * i) s o)) (zeros (blockContent - length t)))))
+    let pad = append (take blockContent t) (replicate (blockContent - length t) 0) (first blockContent t (rest (blockContent * i) s o)) (zeros (blockContent - length t)) in
+    (kind k, (h, append (low-high n) (padded blockContent t) (two n l) pad))
 
 block-octets : (k : Kind) (i : ℕ) (s : Bytes) → i < 256 → length s ≤ 65535 → Octets s → Octets (block k i s)
 block-octets k i s h l o =
@@ -65,7 +53,7 @@ block-octets k i s h l o =
 
 blocks-octets : (k : Kind) (i n : ℕ) (s : Bytes) → i + n ≤ 256 → length s ≤ 65535 → Octets s → Octets (blocks k i n s)
 unfolding blocks
-blocks-octets k i zero s h l o = λ j. omega arith
+blocks-octets k i zero s h l o = tt
 blocks-octets k i (suc n) s h l o =
     append (block k i s) (blocks k (suc i) n s) (block-octets k i s (omega arith) l o) (blocks-octets k (suc i) n s (omega arith) l o)
 

@@ -11,7 +11,7 @@ use lib.ListN.{length, getD, set}
 use borrow.Author.Tests.{ltb-true, ltb-false, leb-true, leb-false, le-ltb, eq-eqb, eqb-true, eqb-false}
 use Rattle.rules.specs.Basic.{Bytes}
 use Rattle.rules.specs.Stored.{weighed, check}
-use Rattle.stored.specs.Weights.{and-left, and-right}
+use Rattle.laws.specs.free.Same.{both-true}
 
 -- a changed byte changes the sum by its weight times the change
 pub weighed-set : (i : ℕ) (s : Bytes) (p v : ℕ) → p < length s → weighed i (set s p v) + (i + p + 1) * getD s p 0 ≡ weighed i s + (i + p + 1) * v
@@ -40,7 +40,7 @@ at-top f n k false e a b l = b (omega (arith, eqb-false k n e))
 below : (f : ℕ → Bool) (n k : ℕ) → every f n ≡ true → k < n → f k ≡ true
 unfolding every
 below f zero k h l = absurd (omega arith)
-below f (suc n) k h l = at-top f n k (eqb k n) refl (and-left (f n) (every f n) h) (below f n k (and-right (f n) (every f n) h)) l
+below f (suc n) k h l = let p = both-true (f n) (every f n) h in at-top f n k (eqb k n) refl (p .0) (below f n k (p .1)) l
 
 no-divisor : (d : ℕ) → 2 ≤ d → d < 256 → 65521 % d ≡ 0 → ⊥
 unfolding divides-not every

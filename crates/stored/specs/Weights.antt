@@ -13,6 +13,7 @@ use lib.Seq.{drop-cons}
 use borrow.Author.Tests.{eqb-true, ne-eqb}
 use Rattle.rules.specs.Basic.{Bytes}
 use Rattle.rules.specs.Stored.{weighed, allZero}
+use Rattle.laws.specs.free.Same.{both-true}
 
 unfoldable pub total : Bytes → ℕ
 total [] = 0
@@ -70,17 +71,9 @@ drop-down s i p h =
     let q : suc (i - 1) ≡ i = omega arith in
     drop-cons s (i - 1) 0 (omega arith) ∙ ap (λ (k : ℕ). getD s (i - 1) 0 ∷ drop k s) q
 
-pub and-left : (a b : Bool) → (a && b) ≡ true → a ≡ true
-and-left true b e = refl
-and-left false b e = e
-
-pub and-right : (a b : Bool) → (a && b) ≡ true → b ≡ true
-and-right true b e = e
-and-right false b e = absurd (let z : _≡_ {A = ℕ} 0 1 = cc in omega arith)
-
 pub zeros-are : (s : Bytes) → allZero s ≡ true → s ≡ replicate (length s) 0
 zeros-are [] e = refl
-zeros-are (b ∷ s) e = rw (eqb-true b 0 (and-left (eqb b 0) (allZero s) e), ← (zeros-are s (and-right (eqb b 0) (allZero s) e)))
+zeros-are (b ∷ s) e = let h = both-true (eqb b 0) (allZero s) e in rw (eqb-true b 0 (h .0), ← (zeros-are s (h .1)))
 
 pub are-zeros : (n : ℕ) → allZero (replicate n 0) ≡ true
 are-zeros zero = refl

@@ -1,8 +1,11 @@
-// What is computed over the bytes of a block: its weighed sum, its check, and whether bytes are zero.
+// What is computed over the bytes of a block, whatever it holds: its weighed sum, its check, and whether bytes are zero.
 use rules::BLOCK_BYTES;
 ghost use mathlib.Core.Path.{_≡_};
 ghost use Prim.Native.Nat.{_≤_};
+ghost use mathlib.Core.Bool.{true};
+ghost use mathlib.Core.List.{_++_};
 ghost use lib.ListN.{length, take, drop};
+ghost use Rattle.rules.specs.Basic.{low-high};
 ghost use Rattle.rules.specs.Limits.{blockBytes};
 ghost use Rattle.rules.specs.Stored.{weighed, check, allZero};
 
@@ -49,4 +52,14 @@ pub fn check_of(block: &[u8], end: usize, clean: bool) -> usize
         return weigh(&block[..end]) as usize % CHECK_MODULUS;
     }
     weigh(&block[..CHECK_AT]) as usize % CHECK_MODULUS
+}
+
+// The check, behind a body that is zero from `end` on.
+pub fn put_check(block: &mut [u8], end: usize)
+    requires { ⌜ (end ≤ 510) × (length (now block) ≡ blockBytes) × (allZero (drop end (take 510 (now block))) ≡ true) ⌝ }
+    ensures { λ _. ⌜ now (block .exit) ≡ take 510 (now (block .entry)) ++ low-high (check (take 510 (now (block .entry)))) ⌝ }
+{
+    let check = check_of(block, end, true);
+    block[CHECK_AT] = (check % 256) as u8;
+    block[CHECK_AT + 1] = (check / 256) as u8;
 }

@@ -1,20 +1,17 @@
 // One block, written: its head, its content and zeros, then the check of these.
 use crate::block::used_in;
-use crate::check::CHECK_AT;
-use crate::check::check_of;
+use crate::check::put_check;
 use buffer::run::clear;
 use buffer::run::copy;
 use rules::BLOCK_CONTENT;
 use rules::Kind;
 ghost use mathlib.Core.Path.{_≡_};
 ghost use Prim.Native.Nat.{_≤_, _<_};
-ghost use mathlib.Core.Bool.{true};
-ghost use mathlib.Core.List.{_∷_, _++_};
-ghost use lib.ListN.{length, take, drop};
+ghost use mathlib.Core.List.{_∷_};
+ghost use lib.ListN.{length};
 ghost use lib.Seq.{sets};
 ghost use Rattle.rules.specs.Basic.{low-high};
-ghost use Rattle.rules.specs.Limits.{blockBytes};
-ghost use Rattle.rules.specs.Stored.{kindByte, check, block as blockOf, allZero};
+ghost use Rattle.rules.specs.Stored.{kindByte, block as blockOf};
 ghost use Rattle.stored.specs.Writing.{Storable, PutBody};
 
 // Kind, number and content length, at the start of a block.
@@ -40,16 +37,6 @@ fn put_body(kind: Kind, number: usize, content: &[u8], block: &mut [u8]) -> usiz
     let past = copy(content, from, end, block, 4);
     clear(block, past);
     past
-}
-
-// The check, behind a body that is zero from `end` on.
-fn put_check(block: &mut [u8], end: usize)
-    requires { ⌜ (end ≤ 510) × (length (now block) ≡ blockBytes) × (allZero (drop end (take 510 (now block))) ≡ true) ⌝ }
-    ensures { λ _. ⌜ now (block .exit) ≡ take 510 (now (block .entry)) ++ low-high (check (take 510 (now (block .entry)))) ⌝ }
-{
-    let check = check_of(block, end, true);
-    block[CHECK_AT] = (check % 256) as u8;
-    block[CHECK_AT + 1] = (check / 256) as u8;
 }
 
 // Writes a block.

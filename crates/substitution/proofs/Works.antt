@@ -1,85 +1,86 @@
--- The work of `substitute` on legal inputs: from the places to the sizes, to the splice, to the zeros behind it.
+-- The work of `substitute` on legal inputs: nothing stands beside the term, so the result is written if it fits by itself, and zeros go behind it.
 -- Assumes nothing.
 use Prim.Native.Nat.{ℕ, _+_, _-_, _≤_}
 use mathlib.Core.Path.{_≡_, refl, sym, ap, _∙_}
-use mathlib.Core.Bool.{Bool, true, false}
+use mathlib.Core.Bool.{true, false}
+use mathlib.Core.Option.{none}
 use mathlib.Core.List.{List}
+use native.Mathlib.Nat.{zero-add}
 use native.Mathlib.Omega.{arith}
-use lib.ListN.{length, take, replicate}
+use lib.ListN.{length, replicate}
 use lib.Seq.{sets}
 use Rattle.rules.specs.Basic.{Bytes}
 use Rattle.rules.specs.Limits.{limits}
 use Rattle.rules.specs.declared.Refusal.{Refusal}
 use Rattle.rules.specs.declared.Answer.the-variants.{Good, Refused}
-use Rattle.rules.specs.Term.{Term, encode, size, fits}
+use Rattle.rules.specs.Term.{Term, encode, nodes, size, fits}
 use Rattle.rules.specs.Substitution.{subst}
-use Rattle.laws.specs.reading.Fits.{within}
+use Rattle.laws.specs.reading.Fits.{fits-yes, accepted-fits}
 use Rattle.buffer.specs.Wrote.{Wrote}
 use Rattle.buffer.specs.Writing.{wrote-length, filled-up}
-use Rattle.substitution.specs.Places.{places, Row, Held}
-use Rattle.substitution.specs.Spliced.{spliced, Left}
-use Rattle.substitution.specs.Sizes.{Growth}
+use Rattle.substitution.specs.Places.{places, Row}
+use Rattle.substitution.specs.Beside.{fitsBeside}
+use Rattle.substitution.specs.Put.{Putting, Puts}
 use Rattle.substitution.specs.Work.{Job, Done}
-use Rattle.substitution.proofs.place.Writes.{held, from-start, zeros}
-use Rattle.substitution.proofs.place.Shapes.{places-many}
-use Rattle.substitution.proofs.splice.Splices.{spliced-term, spaced-term}
+use Rattle.substitution.specs.declared.put.Put.{Put}
+use Rattle.substitution.specs.declared.put.Put.the-variants.{Written, Outgrown}
+use Rattle.substitution.proofs.place.Writes.{held, zeros}
 use Rattle.substitution.proofs.place.Finds.{count-within}
+use Rattle.substitution.proofs.put.Puts.{Went, went, stuck}
 
-module _ {term name value out : Bytes} {n m : ℕ} {t v : Term} (j : Job term name value out n m t v)
-    {row row₁ : List ℕ} (long : Row row) {count : ℕ} (are : Wrote row 0 (places name t 0) row₁ count) where
-  pub growth : Growth (length term) n count (2 + length name) (length value) m name t v
-  growth =
+by-itself : (u : Term) → fitsBeside 0 0 u ≡ fits limits u
+unfolding fitsBeside fits
+by-itself u = rw (zero-add (nodes u), zero-add (size u))
+
+module _ {term name value out : Bytes} {n m : ℕ} {t v : Term} (j : Job term name value out n m t v) where
+  term-long : length term ≡ size t
+  term-long = ap (λ (z : Bytes). length z) (j .term-in .bytes)
+
+  pub putting : {row row₁ : List ℕ} {count : ℕ} → Row row → Wrote row 0 (places name t 0) row₁ count → Putting term row₁ count (2 + length name) value m n (length term) name t v
+  putting long are =
       record {
-        bytes-are = ap (λ (z : Bytes). length z) (j .term-in .bytes);
-        nodes-are = j .count;
-        count-is = omega (arith, are .ends, places-many name t 0);
+        body-is = j .term-in .bytes;
+        held = held are (count-within name t (j .term-in .few) long are);
         gap-is = refl;
-        value-is = ap (λ (z : Bytes). length z) (j .value-in .bytes);
-        added-is = j .value-count;
-        small = (omega (arith, j .term-in .short), omega (arith, j .count, j .term-in .few), omega (arith, j .value-in .short), omega (arith, j .value-count, j .value-in .few));
+        value-is = record { bytes = j .value-in .bytes; count = j .value-count; fits = accepted-fits limits value v (j .value-in) };
+        nodes-in = omega (arith, j .count);
+        bytes-in = omega (arith, term-long);
+        few = omega (arith, j .count, j .term-in .few);
+        short = omega (arith, j .term-in .short);
       }
 
-  kept : Held row₁ count (places name t 0)
-  kept = held are (count-within name t (j .term-in .few) long are)
+  module _ {out₁ : Bytes} {r : Put} (p : Puts (n - nodes t) (length term - size t) none (subst name v t) out out₁ r) where
+    alone : Puts 0 0 none (subst name v t) out out₁ r
+    alone =
+        let a : n - nodes t ≡ 0 = omega (arith, j .count) in
+        let b : length term - size t ≡ 0 = omega (arith, term-long) in
+        rw (a, b) at p
 
-  pub part-within : count ≤ length row₁
-  part-within = kept .inside
+    module _ {l c : ℕ} (is : r ≡ Written l c) where
+      made : Went 0 (subst name v t) out out₁ l c
+      made = went 0 (subst name v t) out out₁ r alone l c is
 
-  part-is : take (count - 0) row₁ ≡ places name t 0
-  part-is = from-start count row₁ ∙ kept .are
+      fit : fits limits (subst name v t) ≡ true
+      fit = fits-yes limits (subst name v t) (omega (arith, made .fit)) (omega (arith, made .fit))
 
-  result : spliced term value (2 + length name) 0 (take (count - 0) row₁) (length term) ≡ encode (subst name v t)
-  result = rw (part-is, j .value-in .bytes) (spliced-term name v t term (j .term-in .bytes))
+      written : Wrote out 0 (encode (subst name v t)) out₁ l
+      written = record { holds = made .leaves; ends = made .long ∙ omega arith }
 
-  module _ (b : Bool) (e : b ≡ fits limits (subst name v t)) where
-    module _ (y : b ≡ true) where
-      fit : size (subst name v t) ≤ limits .bytes
-      fit = within limits (subst name v t) (sym e ∙ y) .1
+      pub end-within : l ≤ length out₁
+      end-within = omega (arith, made .long, made .fit, wrote-length written, j .out-room)
 
-      pub splice-left : Left term (take (count - 0) row₁) (2 + length name) value 0 out 0
-      splice-left =
+      pub done : (out₂ scratch scratch₁ : Bytes) → out₂ ≡ sets out₁ l (replicate (length out₁ - l) 0) → scratch₁ ≡ sets scratch 0 (replicate (length scratch - 0) 0)
+          → Done name t v out scratch (Good l) out₂ scratch₁
+      done out₂ scratch scratch₁ e q =
           record {
-            spaced = rw part-is (spaced-term name v t term (j .term-in .bytes));
-            room = omega (arith, ap (λ (z : Bytes). length z) result, fit, j .out-room);
+            says = rw fit (ap Good (made .long));
+            leaves = rw fit (filled-up written e (omega (arith, made .fit, j .out-room)));
+            clears = q ∙ zeros scratch (length scratch) refl;
           }
 
-      module _ (out₁ : Bytes) (end : ℕ) (g : Wrote out 0 (spliced term value (2 + length name) 0 (take (count - 0) row₁) (length term)) out₁ end) where
-        written : Wrote out 0 (encode (subst name v t)) out₁ end
-        written = rw result at g
-
-        pub end-within : end ≤ length out₁
-        end-within = omega (arith, written .ends, wrote-length written, fit, j .out-room)
-
-        pub done : (out₂ scratch scratch₁ : Bytes) → out₂ ≡ sets out₁ end (replicate (length out₁ - end) 0) → scratch₁ ≡ sets scratch 0 (replicate (length scratch - 0) 0)
-            → Done name t v out scratch (Good end) out₂ scratch₁
-        done out₂ scratch scratch₁ p q =
-            record {
-              says = rw (sym e ∙ y) (ap Good (written .ends ∙ omega arith));
-              leaves = rw (sym e ∙ y) (filled-up written p (omega (arith, fit, j .out-room)));
-              clears = q ∙ zeros scratch (length scratch) refl;
-            }
-
-    pub outgrown : b ≡ false → (r : Refusal) → r ≡ record { number = 8; place = 0; input = 0 } → (scratch scratch₁ : Bytes) → scratch₁ ≡ sets scratch 0 (replicate (length scratch - 0) 0)
-        → Done name t v out scratch (Refused r) out scratch₁
-    outgrown y r d scratch scratch₁ q =
-        record { says = rw (sym e ∙ y) (ap Refused d); leaves = rw (sym e ∙ y); clears = q ∙ zeros scratch (length scratch) refl }
+    pub outgrown : r ≡ Outgrown → (a : Refusal) → a ≡ record { number = 8; place = 0; input = 0 } → (scratch scratch₁ : Bytes) → scratch₁ ≡ sets scratch 0 (replicate (length scratch - 0) 0)
+        → Done name t v out scratch (Refused a) out₁ scratch₁
+    outgrown is a d scratch scratch₁ q =
+        let s = stuck 0 (subst name v t) out out₁ r alone is in
+        let over : fits limits (subst name v t) ≡ false = sym (by-itself (subst name v t)) ∙ s .0 in
+        record { says = rw over (ap Refused d); leaves = rw over (s .1); clears = q ∙ zeros scratch (length scratch) refl }

@@ -1,4 +1,3 @@
 -- What the proofs of several functions use, here and in the crates above.
 pub mod Splices
-pub mod Growths
 mod Splicing

@@ -8,13 +8,14 @@ ghost use Rattle.rules.specs.Calls.{substituteCall};
 ghost use Rattle.substitution.specs.Work.{inputs, Job, Done};
 use buffer::room;
 use buffer::run;
+use put::Put;
+use put::put_in;
 use rules::Answer;
 use rules::MOST_NODES;
 use rules::Refusal;
 
 pub mod place;
 pub mod put;
-pub mod size;
 pub mod splice;
 
 // The inputs of a substitution: how many nodes the term has, and the value; or a refusal.
@@ -39,7 +40,7 @@ fn read_inputs(term: &[u8], name: &[u8], value: &[u8]) -> Inputs
     }
 }
 
-// The sizes of the result are known before anything is written; then the runs between the places and the value go out in turn.
+// The term with the value at each place where the name is free, if it fits.
 fn replace(
     term: &[u8],
     nodes: usize,
@@ -55,14 +56,24 @@ fn replace(
     run::clear(scratch, 0);
     let mut row = [0u16; MOST_NODES];
     let found = place::find_places(term, name, &mut row);
-    let count = found.count;
     let gap = 2 + name.len();
-    if size::stays(term.len(), nodes, count, gap, value.len(), added) {
-        let end = splice::splice(term, &row[0..count], gap, value, out, 0);
-        run::clear(out, end);
-        return Answer::Good(end);
+    match put_in(
+        term,
+        &row,
+        found.count,
+        gap,
+        value,
+        added,
+        nodes,
+        term.len(),
+        out,
+    ) {
+        Put::Outgrown => Answer::Refused(Refusal::of_no_input(8)),
+        Put::Written { size, nodes: _ } => {
+            run::clear(out, size);
+            Answer::Good(size)
+        }
     }
-    Answer::Refused(Refusal::of_no_input(8))
 }
 
 // The term with the value for the name, written to out, with zeros behind it.

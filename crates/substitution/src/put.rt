@@ -1,13 +1,13 @@
-// What a redex becomes, written by itself. The sizes of the new whole are known before anything is written.
+// A value put in for a name, and two of them in turn. The sizes of the new whole are known before anything is written.
+ghost use mathlib.Core.Path.{_≡_};
 ghost use mathlib.Core.Option.{none, some};
-ghost use Prim.Native.Nat.{_-_};
+ghost use Prim.Native.Nat.{_+_, _-_, _*_, _≤_};
 ghost use Rattle.rules.specs.Name.{Name};
 ghost use Rattle.rules.specs.Term.{Term, nodes as nodesOf, size as sizeOf};
 ghost use Rattle.rules.specs.Substitution.{subst};
 ghost use Rattle.substitution.specs.Places.{Row};
 ghost use Rattle.substitution.specs.Put.{Putting, Turns, Puts, Room};
 use crate::place::find_places;
-use crate::size::grown;
 use crate::splice::splice;
 use rules::MOST_BYTES;
 use rules::MOST_NODES;
@@ -16,6 +16,14 @@ use rules::MOST_NODES;
 pub enum Put {
     Written { size: usize, nodes: usize },
     Outgrown,
+}
+
+// What has the size `before`, when `count` of its parts of the size `each` become parts of the size `by`.
+fn grown(before: usize, count: usize, each: usize, by: usize) -> usize
+    requires { ⌜ (count * each ≤ before) × (before ≤ 65536) × (count ≤ 65536) × (by ≤ 65536) ⌝ }
+    ensures { λ r. ⌜ r ≡ before - count * each + count * by ⌝ }
+{
+    before - count * each + count * by
 }
 
 // The body with the value at each of its places, the first `count` of the row. With the body as it is, the whole has so many nodes and bytes.

@@ -6,6 +6,7 @@ use mathlib.Core.List.{List, _++_}
 use native.Mathlib.Omega.{arith}
 use lib.ListN.{length, replicate}
 use Rattle.rules.specs.Limits.{limits, textRoom}
+use Rattle.rules.specs.Name.{nameMost}
 use Rattle.rules.specs.Refusal.{good, answered}
 use Rattle.rules.specs.declared.Refusal.{Refusal}
 use Rattle.rules.specs.declared.Answer.the-variants.{Good, Refused}
@@ -42,7 +43,7 @@ module _ (s o : List ℕ) where
       accepted : TermIn limits s x
       accepted = term-sound limits 1 s x e
 
-      pub few : length (text x) + 24 ≤ textRoom limits
+      pub few : length (text x) + nameMost ≤ textRoom limits
       few = let a = accepted in omega (arith, term-text-size x, ap length (a .bytes), a .short, a .few)
 
       pub size : length (encode x) < 65536

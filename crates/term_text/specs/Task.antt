@@ -3,6 +3,7 @@ use Prim.Native.Nat.{ℕ, _+_, _≤_}
 use mathlib.Core.List.{List}
 use lib.ListN.{length, getD, take, drop}
 use Rattle.rules.specs.Legal.{Legal}
+use Rattle.rules.specs.Name.{nameMost}
 use Rattle.rules.specs.Term.{Term, var, leaf, one, two, abs, both, branch, pair, app, discard, encode}
 use Rattle.rules.specs.Text.{text}
 use Rattle.words.specs.Task.{Task, Done}
@@ -23,7 +24,7 @@ afterName s i = i + 1 + getD s i 0
 
 -- it is a name's length, and its bytes are there
 pub record NameIn (s : List ℕ) (i : ℕ) : Type 0 where
-  pub few : getD s i 0 ≤ 24
+  pub few : getD s i 0 ≤ nameMost
   pub fits : afterName s i ≤ length s
 
 -- it is not one of the terms with whose last part the walk goes on

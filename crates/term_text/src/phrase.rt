@@ -4,7 +4,7 @@ ghost use mathlib.Core.List.{[]};
 ghost use Prim.Native.Nat.{_+_, _/_, _%_, _≤_, _<_};
 ghost use lib.ListN.{length, getD, take};
 ghost use Rattle.rules.specs.Basic.{say, _‥_};
-ghost use Rattle.rules.specs.Name.{Name, encodeName};
+ghost use Rattle.rules.specs.Name.{Name, nameMost, encodeName};
 ghost use Rattle.rules.specs.Term.{Leaf, leaf as leafOf};
 ghost use Rattle.words.specs.Prints.{Prints, brackets};
 ghost use Rattle.words.specs.Task.{Task, Done};
@@ -180,7 +180,7 @@ pub fn right_name(s: &[u8], y: usize, out: &mut [u8], to: usize) -> usize
 
 // A name, and n closing brackets after it. The length is read before anything is written, and so once.
 pub fn last_name(s: &[u8], x: usize, out: &mut [u8], to: usize, n: usize) -> usize
-    requires { ⌜ ((y : Name) × (length y ≤ 24) × Task (now s) x (now out) to (encodeName y) (y ‥ brackets n)) ⌝ }
+    requires { ⌜ ((y : Name) × (length y ≤ nameMost) × Task (now s) x (now out) to (encodeName y) (y ‥ brackets n)) ⌝ }
     ensures { λ r. ⌜ ((y : Name) → Task (now (s .entry)) x (now (out .entry)) to (encodeName y) (y ‥ brackets n) → Done x (now (out .entry)) to (encodeName y) (y ‥ brackets n) (now (out .exit)) r) ⌝ }
 {
     let end = past(s, x);

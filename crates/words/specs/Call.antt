@@ -7,6 +7,7 @@ use native.Mathlib.Omega.{arith}
 use lib.ListN.{length, replicate}
 use borrow.Author.Tests.{le-leb, lt-leb}
 use Rattle.rules.specs.Basic.{Bytes, _‥_, _≤?_}
+use Rattle.rules.specs.Name.{nameMost}
 use Rattle.rules.specs.Refusal.{Outcome, good, refused, mapped, answered}
 use Rattle.rules.specs.declared.Refusal.{Refusal}
 use Rattle.rules.specs.declared.Answer.{Answer}
@@ -33,6 +34,6 @@ module _ {A : Type 0} (says : A → Bytes) (room : ℕ) (o : Bytes) where
     was-read x e = let l = le-leb room (length o) h in (rw (l, e), rw (l, e))
 
 -- the whole input encodes what is to be printed
-pub start : {s o e x : Bytes} → s ≡ e → length s < 65536 → length x + 24 ≤ length o → length x < 65536 → Task s 0 o 0 e x
+pub start : {s o e x : Bytes} → s ≡ e → length s < 65536 → length x + nameMost ≤ length o → length x < 65536 → Task s 0 o 0 e x
 start {e = e} h short room low =
     record { inside = omega arith; rest = []; bytes = h ∙ sym (append-nil e); room = omega arith; short = short; low = omega arith }

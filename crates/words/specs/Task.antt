@@ -3,14 +3,15 @@ use Prim.Native.Nat.{ℕ, _+_, _*_, _<_, _≤_}
 use mathlib.Core.Path.{_≡_}
 use mathlib.Core.List.{List, _++_}
 use lib.ListN.{length, drop}
+use Rattle.rules.specs.Name.{nameMost}
 use Rattle.words.specs.Prints.{Prints}
 
--- The bytes e stand in s at `at`; the text x has room in out from `to` on, with the 24 bytes that a name may write.
+-- The bytes e stand in s at `at`; the text x has room in out from `to` on, with the bytes that a name may write.
 pub record Task (s : List ℕ) (at : ℕ) (out : List ℕ) (to : ℕ) (e x : List ℕ) : Type 0 where
   pub inside : at ≤ length s
   pub rest : List ℕ
   pub bytes : drop at s ≡ e ++ rest
-  pub room : to + length x + 24 ≤ length out
+  pub room : to + length x + nameMost ≤ length out
   pub short : length s < 65536
   pub low : to + length x < 65536
 

@@ -22,7 +22,7 @@ pub record Leafed (s : List ℕ) (at : ℕ) (f : Formula) (m n : ℕ) : Type 0 w
   pub name : List ℕ
   pub word : List ℕ
   pub long : n ≡ length name
-  pub few : n ≤ 16
+  pub few : n ≤ atomMost
   pub fits : at + 1 + m + n ≤ length s
   pub is : take n (drop (at + 1 + m) s) ≡ name
   pub sign : signOf (getD s at 0) ≡ word
@@ -76,7 +76,7 @@ module _ {s : List ℕ} {at : ℕ} {out : List ℕ} {to : ℕ} where
   leaf-low (connective k a b) l t = absurd l
 
   module _ {f : Formula} {m n : ℕ} (t : FormulaTask s at out to f) (l : Leafed s at f m n) where
-    pub leaf-asked : (n ≤ 16) × (at + 1 + m + n ≤ length s) × (to + 16 ≤ length out)
+    pub leaf-asked : (n ≤ atomMost) × (at + 1 + m + n ≤ length s) × (to + atomMost ≤ length out)
     leaf-asked = (l .few, l .fits, omega (arith, t .task .room))
 
     module _ {o : List ℕ} {p : ℕ} (a : Prints out to (take n (drop (at + 1 + m) s)) o p) where

@@ -4,12 +4,12 @@ use mathlib.Core.Path.{_≡_, refl, _∙_}
 use native.Mathlib.Omega.{arith}
 use lib.ListN.{length, getD}
 use Rattle.term.proofs.node.Names.{name-room}
-use Rattle.free.proofs.Listing.{Listed, listed-none, entry-name, entry-room, listed-more, listed-all}
+use Rattle.free.proofs.Listing.{Listing, listed-none, entry-name, entry-room, listed-more, listed-all}
 use Rattle.free.proofs.write_names.Statement.{statement}
 use Rattle.free.proofs.write_names.Tie as tie
 
 abbrev Inv-loop : tie.InvT-loop
-Inv-loop s row n out₀ i₀ to₀ out i to = (i ≤ n) × (length out ≡ length out₀) × Listed s row n out₀ out i to
+Inv-loop s row n out₀ i₀ to₀ out i to = (i ≤ n) × (length out ≡ length out₀) × Listing s row n out₀ out i to
 
 abbrev μ-loop : tie.MeasureT-loop
 μ-loop s row n out₀ i₀ to₀ out i to = n - i

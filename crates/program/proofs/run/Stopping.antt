@@ -23,7 +23,7 @@ use Rattle.reduction.specs.declared.Reduction.{Reduction}
 use Rattle.reduction.specs.declared.Reduced.{Reduced}
 use Rattle.reduction.specs.declared.Reduced.the-variants.{Stopped, Refused}
 use Rattle.program.specs.Printing.{printedFor}
-use Rattle.program.specs.Reduct.{Sound, reduced-sound}
+use Rattle.program.proofs.run.Reduct.{Sound, reduced-sound}
 use Rattle.program.proofs.run.Starting.{starts-append, starts-inside}
 
 -- the first bytes of the output are a term, and it and what is told are what is printed

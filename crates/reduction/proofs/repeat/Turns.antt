@@ -1,11 +1,12 @@
 -- A turn: the search goes on to a redex or to the end; what is left to do is what the rules leave to do, of the whole in which
 -- the search stands. Assumes nothing.
-use Prim.Native.Nat.{ℕ, suc, _+_, _-_, _<_, _≤_}
-use mathlib.Core.Path.{_≡_, refl, sym, subst, ap, _∙_}
-use mathlib.Core.Bool.{Bool, true, false, not}
+use Prim.Native.Nat.{ℕ, suc, _+_, _-_, _≤_}
+use mathlib.Core.Path.{_≡_, refl, subst, ap, _∙_}
+use mathlib.Core.Bool.{true, false, not}
 use mathlib.Core.List.{List}
 use native.Mathlib.Numerals.{add-one}
 use native.Mathlib.Omega.{arith}
+use borrow.Author.Tests.{not-false}
 use lib.ListN.{length}
 use lib.Seq.{slice}
 use Rattle.rules.specs.Basic.{Bytes}
@@ -32,14 +33,6 @@ use Rattle.reduction.specs.Turning.{Carried, Stands, AtRedex, Room, Goes
 use Rattle.reduction.specs.declared.turn.Turned.{Turned}
 use Rattle.reduction.specs.declared.turn.Turned.the-variants.{Ended as End, On}
 
-pub not-going : (b : Bool) → not b ≡ true → b ≡ false
-not-going true e = sym e
-not-going false e = refl
-
-pub still-going : (b : Bool) → not b ≡ false → b ≡ true
-still-going true e = refl
-still-going false e = sym e
-
 -- no step remains
 pub rests : {limit : ℕ} {t w : Term} {g : Course} {out : List ℕ} {l : ℕ} → Carried limit t w g → Ended w out l
     → Repeats (reduce limits limit t) out (stoppedAt (g .steps) (g .counts) true l)
@@ -49,7 +42,7 @@ rests {limit} {w = w} {g = g} k e =
 
 module _ {limit : ℕ} {t : Term} {out scratch stack out₁ stack₁ : List ℕ} {g : Course} {p : Place} (a : Stands limit t out scratch stack g) (f : Finds (a .whole) out₁ scratch stack₁ p) (e : not (p .going) ≡ false) where
   on : Reducing (a .whole) out₁ scratch stack₁ (p .o) (p .i) (p .depth)
-  on = f .finds (still-going (p .going) e)
+  on = f .finds (not-false (p .going) e)
 
   -- the search has gone on to a redex
   pub found : (g .steps ≡ limit → ⊥) → limit ≤ 4294967295 → AtRedex limit t out₁ scratch stack₁ g p

@@ -2,14 +2,14 @@
 -- Assumes nothing.
 use Prim.Native.Nat.{ℕ, _+_, _-_, _*_, _<_, _≤_}
 use mathlib.Core.Path.{_≡_, refl, sym, ap, _∙_}
-use mathlib.Core.Bool.{true, false}
+use mathlib.Core.Bool.{Bool, true, false}
 use mathlib.Core.Option.{none}
 use mathlib.Core.List.{List}
 use native.Mathlib.Omega.{arith}
 use lib.ListN.{length, take}
-use lib.Seq.{length-take-le}
+use lib.Seq.{sets, length-take-le}
 use borrow.Author.Tests.{leb-true, le-leb, lt-leb}
-use Rattle.rules.specs.Basic.{Bytes, _≤?_}
+use Rattle.rules.specs.Basic.{Bytes, _≤?_, if_then_else_}
 use Rattle.rules.specs.Limits.{limits, outputRoom}
 use Rattle.rules.specs.Name.{Name}
 use Rattle.rules.specs.Term.{Term, encode, nodes, size, fits}
@@ -20,13 +20,13 @@ use Rattle.laws.specs.reading.Fits.{within}
 use Rattle.buffer.specs.Wrote.{Wrote}
 use Rattle.substitution.specs.Places.{places}
 use Rattle.substitution.specs.Spliced.{spliced, Left}
-use Rattle.substitution.specs.Sizes.{Growth}
 use Rattle.substitution.proofs.place.Shapes.{places-many}
 use Rattle.substitution.proofs.splice.Splices.{spliced-term, spaced-term}
 use Rattle.substitution.proofs.place.Writes.{from-start}
-use Rattle.substitution.proofs.splice.Growths.{nodes-go, bytes-go, count-small, nodes-after, bytes-after}
+use Rattle.substitution.proofs.put.Growths.{Growth, nodes-go, bytes-go, count-small, nodes-after, bytes-after}
 use Rattle.substitution.specs.Beside.{fitsBeside}
 use Rattle.substitution.specs.Put.{Putting, Puts}
+use Rattle.substitution.specs.declared.put.Put.{Put}
 use Rattle.substitution.specs.declared.put.Put.the-variants.{Written, Outgrown}
 
 -- ---- what breaks no limit
@@ -52,6 +52,29 @@ module _ (others rest : ℕ) (u : Term) where
 
   outgrown : (out : Bytes) → fitsBeside others rest u ≡ false → Puts others rest none u out out Outgrown
   outgrown out n = record { says = rw n; leaves = rw n }
+
+-- ---- what the answer tells of a term with no bytes beside it
+
+pub record Went (others : ℕ) (u : Term) (out out′ : Bytes) (l c : ℕ) : Type 0 where
+  pub fit : (others + nodes u ≤ limits .nodes) × (0 + size u ≤ limits .bytes)
+  pub long : l ≡ size u
+  pub count : c ≡ others + nodes u
+  pub leaves : out′ ≡ sets out 0 (encode u)
+
+module _ (others : ℕ) (u : Term) (out out′ : Bytes) (r : Put) (d : Puts others 0 none u out out′ r) where
+  pub went : (l c : ℕ) → r ≡ Written l c → Went others u out out′ l c
+  went l c is = go (fitsBeside others 0 u) refl (d .says) (d .leaves)
+    where
+      go : (b : Bool) → fitsBeside others 0 u ≡ b → r ≡ (if b then Written (size u) (others + nodes u) else Outgrown) → out′ ≡ (if b then sets out 0 (encode u) else out) → Went others u out out′ l c
+      go true y s h = record { fit = beside-within others 0 u y; long = cc; count = cc; leaves = h }
+      go false y s h = absurd (let z : _≡_ {A = ℕ} 0 1 = cc in omega arith)
+
+  pub stuck : r ≡ Outgrown → (fitsBeside others 0 u ≡ false) × (out′ ≡ out)
+  stuck is = go (fitsBeside others 0 u) refl (d .says) (d .leaves)
+    where
+      go : (b : Bool) → fitsBeside others 0 u ≡ b → r ≡ (if b then Written (size u) (others + nodes u) else Outgrown) → out′ ≡ (if b then sets out 0 (encode u) else out) → (fitsBeside others 0 u ≡ false) × (out′ ≡ out)
+      go true y s h = absurd (let z : _≡_ {A = ℕ} 0 1 = cc in omega arith)
+      go false y s h = (y, h)
 
 -- ---- a body with a value for a name
 

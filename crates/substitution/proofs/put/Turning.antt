@@ -8,9 +8,8 @@ use mathlib.Core.List.{List}
 use native.Mathlib.Nat.{mul-le-mul-left}
 use native.Mathlib.Omega.{arith}
 use lib.ListN.{length, take}
-use lib.Seq.{sets}
 use borrow.Author.Tests.{lt-leb, leb-true, leb-false}
-use Rattle.rules.specs.Basic.{Bytes, _≤?_, if_then_else_}
+use Rattle.rules.specs.Basic.{Bytes, _≤?_}
 use Rattle.rules.specs.Limits.{limits, outputRoom}
 use Rattle.rules.specs.Name.{Name}
 use Rattle.rules.specs.Term.{Term, encode, nodes, size, fits}
@@ -27,7 +26,7 @@ use Rattle.substitution.specs.Beside.{fitsBeside}
 use Rattle.substitution.specs.Put.{Putting, Turns, Puts}
 use Rattle.substitution.specs.declared.put.Put.{Put}
 use Rattle.substitution.specs.declared.put.Put.the-variants.{Written, Outgrown}
-use Rattle.substitution.proofs.put.Puts.{beside-yes, beside-within, beside-many}
+use Rattle.substitution.proofs.put.Puts.{beside-yes, beside-many, Went, went, stuck}
 
 no-fewer : (y : Name) (w u : Term) → nodes u ≤ nodes (subst y w u)
 no-fewer y w u =
@@ -52,27 +51,6 @@ too-large others rest u z e h = go (others + nodes u ≤? limits .nodes) refl (s
     go true q true r =
         let y = beside-yes others 0 u (leb-true (others + nodes u) (limits .nodes) q) (omega (arith, leb-true (size u) (limits .bytes) r)) in
         absurd (let f : false ≡ true = cc in let k : _≡_ {A = ℕ} 0 1 = cc in omega arith)
-
--- what is known once the answer tells which way the first went
-record Went (others : ℕ) (u : Term) (half₀ half₁ : Bytes) (l c : ℕ) : Type 0 where
-  fit : (others + nodes u ≤ limits .nodes) × (0 + size u ≤ limits .bytes)
-  long : l ≡ size u
-  count : c ≡ others + nodes u
-  leaves : half₁ ≡ sets half₀ 0 (encode u)
-
-went : (others : ℕ) (u : Term) (half₀ half₁ : Bytes) (r : Put) (l c : ℕ) → Puts others 0 none u half₀ half₁ r → r ≡ Written l c → Went others u half₀ half₁ l c
-went others u half₀ half₁ r l c d is = go (fitsBeside others 0 u) refl (d .says) (d .leaves)
-  where
-    go : (b : Bool) → fitsBeside others 0 u ≡ b → r ≡ (if b then Written (size u) (others + nodes u) else Outgrown) → half₁ ≡ (if b then sets half₀ 0 (encode u) else half₀) → Went others u half₀ half₁ l c
-    go true y s h = record { fit = beside-within others 0 u y; long = cc; count = cc; leaves = h }
-    go false y s h = absurd (let z : _≡_ {A = ℕ} 0 1 = cc in omega arith)
-
-stuck : (others : ℕ) (u : Term) (half₀ half₁ : Bytes) (r : Put) → Puts others 0 none u half₀ half₁ r → r ≡ Outgrown → fitsBeside others 0 u ≡ false
-stuck others u half₀ half₁ r d is = go (fitsBeside others 0 u) refl (d .says)
-  where
-    go : (b : Bool) → fitsBeside others 0 u ≡ b → r ≡ (if b then Written (size u) (others + nodes u) else Outgrown) → fitsBeside others 0 u ≡ false
-    go true y s = absurd (let z : _≡_ {A = ℕ} 0 1 = cc in omega arith)
-    go false y s = y
 
 module _ {body : Bytes} {row : List ℕ} {many gap : ℕ} {a : Bytes} {k : ℕ} {b : Bytes} {m n rest : ℕ} {x : Name} {e v w : Term} (j : Turns body row many gap a k b m n rest x e v w) where
   abbrev others : ℕ
@@ -103,12 +81,12 @@ module _ {body : Bytes} {row : List ℕ} {many gap : ℕ} {a : Bytes} {k : ℕ} 
 
     pub half-outgrown : (y : Name) (out : Bytes) → r ≡ Outgrown → Puts others rest (some u) (subst y w u) out out Outgrown
     half-outgrown y out is =
-        let q = too-large others rest u (subst y w u) (stuck others u half₀ half₁ r half-made is) (no-fewer y w u) in
+        let q = too-large others rest u (subst y w u) (stuck others u half₀ half₁ r half-made is .0) (no-fewer y w u) in
         record { says = rw q; leaves = rw q }
 
     module _ {l c : ℕ} (is : r ≡ Written l c) where
       half : Went others u half₀ half₁ l c
-      half = went others u half₀ half₁ r l c half-made is
+      half = went others u half₀ half₁ r half-made l c is
 
       fit : fits limits u ≡ true
       fit = fits-yes limits u (omega (arith, half .fit)) (omega (arith, half .fit))

@@ -1,7 +1,8 @@
--- `substitution::replace` meets its contract: the sizes are those of the result, and the splice is the result. Assumes nothing.
-use mathlib.Core.Path.{refl}
+-- `substitution::replace` meets its contract: the places found make the result, which is written if it fits. Assumes nothing.
+use mathlib.Core.Path.{refl, sym}
+use Rattle.buffer.specs.Writing.{wrote-length}
 use Rattle.substitution.proofs.place.Finds.{whole}
-use Rattle.substitution.proofs.Works.{growth, part-within, splice-left, end-within, done, outgrown}
+use Rattle.substitution.proofs.Works.{putting, end-within, done, outgrown}
 use borrow.Author.Needs.{needs}
 use Rattle.substitution.proofs.replace.Statement.{statement}
 use Rattle.substitution.proofs.replace.Tie as tie
@@ -15,27 +16,23 @@ find-places-requires c κs = let (t, v, j) = c .before .before .before .before .
 add-gap : tie.Need-add-gap
 add-gap c = search needs
 
-stays-requires : tie.Need-stays-requires
-stays-requires c κs = let (t, v, j) = c .before .before .before .before .before .before .before .before .before .before .before .pre in (_, t, v, growth j refl (c .find-places .ensures t (whole t _ (j .term-in .bytes)) .1))
+slice-aggregate-put-in : tie.Need-slice-aggregate-put-in
+slice-aggregate-put-in c = let (t, v, j) = c .before .before .before .before .before .before .before .before .before .before .before .before .pre in sym (wrote-length (c .before .find-places .ensures t (whole t _ (j .term-in .bytes)) .1))
 
-sub-splice : tie.Need-sub-splice
-sub-splice c = search needs
+put-in-requires : tie.Need-put-in-requires
+put-in-requires c κs = let (t, v, j) = c .before .before .before .before .before .before .before .before .before .before .before .before .before .pre in ((_, t, v, putting j refl (c .before .before .find-places .ensures t (whole t _ (j .term-in .bytes)) .1)), j .out-room)
 
-part-splice-start : tie.Need-part-splice-start
-part-splice-start c = search needs
+enum-told : tie.Need-enum-told
+enum-told c = search needs
 
-part-splice-end : tie.Need-part-splice-end
-part-splice-end c = let (t, v, j) = c .before .before .before .before .before .before .before .before .before .before .before .before .before .before .pre in part-within j refl (c .before .before .before .find-places .ensures t (whole t _ (j .term-in .bytes)) .1)
+of-no-input-requires : tie.Need-of-no-input-requires
+of-no-input-requires c κs = search needs
 
-splice-requires : tie.Need-splice-requires
-splice-requires c κs = let (t, v, j) = c .before .before .before .before .before .before .before .before .before .before .before .before .before .before .before .before .pre in
-    let f = c .before .before .before .before .before .find-places .ensures t (whole t _ (j .term-in .bytes)) .1 in
-    splice-left j refl f _ (c .before .before .before .before .stays .ensures _ _ _ (growth j refl f)) (c .before .before .before .if1 .taken)
+enum-known-size : tie.Need-enum-known-size
+enum-known-size c = search needs
 
 clear-requires-2 : tie.Need-clear-requires-2
-clear-requires-2 c κs = let (t, v, j) = c .before .before .before .before .before .before .before .before .before .before .before .before .before .before .before .before .before .before .before .before .pre in
-    let f = c .before .before .before .before .before .before .before .before .before .find-places .ensures t (whole t _ (j .term-in .bytes)) .1 in
-    end-within j refl f _ (c .before .before .before .before .before .before .before .before .stays .ensures _ _ _ (growth j refl f)) (c .before .before .before .before .before .before .before .if1 .taken) _ _ (c .before .before .before .splice .ensures)
+clear-requires-2 c κs = let (t, v, j) = c .before .before .before .before .before .before .before .before .before .before .before .before .before .before .before .before .before .before .before .before .pre in end-within j (c .before .before .before .before .before .before .put-in .ensures _ t v (putting j refl (c .before .before .before .before .before .before .before .before .before .find-places .ensures t (whole t _ (j .term-in .bytes)) .1))) (c .before .before .size .given .1)
 
 same-length : tie.Need-same-length
 same-length c = search needs
@@ -44,20 +41,16 @@ same-length-2 : tie.Need-same-length-2
 same-length-2 c = search needs
 
 returns : tie.Need-returns
-returns c = λ t v j.
-    let f = c .before .before .before .before .before .before .before .before .before .before .before .before .find-places .ensures t (whole t _ (j .term-in .bytes)) .1 in
-    done j refl f _ (c .before .before .before .before .before .before .before .before .before .before .before .stays .ensures _ _ _ (growth j refl f)) (c .before .before .before .before .before .before .before .before .before .before .if1 .taken) _ _ (c .before .before .before .before .before .before .splice .ensures) _ _ _ (c .before .before .clear2 .ensures) (c .before .before .before .before .before .before .before .before .before .before .before .before .before .before .before .before .clear .ensures)
-
-of-no-input-requires : tie.Need-of-no-input-requires
-of-no-input-requires c κs = search needs
+returns c = λ t v j. outgrown j (c .before .before .before .before .before .put-in .ensures _ t v (putting j refl (c .before .before .before .before .before .before .before .before .find-places .ensures t (whole t _ (j .term-in .bytes)) .1))) (c .before .enum-told .given .1) _ (c .of-no-input .ensures) _ _ (c .before .before .before .before .before .before .before .before .before .before .before .before .clear .ensures)
 
 same-length-3 : tie.Need-same-length-3
 same-length-3 c = search needs
 
+same-length-4 : tie.Need-same-length-4
+same-length-4 c = search needs
+
 returns-2 : tie.Need-returns-2
-returns-2 c = λ t v j.
-    let f = c .before .before .before .find-places .ensures t (whole t _ (j .term-in .bytes)) .1 in
-    outgrown j refl f _ (c .before .before .stays .ensures _ _ _ (growth j refl f)) (c .before .if1 .left) _ (c .of-no-input .ensures) _ _ (c .before .before .before .before .before .before .before .clear .ensures)
+returns-2 c = λ t v j. done j (c .before .before .before .before .before .before .before .before .before .put-in .ensures _ t v (putting j refl (c .before .before .before .before .before .before .before .before .before .before .before .before .find-places .ensures t (whole t _ (j .term-in .bytes)) .1))) (c .before .before .before .before .before .size .given .1) _ _ _ (c .before .before .clear2 .ensures) (c .before .before .before .before .before .before .before .before .before .before .before .before .before .before .before .before .clear .ensures)
 
 pub replace-spec : {M : Type 1} → statement M
 replace-spec =
@@ -66,15 +59,15 @@ replace-spec =
     clear-requires
     find-places-requires
     add-gap
-    stays-requires
-    sub-splice
-    part-splice-start
-    part-splice-end
-    splice-requires
+    slice-aggregate-put-in
+    put-in-requires
+    enum-told
+    of-no-input-requires
+    enum-known-size
     clear-requires-2
     same-length
     same-length-2
     returns
-    of-no-input-requires
     same-length-3
+    same-length-4
     returns-2)

@@ -6,14 +6,14 @@ use mathlib.Core.List.{List, [], _∷_, _++_, append-assoc}
 use native.Mathlib.Omega.{arith}
 use lib.ListN.{length, getD, drop, length-drop, length-append, length-replicate}
 use lib.Seq.{length-take-le}
-use Rattle.rules.specs.Name.{Name, encodeName}
+use Rattle.rules.specs.Name.{Name, nameMost, encodeName}
 use Rattle.words.specs.Prints.{Prints, brackets}
 use Rattle.words.specs.Task.{Task, Done, places}
 use Rattle.words.specs.Steps.{chain, finish, passed, pass-then, no-more, Named, named}
 use Rattle.term_text.specs.Task.{nameAt, afterName, NameIn}
 
 module _ {s : List ℕ} {at : ℕ} {x : Name} (n : Named s at x) where
-  pub name-in : length x ≤ 24 → NameIn s at
+  pub name-in : length x ≤ nameMost → NameIn s at
   name-in h = record { few = omega (arith, n .long); fits = omega (arith, n .long, n .fits) }
 
   pub name-is : nameAt s at ≡ x
@@ -68,7 +68,7 @@ module _ {s : List ℕ} {at : ℕ} {out : List ℕ} {to : ℕ} (x : Name) (c : �
   last-named : Named s at x
   last-named = named x [] (no-more t)
 
-  pub last-in : length x ≤ 24 → NameIn s at
+  pub last-in : length x ≤ nameMost → NameIn s at
   last-in h = name-in last-named h
 
   module _ {o : List ℕ} {p q : ℕ} (a : Prints out to (nameAt s at) o p) (h : q ≡ afterName s at) where

@@ -6,7 +6,7 @@ use mathlib.Core.List.{List, [], _∷_, _++_, append-nil}
 use lib.ListN.{length, getD}
 use types.Run.{OneOf}
 use Rattle.rules.specs.Basic.{say}
-use Rattle.rules.specs.Name.{Name, encodeName}
+use Rattle.rules.specs.Name.{Name, nameMost, encodeName}
 use Rattle.rules.specs.Term.{Term, var, one, two, abs, One, Two}
 use Rattle.words.specs.Prints.{Prints, brackets}
 use Rattle.rules.specs.Text.{text}
@@ -29,7 +29,7 @@ module _ {s : List ℕ} {at : ℕ} {out₀ : List ℕ} {to : ℕ} {T : Term} {ou
     a-name : (x : Name) × At s at out₀ to T out i o c (var x)
     a-name = let v = made-of a-var (n .t) (here n) (ap (λ (k : ℕ). shapeOf k) h) in (v .0, rw (v .1) at (n .stands))
 
-    pub name-here : (y : Name) × (length y ≤ 24) × Task s (i + 1) out o (encodeName y) (y ++ brackets c)
+    pub name-here : (y : Name) × (length y ≤ nameMost) × Task s (i + 1) out o (encodeName y) (y ++ brackets c)
     name-here = let v = a-name in (v .0, last-long (v .0) (v .1), last-task (v .0) (v .1))
 
     pub name-ends : {o₁ : List ℕ} {r : ℕ}

@@ -148,7 +148,7 @@ module _ {s : List ℕ} {at : ℕ} {out₀ : List ℕ} {to : ℕ} {T : Term} {ou
     unfolding encode text
     last-task = passed (1 ∷ []) (a .task)
 
-    pub last-long : length x ≤ 24
+    pub last-long : length x ≤ nameMost
     last-long = name-long nameMost x (a .legal) .1
 
     pub last-done : {o₁ : List ℕ} {r : ℕ} → Done (i + 1) out o (encodeName x) (x ++ brackets c) o₁ r → TermDone at out₀ to T o₁ r

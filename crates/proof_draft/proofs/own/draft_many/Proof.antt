@@ -1,9 +1,6 @@
 -- `own::draft_many` meets its contract: it is the function of `Drafting` with a row for the most rules. Assumes nothing.
 use lib.Dec.{lit<}
-use mir.Syntax.{int, w64}
 use contract.Running.{givenOf, tables, tablesOf}
-use types.Kit.{ ! }
-use types.Run.{lit}
 use denote.Triple.Spec.{tripleOf}
 use denote.Triple.Table.{cited, entered}
 use Rattle.rules.specs.Limits.{limits, entryRoom}
@@ -22,5 +19,5 @@ unfolding code.routine tablesOf
 draft-many-spec 𝓤 H 𝓜 𝓖 𝓡 =
     entered 𝓤 H (tripleOf 𝓤 H (𝓖 .A) f.signature (f.spec 𝓤 H (𝓖 .A) (𝓜 .mem) (𝓡 .run)))
     (tables 𝓤 H 𝓜 𝓡 code.env .C) (tables 𝓤 H 𝓜 𝓡 code.env .Λ) #f code.function (code.unfolded 𝓤 H 𝓜 𝓡)
-    (drafting.meets 𝓤 H (𝓖 .A) (givenOf 𝓤 H 𝓜 𝓖) (𝓜 .mem) (𝓡 .run) (entryRoom limits) (lit< tt, lit< tt) (int w64 (entryRoom limits)) (λ Γ E. lit ! tt) (tablesOf 𝓤 H 𝓜 (tables 𝓤 H 𝓜 𝓡 code.env))
+    (drafting.meets 𝓤 H (𝓖 .A) (givenOf 𝓤 H 𝓜 𝓖) (𝓜 .mem) (𝓡 .run) (entryRoom limits) (lit< tt, lit< tt) (tablesOf 𝓤 H 𝓜 (tables 𝓤 H 𝓜 𝓡 code.env))
     (cited 𝓤 H (DraftC 𝓤 H (𝓖 .A) (𝓜 .mem) (𝓡 .run)) 𝓜 𝓡 code.env #draft draft-def.routine code.calls-proof-draft·walk·draft-rule (draft-thm.met 𝓤 H 𝓜 𝓖 𝓡)))

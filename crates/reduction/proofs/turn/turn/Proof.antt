@@ -1,6 +1,7 @@
 -- `turn::turn` meets its contract: the search has come to the end, to the limit, or to a redex. Assumes nothing.
 use native.Mathlib.Omega.{arith}
-use Rattle.reduction.proofs.repeat.Turns.{not-going, rests, found, rest-room, at-end}
+use borrow.Author.Tests.{not-true}
+use Rattle.reduction.proofs.repeat.Turns.{rests, found, rest-room, at-end}
 use borrow.Author.Needs.{needs}
 use Rattle.reduction.proofs.turn.turn.Statement.{statement}
 use Rattle.reduction.proofs.turn.turn.Tie as tie
@@ -18,7 +19,7 @@ same-length-3 : tie.Need-same-length-3
 same-length-3 c = search needs
 
 returns : tie.Need-returns
-returns c = (λ t b. rests (b .carried) (c .before .before .before .before .before .before .to-redex .ensures (b .whole) (b .stands) .ends (not-going _ (c .if1 .taken))), c .before .before .before .before .before .before .before .before .before .before .before .before .before .before .before .before .pre .1 .row)
+returns c = (λ t b. rests (b .carried) (c .before .before .before .before .before .before .to-redex .ensures (b .whole) (b .stands) .ends (not-true _ (c .if1 .taken))), c .before .before .before .before .before .before .before .before .before .before .before .before .before .before .before .before .pre .1 .row)
 
 copy-requires : tie.Need-copy-requires
 copy-requires c κs = let a = c .before .before .before .before .before .before .before .before .before .before .before .before .before .before .before .before .before .before .before .pre .0 .1 in rest-room a (c .before .before .before .before .before .before .before .before .before .to-redex .ensures (a .whole) (a .stands)) (c .before .before .before .if1 .left)

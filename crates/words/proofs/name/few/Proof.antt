@@ -1,6 +1,7 @@
--- `name::few` meets its contract: 16 bytes are copied where they are there, and else its own. Assumes nothing.
+-- `name::few` meets its contract: as many bytes as an atom may have are copied where they are there, and else its own. Assumes nothing.
 use native.Mathlib.Omega.{arith}
 use denote.Ref.{now}
+use Rattle.rules.specs.Name.{atomMost}
 use Rattle.words.specs.Written.{more, copied, exact}
 use borrow.Author.Needs.{needs}
 use Rattle.words.proofs.name.few.Statement.{statement}
@@ -32,7 +33,7 @@ returns c =
     let a = c .before .before .before .before .before .before .before .before .before .before .before .args in
     let s = now (a .s) in
     let o = now (a .out) in
-    copied s o _ (a .from) (a .to) 16 (a .n) (c .before .before .before .before .before .before .before .before .before .before .before .pre .0) (omega arith) (c .before .before .before .before .before .before .before .before .before .before .before .pre .2) (more s o _ _ (a .from) (a .to) 8 (omega arith) (c .before .before .before .before .before .before .copy-eight .ensures) (c .before .before .copy-eight2 .ensures))
+    copied s o _ (a .from) (a .to) atomMost (a .n) (c .before .before .before .before .before .before .before .before .before .before .before .pre .0) (omega arith) (c .before .before .before .before .before .before .before .before .before .before .before .pre .2) (more s o _ _ (a .from) (a .to) 8 (omega arith) (c .before .before .before .before .before .before .copy-eight .ensures) (c .before .before .copy-eight2 .ensures))
 
 add-copy : tie.Need-add-copy
 add-copy c = search needs

@@ -1,8 +1,9 @@
--- `name::long_name` meets its contract: 24 bytes are copied where they are there, and else its own. Assumes nothing.
+-- `name::long_name` meets its contract: as many bytes as a name may have are copied where they are there, and else its own. Assumes nothing.
 use Prim.Native.Nat.{_+_}
 use native.Mathlib.Omega.{arith}
 use lib.ListN.{getD}
 use denote.Ref.{now}
+use Rattle.rules.specs.Name.{nameMost}
 use Rattle.words.specs.Written.{more, copied, exact}
 use borrow.Author.Needs.{needs}
 use Rattle.words.proofs.name.long_name.Statement.{statement}
@@ -54,7 +55,7 @@ returns c =
     let o = now (a .out) in
     let i = a .at + 1 in
     let q = c .before .before .before .before .before .before .before .before .before .before .before .before .before .before .before .before .pre in
-    copied s o _ i (a .to) 24 (getD s (a .at) 0) (q .0) (omega arith) (q .2) (more s o _ _ i (a .to) 16 (omega arith) (more s o _ _ i (a .to) 8 (omega arith) (c .before .before .before .before .before .before .before .before .before .before .copy-eight .ensures) (c .before .before .before .before .before .before .copy-eight2 .ensures)) (c .before .before .copy-eight3 .ensures))
+    copied s o _ i (a .to) nameMost (getD s (a .at) 0) (q .0) (omega arith) (q .2) (more s o _ _ i (a .to) 16 (omega arith) (more s o _ _ i (a .to) 8 (omega arith) (c .before .before .before .before .before .before .before .before .before .before .copy-eight .ensures) (c .before .before .before .before .before .before .copy-eight2 .ensures)) (c .before .before .copy-eight3 .ensures))
 
 add-copy : tie.Need-add-copy
 add-copy c = search needs

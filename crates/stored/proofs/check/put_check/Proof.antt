@@ -1,10 +1,10 @@
--- `writing::put_check` meets its contract: two bytes behind the first 510. Assumes nothing.
+-- `check::put_check` meets its contract: two bytes behind the first 510. Assumes nothing.
 use mathlib.Core.Path.{sym}
 use denote.Ref.{now}
 use Rattle.stored.specs.Blocks.{put-last}
 use borrow.Author.Needs.{needs}
-use Rattle.stored.proofs.writing.put_check.Statement.{statement}
-use Rattle.stored.proofs.writing.put_check.Tie as tie
+use Rattle.stored.proofs.check.put_check.Statement.{statement}
+use Rattle.stored.proofs.check.put_check.Tie as tie
 
 check-of-requires : tie.Need-check-of-requires
 check-of-requires c κs = let s = c .before .before in (s .pre .0, s .pre .1, sym (s .pre .2))

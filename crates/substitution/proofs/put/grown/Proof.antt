@@ -1,9 +1,9 @@
--- `size::grown` meets its contract: no product of small numbers wraps. Assumes nothing.
+-- `put::grown` meets its contract: no product of small numbers wraps. Assumes nothing.
 use native.Mathlib.Omega.{arith}
 use borrow.Author.Needs.{needs}
-use Rattle.substitution.proofs.splice.Growths.{product}
-use Rattle.substitution.proofs.size.grown.Statement.{statement}
-use Rattle.substitution.proofs.size.grown.Tie as tie
+use Rattle.substitution.proofs.put.Growths.{product}
+use Rattle.substitution.proofs.put.grown.Statement.{statement}
+use Rattle.substitution.proofs.put.grown.Tie as tie
 
 mul-result : tie.Need-mul-result
 mul-result c = search needs

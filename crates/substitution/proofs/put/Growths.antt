@@ -1,19 +1,24 @@
 -- The size of a substitution from the numbers of its inputs, by the laws of bytes and nodes. Assumes nothing.
-use Prim.Native.Nat.{ℕ, _+_, _-_, _*_, _≤_, _<_}
-use mathlib.Core.Path.{_≡_, _∙_}
-use mathlib.Core.Bool.{false}
+use Prim.Native.Nat.{ℕ, _+_, _-_, _*_, _≤_}
+use mathlib.Core.Path.{_≡_}
 use native.Mathlib.Nat.{mul-le-mul}
 use native.Mathlib.Omega.{arith}
 use lib.ListN.{length}
-use lib.Dec.{leb}
-use borrow.Author.Tests.{le-leb, lt-leb}
-use Rattle.rules.specs.Limits.{limits}
 use Rattle.rules.specs.Name.{Name}
-use Rattle.rules.specs.Term.{Term, nodes, size, fits}
+use Rattle.rules.specs.Term.{Term, nodes, size}
 use Rattle.rules.specs.Free.{occurrences}
 use Rattle.rules.specs.Substitution.{subst}
 use Rattle.laws.specs.size.SubstSize.{subst-bytes, subst-nodes, occurrences-bytes, occurrences-nodes}
-use Rattle.substitution.specs.Sizes.{Growth}
+
+-- bytes and nodes of t, the free occurrences of x in it and the bytes of each, bytes and nodes of v
+pub record Growth (bytes n count gap value added : ℕ) (x : Name) (t v : Term) : Type 0 where
+  pub bytes-are : bytes ≡ size t
+  pub nodes-are : n ≡ nodes t
+  pub count-is : count ≡ occurrences x t
+  pub gap-is : gap ≡ 2 + length x
+  pub value-is : value ≡ size v
+  pub added-is : added ≡ nodes v
+  pub small : (bytes ≤ 65536) × (n ≤ 65536) × (value ≤ 65536) × (added ≤ 65536)
 
 -- a product of two numbers up to 65536
 pub product : (a b : ℕ) → a ≤ 65536 → b ≤ 65536 → a * b ≤ 4294967296
@@ -41,11 +46,3 @@ module _ {bytes n count gap value added : ℕ} {x : Name} {t v : Term} (h : Grow
   bytes-after =
       let e : count * value ≡ occurrences x t * size v = rw (h .count-is, h .value-is) in
       omega (arith, e, gaps, bytes-go, h .bytes-are, subst-bytes x v t)
-
-  pub too-many : (r : ℕ) → r ≡ n - count * 1 + count * added → limits .nodes < r → false ≡ fits limits (subst x v t)
-  unfolding fits
-  too-many r e l = rw (lt-leb (nodes (subst x v t)) (limits .nodes) (omega (arith, nodes-after, e)))
-
-  pub few-enough : (r q : ℕ) → r ≡ n - count * 1 + count * added → r ≤ limits .nodes → q ≡ bytes - count * gap + count * value → leb q (limits .bytes) ≡ fits limits (subst x v t)
-  unfolding fits
-  few-enough r q e l d = rw (le-leb (nodes (subst x v t)) (limits .nodes) (omega (arith, nodes-after, e)), d ∙ bytes-after)
