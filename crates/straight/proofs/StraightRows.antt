@@ -1,7 +1,7 @@
 -- The test `straight` of terms in a row: a node passes by itself, and then its parts take its place. Assumes nothing.
 use Prim.Native.Nat.{ℕ, _-_, _+_, _<_, _≤_}
 use mathlib.Core.Path.{_≡_, refl, sym, ap, ap₂, _∙_}
-use mathlib.Core.Bool.{Bool, true, false, not, _&&_, and-true, and-assoc}
+use mathlib.Core.Bool.{Bool, true, false, _&&_, and-true, and-assoc}
 use mathlib.Core.List.{List, [], _∷_, _++_}
 use native.Mathlib.Omega.{arith}
 use lib.ListN.{length}
@@ -98,15 +98,6 @@ NodeIs s i b = (w t : Term) → Within s i w t → b ≡ passesIn w t
 
 abbrev pub RowIs : List ℕ → ℕ → Row → Type 0
 RowIs s i r = LookIs s i (r .start) (r .parts)
-
--- by the loop's test, which is the answer of `passes` turned about
-pub failed : (b : Bool) → not b ≡ true → b ≡ false
-failed true h = sym h
-failed false h = refl
-
-pub held : (b : Bool) → not b ≡ false → b ≡ true
-held true h = refl
-held false h = sym h
 
 -- all nodes up to i pass; whatever the rest does, the whole does
 pub record Going (s : List ℕ) (i left : ℕ) : Type 0 where
