@@ -1,3 +1,4 @@
+pub mod Below
 pub mod reading
 pub mod size
 pub mod free

@@ -3,5 +3,4 @@ pub mod Pushing
 pub mod Premised
 pub mod Ruled
 pub mod Planned
-pub mod Naming
 pub mod Acting

@@ -24,3 +24,7 @@ pub record Put (s : Bytes) (ws ws′ : List ℕ) (used n end : ℕ) (made : Term
   pub few : r .used ≤ used + 1
   pub low : r .counter ≤ n + 2
   pub still : (i : ℕ) (t : Term) → Drafts s ws used i t → Drafts s ws′ (r .used) i t
+
+-- the row behind the used ones is the part that was made
+abbrev pub rowMade : (next used counter : ℕ) → Drafted
+rowMade next used n = record { next = next; used = used + 1; counter = n; part = used + 2 }

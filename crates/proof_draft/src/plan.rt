@@ -1,17 +1,142 @@
-// What the walk does at one rule: its plan, the rows that it puts, and the entry of a Cut. Nothing here carries the row of entries.
+// What the walk does at one rule, by the rule's tag and its count of premises; and the entry of a Cut. Nothing here carries the row of entries.
 ghost use mathlib.Core.Path.{_≡_};
-ghost use Prim.Native.Nat.{_^_, _<_, _≤_};
-ghost use mathlib.Core.List.{List};
-ghost use lib.ListN.{length};
-ghost use Rattle.rules.specs.Proof.{Proof, Rule, Premises};
+ghost use Prim.Native.Nat.{_^_, _<_};
+ghost use Rattle.rules.specs.Proof.{Proof};
 ghost use Rattle.proof.specs.Place.{ProofAt};
-ghost use Rattle.proof_draft.specs.Planning.{planOf, Planned};
-ghost use Rattle.rules.specs.Formula.{Formula};
-ghost use Rattle.proof.specs.Shape.{ruleTag, listed};
-ghost use Rattle.proof_draft.specs.Acts.{ruleKind, Acts, Does, Pairing, Rest};
+ghost use Rattle.proof_draft.specs.Acts.{withTwo, withFirst, actOf, leafOf, rowOver, kindFor, namesBefore};
+ghost use Rattle.proof_draft.specs.Planning.{Planned};
 use crate::entry::CutEntry;
-use proof::rule::Looked;
 use proof::rule::look_rule;
+
+// A rule that reads no premise takes a part with which a draft begins, puts a row over Unit, or is an Axiom.
+pub const LEAF: usize = 0;
+
+pub const BARE: usize = 1;
+
+pub const AXIOM: usize = 2;
+
+// One that reads some reads the first alone, two that it pairs, or the two of a Cut.
+pub const FIRST: usize = 3;
+
+pub const PAIR: usize = 4;
+
+pub const CUT: usize = 5;
+
+// The kind of a row, where none is put over the first premise.
+pub const NO_ROW: usize = 12;
+
+// One of the six; the part or the kind of the row, and the names that are taken before the first premise; then what a look at the rule told.
+pub struct Plan {
+    pub act: usize,
+    pub kind: usize,
+    pub names: usize,
+    pub linear: usize,
+    pub premises: usize,
+    pub first: usize,
+}
+
+// The rule at `at`.
+pub fn plan_at(s: &[u8], at: usize) -> Plan
+    requires { ⌜ ((p : Proof) × ProofAt (now s) at p) ⌝ }
+    ensures { λ r. ⌜ Planned (now (s .entry)) at r ⌝ }
+{
+    let rule = look_rule(s, at);
+    let act = act_of(rule.tag, rule.premises);
+    Plan {
+        act,
+        kind: kind_for(act, rule.tag),
+        names: names_before(rule.tag),
+        linear: rule.linear,
+        premises: rule.premises,
+        first: rule.first,
+    }
+}
+
+// By the tag: 1 is Axiom, 2 Cut, 3 OneIntro, 5 TensorIntro, 7 TopIntro, 8 WithIntro.
+fn act_of(tag: usize, premises: usize) -> usize
+    ensures { λ r. ⌜ r ≡ actOf tag premises ⌝ }
+{
+    match tag {
+        1 => AXIOM,
+        2 => with_two(premises, LEAF, CUT),
+        3 | 7 => LEAF,
+        5 | 8 => with_two(premises, FIRST, PAIR),
+        _ => with_first(premises, tag),
+    }
+}
+
+// What is done with one premise, or with two; with more, or none, a leaf is taken.
+fn with_two(premises: usize, one: usize, two: usize) -> usize
+    ensures { λ r. ⌜ r ≡ withTwo one two premises ⌝ }
+{
+    if premises == 1 {
+        return one;
+    }
+    if premises == 2 {
+        return two;
+    }
+    LEAF
+}
+
+// The first premise is read; without one, Inl, Inr, Promote and Derelict stand over Unit.
+fn with_first(premises: usize, tag: usize) -> usize
+    ensures { λ r. ⌜ r ≡ withFirst tag premises ⌝ }
+{
+    if premises != 0 {
+        return FIRST;
+    }
+    if row_over(tag) < 6 {
+        return BARE;
+    }
+    LEAF
+}
+
+// The part of a leaf, or the kind of the row.
+fn kind_for(act: usize, tag: usize) -> usize
+    ensures { λ r. ⌜ r ≡ kindFor act tag ⌝ }
+{
+    if act == LEAF {
+        return leaf_of(tag);
+    }
+    row_over(tag)
+}
+
+// TopIntro and WithIntro take Trivial, the others Unit.
+fn leaf_of(tag: usize) -> usize
+    ensures { λ r. ⌜ r ≡ leafOf tag ⌝ }
+{
+    match tag {
+        7 => 1,
+        8 => 1,
+        _ => 0,
+    }
+}
+
+// Over its first premise PlusIntroLeft puts Inl, PlusIntroRight Inr, OfCourseIntro Promote, Weakening Discard, Contraction Copy, Dereliction Derelict.
+fn row_over(tag: usize) -> usize
+    ensures { λ r. ⌜ r ≡ rowOver tag ⌝ }
+{
+    match tag {
+        9 => 2,
+        10 => 3,
+        11 => 4,
+        13 => 8,
+        14 => 11,
+        15 => 5,
+        _ => NO_ROW,
+    }
+}
+
+// A Cut takes its own name, Contraction three.
+fn names_before(tag: usize) -> usize
+    ensures { λ r. ⌜ r ≡ namesBefore tag ⌝ }
+{
+    match tag {
+        2 => 1,
+        14 => 3,
+        _ => 0,
+    }
+}
 
 // The entry of a Cut on the formula at `place`.
 pub fn entry_of(place: usize, counter: usize) -> CutEntry
@@ -22,151 +147,4 @@ pub fn entry_of(place: usize, counter: usize) -> CutEntry
         place,
         counter: counter as u32,
     }
-}
-
-// What the walk does at a rule, told by numbers.
-
-// 0 a part with which a draft begins, 1 a row over Unit, 2 Axiom, 3 the first premise, 4 a pair, 5 a Cut; the part or the kind of the row, and
-// the names that are taken before the first premise.
-pub struct Plan {
-    pub act: usize,
-    pub kind: usize,
-    pub names: usize,
-    pub linear: usize,
-    pub premises: usize,
-    pub first: usize,
-}
-
-fn plan_with(rule: Looked, act: usize, kind: usize, names: usize) -> Plan
-    ensures { λ r. ⌜ r ≡ record { act = act; kind = kind; names = names; linear = rule .linear; premises = rule .premises; first = rule .first } ⌝ }
-{
-    Plan {
-        act,
-        kind,
-        names,
-        linear: rule.linear,
-        premises: rule.premises,
-        first: rule.first,
-    }
-}
-
-fn plan_of(rule: Looked, act: Act) -> Plan
-    ensures { λ r. ⌜ r ≡ planOf rule act ⌝ }
-{
-    match act {
-        Act::Leaf(part) => plan_with(rule, 0, part, 0),
-        Act::Bare(kind) => plan_with(rule, 1, kind, 0),
-        Act::Axiom => plan_with(rule, 2, 0, 0),
-        Act::First { kind, names } => plan_with(rule, 3, kind, names),
-        Act::Pair => plan_with(rule, 4, 0, 0),
-        Act::Cut => plan_with(rule, 5, 0, 1),
-    }
-}
-
-// The rule at `at`.
-pub fn plan_at(s: &[u8], at: usize) -> Plan
-    requires { ⌜ ((p : Proof) × ProofAt (now s) at p) ⌝ }
-    ensures { λ r. ⌜ Planned (now (s .entry)) at r ⌝ }
-{
-    let rule = look_rule(s, at);
-    let act = act_of(rule.tag, rule.premises);
-    plan_of(rule, act)
-}
-
-// What a rule does, by its tag and its count of premises.
-
-pub enum Act {
-    // The part is one of those with which a draft begins.
-    Leaf(usize),
-    // A row over Unit.
-    Bare(usize),
-    Axiom,
-    // So many names are taken, then the first premise, with a row over it or none.
-    First { kind: usize, names: usize },
-    Pair,
-    Cut,
-}
-
-// The kind of the row over the first premise, or 12.
-fn kind_of(tag: usize) -> usize
-    ensures { λ r. ⌜ ((x : Rule) → tag ≡ ruleTag x → r ≡ ruleKind x) ⌝ }
-{
-    if tag == 9 {
-        return 2;
-    }
-    if tag == 10 {
-        return 3;
-    }
-    if tag == 11 {
-        return 4;
-    }
-    if tag == 15 {
-        return 5;
-    }
-    if tag == 13 {
-        return 8;
-    }
-    if tag == 14 {
-        return 11;
-    }
-    12
-}
-
-// Tensor and With.
-fn pair_act(premises: usize, part: usize) -> Act
-    requires { ⌜ part ≤ 1 ⌝ }
-    ensures { λ r. ⌜ ((x : Rule) → (l : List Formula) → (ps : Premises) → Pairing x l ps part → premises ≡ length (listed ps) → Acts x l ps r) ⌝ }
-{
-    if premises == 1 {
-        return Act::First { kind: 12, names: 0 };
-    }
-    if premises == 2 {
-        return Act::Pair;
-    }
-    Act::Leaf(part)
-}
-
-// A rule that reads its first premise.
-fn first_act(tag: usize, premises: usize) -> Act
-    requires { ⌜ Rest tag ⌝ }
-    ensures { λ r. ⌜ Does tag premises r ⌝ }
-{
-    let kind = kind_of(tag);
-    if premises == 0 {
-        if kind < 6 {
-            return Act::Bare(kind);
-        }
-        return Act::Leaf(0);
-    }
-    if kind == 11 {
-        return Act::First { kind, names: 3 };
-    }
-    Act::First { kind, names: 0 }
-}
-
-pub fn act_of(tag: usize, premises: usize) -> Act
-    ensures { λ r. ⌜ Does tag premises r ⌝ }
-{
-    if tag == 1 {
-        return Act::Axiom;
-    }
-    if tag == 2 {
-        if premises == 2 {
-            return Act::Cut;
-        }
-        return Act::Leaf(0);
-    }
-    if tag == 3 {
-        return Act::Leaf(0);
-    }
-    if tag == 7 {
-        return Act::Leaf(1);
-    }
-    if tag == 5 {
-        return pair_act(premises, 0);
-    }
-    if tag == 8 {
-        return pair_act(premises, 1);
-    }
-    first_act(tag, premises)
 }

@@ -1,7 +1,7 @@
-// The row that a rule puts into the draft, by the plan for it.
+// The row that a rule puts into the draft of a term, once its premises are there.
 ghost use mathlib.Core.Path.{_≡_};
 ghost use mathlib.Core.List.{List};
-ghost use Prim.Native.Nat.{ℕ, _+_, _<_};
+ghost use Prim.Native.Nat.{ℕ, _+_, _^_, _<_};
 ghost use lib.ListN.{getD};
 ghost use Rattle.rules.specs.Basic.{Bytes};
 ghost use Rattle.rules.specs.Formula.{Formula};
@@ -10,15 +10,38 @@ ghost use Rattle.rules.specs.Extraction.{terms, identity, joined};
 ghost use Rattle.draft.specs.Draft.{Drafts};
 ghost use Rattle.draft.specs.Made.{mostNumber, made, over};
 ghost use Rattle.proof.specs.Place.{FormulaAt};
-ghost use Rattle.proof_draft.specs.Puts.{Open, Put};
+ghost use Rattle.proof_draft.specs.Puts.{Open, Put, rowMade};
 ghost use Rattle.proof_draft.specs.declared.entry.CutEntry.{CutEntry};
 ghost use Rattle.proof_draft.specs.Searching.{nameSaid, Takes};
 ghost use Rattle.proof_draft.specs.Walk.{Starts, Ends};
 ghost use Rattle.proof_draft.specs.Planning.{Planned, Began};
 use crate::axiom::Search;
+use crate::plan::BARE;
+use crate::plan::NO_ROW;
 use crate::plan::Plan;
 use draft::row::put_row;
 use proof::rule::skip_proofs;
+
+// How far the first walk has come: the next place, the rows used, the counter, and the part that was made.
+pub struct Drafted {
+    pub next: usize,
+    pub used: usize,
+    pub counter: usize,
+    pub part: usize,
+}
+
+// A row was put behind the `used` ones, and is the part that was made.
+fn row_made(next: usize, used: usize, counter: usize) -> Drafted
+    requires { ⌜ used + 2 < 2 ^ 64 ⌝ }
+    ensures { λ r. ⌜ r ≡ rowMade next used counter ⌝ }
+{
+    Drafted {
+        next,
+        used: used + 1,
+        counter,
+        part: used + 2,
+    }
+}
 
 // A rule that reads no premise: a part with which a draft begins, or a row over Unit.
 pub fn put_alone(s: &[u8], plan: Plan, rows: &mut [usize], used: usize, counter: usize) -> Drafted
@@ -26,7 +49,7 @@ pub fn put_alone(s: &[u8], plan: Plan, rows: &mut [usize], used: usize, counter:
     ensures { λ r. ⌜ ((at : ℕ) → (row : List CutEntry) → (k : ℕ) → Planned (now (s .entry)) at plan
         → Ends (now (s .entry)) at row k (now (rows .entry)) (now (rows .exit)) used counter r) ⌝ }
 {
-    if plan.act == 1 {
+    if plan.act == BARE {
         return put_bare(plan.kind, plan.first, rows, used, counter);
     }
     Drafted {
@@ -37,27 +60,13 @@ pub fn put_alone(s: &[u8], plan: Plan, rows: &mut [usize], used: usize, counter:
     }
 }
 
-// A name, or Abs of a new name over that name.
-fn put_name(search: Search, next: usize, rows: &mut [usize], used: usize, counter: usize) -> Drafted
-    requires { ⌜ Open (now rows) used × (counter + 2 < mostNumber) × (search .number < mostNumber) ⌝ }
-    ensures { λ r. ⌜ ((s : Bytes) → Put s (now (rows .entry)) (now (rows .exit)) used counter next (identity terms (nameSaid s search) counter) r) ⌝ }
+// A row over Unit.
+fn put_bare(kind: usize, next: usize, rows: &mut [usize], used: usize, counter: usize) -> Drafted
+    requires { ⌜ Open (now rows) used ⌝ }
+    ensures { λ r. ⌜ ((s : Bytes) → Put s (now (rows .entry)) (now (rows .exit)) used counter next (made s kind (leaf unit) (leaf unit) 0 0, counter) r) ⌝ }
 {
-    if search.found {
-        put_row(rows, used, 0, 0, 0, search.number, search.stem);
-        return Drafted {
-            next,
-            used: used + 1,
-            counter,
-            part: used + 2,
-        };
-    }
-    put_row(rows, used, 1, 0, 0, counter, 0);
-    Drafted {
-        next,
-        used: used + 1,
-        counter: counter + 1,
-        part: used + 2,
-    }
+    put_row(rows, used, kind, 0, 0, 0, 0);
+    row_made(next, used, counter)
 }
 
 // An Axiom, whose search is over.
@@ -75,7 +84,26 @@ pub fn put_axiom(
         → Ends (now (s .entry)) at row k (now (rows .entry)) (now (rows .exit)) used counter r) ⌝ }
 {
     let next = skip_proofs(s, plan.first, plan.premises);
-    put_name(search, next, rows, used, counter)
+    put_identity(search, next, rows, used, counter)
+}
+
+// A name, or Abs of a new name over that name.
+fn put_identity(
+    search: Search,
+    next: usize,
+    rows: &mut [usize],
+    used: usize,
+    counter: usize,
+) -> Drafted
+    requires { ⌜ Open (now rows) used × (counter + 2 < mostNumber) × (search .number < mostNumber) ⌝ }
+    ensures { λ r. ⌜ ((s : Bytes) → Put s (now (rows .entry)) (now (rows .exit)) used counter next (identity terms (nameSaid s search) counter) r) ⌝ }
+{
+    if search.found {
+        put_row(rows, used, 0, 0, 0, search.number, search.stem);
+        return row_made(next, used, counter);
+    }
+    put_row(rows, used, 1, 0, 0, counter, 0);
+    row_made(next, used, counter + 1)
 }
 
 // The first premise, with a row over it or none; the others are passed over.
@@ -88,61 +116,15 @@ pub fn put_first(s: &[u8], plan: Plan, counter: usize, one: Drafted, rows: &mut 
     put_over(plan.kind, counter, next, one, rows)
 }
 
-// The producer and the consumer of a Cut on the formula at `own`.
-pub fn put_cut(s: &[u8], own: usize, one: Drafted, two: Drafted, rows: &mut [usize]) -> Drafted
-    requires { ⌜ ((f : Formula) × FormulaAt (now s) own f) × (Open (now rows) (two .used) × (two .counter + 2 < mostNumber) × (one .part < two .used + 2) × (two .part < two .used + 2)) ⌝ }
-    ensures { λ r. ⌜ ((f : Formula) → (a : Term) → (b : Term) → FormulaAt (now (s .entry)) own f → Drafts (now (s .entry)) (now (rows .entry)) (two .used) (one .part) a
-        → Drafts (now (s .entry)) (now (rows .entry)) (two .used) (two .part) b
-        → Put (now (s .entry)) (now (rows .entry)) (now (rows .exit)) (two .used) (two .counter) (two .next) (joined terms f a b (two .counter)) r) ⌝ }
-{
-    put_join(s, own, one.part, two, rows)
-}
-
-// The row that a rule of a proof puts into the draft of a term, once its premises are there.
-
-// How far the first walk has come: the next place, the rows used, the counter, and the part that was made.
-pub struct Drafted {
-    pub next: usize,
-    pub used: usize,
-    pub counter: usize,
-    pub part: usize,
-}
-
-// A row over Unit.
-pub fn put_bare(
-    kind: usize,
-    next: usize,
-    rows: &mut [usize],
-    used: usize,
-    counter: usize,
-) -> Drafted
-    requires { ⌜ Open (now rows) used ⌝ }
-    ensures { λ r. ⌜ ((s : Bytes) → Put s (now (rows .entry)) (now (rows .exit)) used counter next (made s kind (leaf unit) (leaf unit) 0 0, counter) r) ⌝ }
-{
-    put_row(rows, used, kind, 0, 0, 0, 0);
-    Drafted {
-        next,
-        used: used + 1,
-        counter,
-        part: used + 2,
-    }
-}
-
 // A row over the part that was made last, or none.
-pub fn put_over(
-    kind: usize,
-    number: usize,
-    next: usize,
-    inner: Drafted,
-    rows: &mut [usize],
-) -> Drafted
+fn put_over(kind: usize, number: usize, next: usize, inner: Drafted, rows: &mut [usize]) -> Drafted
     requires { ⌜ Open (now rows) (inner .used) × (number < mostNumber) × (inner .part < inner .used + 2) ⌝ }
     ensures { λ r. ⌜ ((s : Bytes) → (t : Term) → Drafts s (now (rows .entry)) (inner .used) (inner .part) t
         → Put s (now (rows .entry)) (now (rows .exit)) (inner .used) (inner .counter) next (over s kind number t, inner .counter) r) ⌝ }
 {
     let used = inner.used;
     let part = inner.part;
-    if kind == 12 {
+    if kind == NO_ROW {
         return Drafted {
             next,
             used,
@@ -151,12 +133,7 @@ pub fn put_over(
         };
     }
     put_row(rows, used, kind, part, part, number, 0);
-    Drafted {
-        next,
-        used: used + 1,
-        counter: inner.counter,
-        part: used + 2,
-    }
+    row_made(next, used, inner.counter)
 }
 
 // A pair of an earlier part and the one that was made last.
@@ -168,25 +145,19 @@ pub fn put_pair(first: usize, second: Drafted, rows: &mut [usize]) -> Drafted
 {
     let used = second.used;
     put_row(rows, used, 6, first, second.part, 0, 0);
-    Drafted {
-        next: second.next,
-        used: used + 1,
-        counter: second.counter,
-        part: used + 2,
-    }
+    row_made(second.next, used, second.counter)
 }
 
-// The producer and the consumer of a Cut, joined as its formula says.
-pub fn put_join(
+// The producer and the consumer of a Cut, joined as the formula at `own` says.
+pub fn put_cut(
     s: &[u8],
     own: usize,
-    producer: usize,
+    producer: Drafted,
     consumer: Drafted,
     rows: &mut [usize],
 ) -> Drafted
-    requires { ⌜ ((f : Formula) × FormulaAt (now s) own f) ⌝ }
-    requires { ⌜ Open (now rows) (consumer .used) × (consumer .counter + 2 < mostNumber) × (producer < consumer .used + 2) × (consumer .part < consumer .used + 2) ⌝ }
-    ensures { λ r. ⌜ ((f : Formula) → (a : Term) → (b : Term) → FormulaAt (now (s .entry)) own f → Drafts (now (s .entry)) (now (rows .entry)) (consumer .used) producer a
+    requires { ⌜ ((f : Formula) × FormulaAt (now s) own f) × (Open (now rows) (consumer .used) × (consumer .counter + 2 < mostNumber) × (producer .part < consumer .used + 2) × (consumer .part < consumer .used + 2)) ⌝ }
+    ensures { λ r. ⌜ ((f : Formula) → (a : Term) → (b : Term) → FormulaAt (now (s .entry)) own f → Drafts (now (s .entry)) (now (rows .entry)) (consumer .used) (producer .part) a
         → Drafts (now (s .entry)) (now (rows .entry)) (consumer .used) (consumer .part) b
         → Put (now (s .entry)) (now (rows .entry)) (now (rows .exit)) (consumer .used) (consumer .counter) (consumer .next) (joined terms f a b (consumer .counter)) r) ⌝ }
 {
@@ -194,28 +165,13 @@ pub fn put_join(
     let used = consumer.used;
     let counter = consumer.counter;
     if tag == 3 {
-        put_row(rows, used, 9, producer, consumer.part, counter, 0);
-        return Drafted {
-            next: consumer.next,
-            used: used + 1,
-            counter: counter + 2,
-            part: used + 2,
-        };
+        put_row(rows, used, 9, producer.part, consumer.part, counter, 0);
+        return row_made(consumer.next, used, counter + 2);
     }
     if tag == 8 {
-        put_row(rows, used, 10, producer, consumer.part, counter, 0);
-        return Drafted {
-            next: consumer.next,
-            used: used + 1,
-            counter: counter + 2,
-            part: used + 2,
-        };
+        put_row(rows, used, 10, producer.part, consumer.part, counter, 0);
+        return row_made(consumer.next, used, counter + 2);
     }
-    put_row(rows, used, 7, consumer.part, producer, 0, 0);
-    Drafted {
-        next: consumer.next,
-        used: used + 1,
-        counter,
-        part: used + 2,
-    }
+    put_row(rows, used, 7, consumer.part, producer.part, 0, 0);
+    row_made(consumer.next, used, counter)
 }

@@ -11,6 +11,9 @@ use crate::axiom::axiom_name;
 use crate::entry::CutEntry;
 use crate::entry::entry_at;
 use crate::entry::put_entry;
+use crate::plan::AXIOM;
+use crate::plan::FIRST;
+use crate::plan::PAIR;
 use crate::plan::Plan;
 use crate::plan::entry_of;
 use crate::plan::plan_at;
@@ -35,7 +38,7 @@ fn draft_alone(
     ensures { λ r. ⌜ ((at : ℕ) → Planned (now (s .entry)) at plan → Starts (now (s .entry)) at (now (row .entry)) k (now (rows .entry)) used counter
         → Ends (now (s .entry)) at (now (row .entry)) k (now (rows .entry)) (now (rows .exit)) used counter r) ⌝ }
 {
-    if plan.act < 2 {
+    if plan.act < AXIOM {
         return put_alone(s, plan, rows, used, counter);
     }
     let search = axiom_name(s, plan.linear, row, k);
@@ -56,7 +59,7 @@ pub fn draft_rule(
     ensures { λ r. ⌜ (now (row .exit) ≡ now (row .entry)) × Ends (now (s .entry)) at (now (row .entry)) k (now (rows .entry)) (now (rows .exit)) used counter r ⌝ }
 {
     let plan = plan_at(s, at);
-    if plan.act < 3 {
+    if plan.act < FIRST {
         return draft_alone(s, plan, row, k, rows, used, counter);
     }
     draft_premises(s, at, plan, row, k, rows, used, counter)
@@ -77,7 +80,7 @@ fn draft_premises(
     ensures { λ r. ⌜ (now (row .exit) ≡ now (row .entry)) × Ends (now (s .entry)) at (now (row .entry)) k (now (rows .entry)) (now (rows .exit)) used counter r ⌝ }
 {
     let one = draft_rule(s, plan.first, row, k, rows, used, counter + plan.names);
-    if plan.act == 3 {
+    if plan.act == FIRST {
         return put_first(s, plan, counter, one, rows);
     }
     draft_second(s, at, plan, counter, one, row, k, rows)
@@ -98,7 +101,7 @@ fn draft_second(
     ensures { λ r. ⌜ (now (row .exit) ≡ now (row .entry)) × ((ws : List ℕ) → (used : ℕ) → Began (now (s .entry)) at (now (row .entry)) k ws (now (rows .entry)) used counter plan one
         → Ends (now (s .entry)) at (now (row .entry)) k ws (now (rows .exit)) used counter r) ⌝ }
 {
-    if plan.act == 4 {
+    if plan.act == PAIR {
         let two = draft_rule(s, one.next, row, k, rows, one.used, one.counter);
         return put_pair(one.part, two, rows);
     }

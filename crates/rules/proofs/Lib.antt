@@ -10,3 +10,4 @@ mod Lent
 mod Extractions
 mod Blocks
 pub mod Past
+mod StoredForm

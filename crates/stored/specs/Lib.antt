@@ -12,4 +12,3 @@ pub mod Octets
 pub mod Loaded
 pub mod Tells
 pub mod Changed
-pub mod Facts

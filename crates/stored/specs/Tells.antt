@@ -2,16 +2,16 @@
 -- multiple of the prime 65,521. Assumes nothing.
 use Prim.Native.Nat.{ℕ, zero, suc, _+_, _-_, _*_, _%_, _≤_, _<_}
 use mathlib.Core.Path.{_≡_, refl, sym, ap, _∙_}
-use mathlib.Core.Bool.{Bool, true, false, not, _&&_, _||_}
+use mathlib.Core.Bool.{Bool, true, false, not, _||_}
 use mathlib.Core.List.{[], _∷_}
 use native.Mathlib.Nat.{le-of-lt, mul-sub, mul-le-mul, mul-le-mul-left, mul-pos, mul-mod-left}
 use native.Mathlib.Omega.{arith}
 use lib.Dec.{eqb, ltb, leb}
 use lib.ListN.{length, getD, set}
-use borrow.Author.Tests.{ltb-true, ltb-false, leb-true, leb-false, le-ltb, eq-eqb, eqb-true, eqb-false}
+use borrow.Author.Tests.{ltb-true, ltb-false, leb-true, leb-false, le-ltb, eq-eqb}
 use Rattle.rules.specs.Basic.{Bytes}
 use Rattle.rules.specs.Stored.{weighed, check}
-use Rattle.laws.specs.free.Same.{both-true}
+use Rattle.laws.specs.Below.{below}
 
 -- a changed byte changes the sum by its weight times the change
 pub weighed-set : (i : ℕ) (s : Bytes) (p v : ℕ) → p < length s → weighed i (set s p v) + (i + p + 1) * getD s p 0 ≡ weighed i s + (i + p + 1) * v
@@ -29,23 +29,10 @@ weighed-set i (b ∷ s) (suc p) v h =
 divides-not : ℕ → Bool
 divides-not d = ltb d 2 || not (eqb (65521 % d) 0)
 
-every : (ℕ → Bool) → ℕ → Bool
-every f zero = true
-every f (suc n) = f n && every f n
-
-at-top : (f : ℕ → Bool) (n k : ℕ) (t : Bool) → eqb k n ≡ t → f n ≡ true → (k < n → f k ≡ true) → k < suc n → f k ≡ true
-at-top f n k true e a b l = ap f (eqb-true k n e) ∙ a
-at-top f n k false e a b l = b (omega (arith, eqb-false k n e))
-
-below : (f : ℕ → Bool) (n k : ℕ) → every f n ≡ true → k < n → f k ≡ true
-unfolding every
-below f zero k h l = absurd (omega arith)
-below f (suc n) k h l = let p = both-true (f n) (every f n) h in at-top f n k (eqb k n) refl (p .0) (below f n k (p .1)) l
-
 no-divisor : (d : ℕ) → 2 ≤ d → d < 256 → 65521 % d ≡ 0 → ⊥
-unfolding divides-not every
+unfolding divides-not
 no-divisor d h l e =
-    let t : (ltb d 2 || not (eqb (65521 % d) 0)) ≡ true = below divides-not 256 d refl l in
+    let t : (ltb d 2 || not (eqb (65521 % d) 0)) ≡ true = below divides-not 256 refl d l in
     let f : (ltb d 2 || not (eqb (65521 % d) 0)) ≡ false = rw (le-ltb d 2 h, eq-eqb (65521 % d) 0 e) in
     let z : _≡_ {A = ℕ} 0 1 = cc in
     omega arith

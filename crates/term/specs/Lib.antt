@@ -1,5 +1,6 @@
 pub mod Node
 pub mod OnePart
+pub mod Shape
 pub mod Place
 pub mod Seen
 pub mod Measured

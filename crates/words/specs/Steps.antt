@@ -83,9 +83,6 @@ module _ {s : List ℕ} {at : ℕ} {out : List ℕ} {to : ℕ} (e e′ x x′ : 
   to-end : r / 65536 ≡ to + length x
   to-end = ap (λ (n : ℕ). n / 65536) (d .ends) ∙ to-places (at + length e) (to + length x) low
 
-  pub part-prints : Prints out to x o (r / 65536)
-  part-prints = rw to-end (d .prints)
-
   pub after-part : Task s (r % 65536) o (r / 65536) e′ x′
   after-part = rw (part-end, to-end) (printed x (passed e t) (d .prints))
 
@@ -111,10 +108,6 @@ no-more {e = e} t = rw (append-nil e) t
 
 pub no-more-done : {at : ℕ} {out : List ℕ} {to : ℕ} (e : List ℕ) {x o : List ℕ} {r : ℕ} → Done at out to (e ++ []) x o r → Done at out to e x o r
 no-more-done e d = rw (append-nil e) at d
-
--- what is printed is no longer to be printed
-pub print-on : {out : List ℕ} {to : ℕ} {w o : List ℕ} {p : ℕ} (x : List ℕ) {y : List ℕ} → Prints out to w o p → take to out ++ (w ++ x) ≡ y → take p o ++ x ≡ y
-print-on {out} {to} {w} x a h = ap (λ (l : List ℕ). l ++ x) (a .holds) ∙ append-assoc (take to out) w x ∙ h
 
 -- the same bytes
 pub spelt : {s : List ℕ} {at : ℕ} {out : List ℕ} {to : ℕ} {e e′ x : List ℕ} → e ≡ e′ → Task s at out to e x → Task s at out to e′ x

@@ -1,6 +1,5 @@
 -- Inputs for the tables: of each call one that is accepted and gives it something to do, and one that is refused. What is lent is full of sevens.
 -- Assumes nothing: these are definitions.
-use Prim.Native.Nat.{_+_}
 use mathlib.Core.List.{List, []}
 use lib.ListN.{replicate}
 use Rattle.rules.specs.Basic.{Bytes, say, _‥_}
@@ -8,6 +7,7 @@ use Rattle.rules.specs.Limits.{limits, outputRoom, textRoom, formulaTextRoom, s
 use Rattle.rules.specs.Calls.{Entry}
 use Rattle.rules.specs.declared.Kind.the-variants.{Term as aTerm}
 use Rattle.rules.proofs.Notation.{hex, repeat}
+use Rattle.program.specs.Printing.{printedRoom}
 use Rattle.promises.specs.PublicCalls.{Call, Input, checkTerm, checkFormula, checkProof, isNormal, isStraight, locate, child, childFault, termText, formulaText, freeNames, store, load, substitute, step, reduce, extract, extractor, printed}
 
 -- lent buffers, each as long as is asked
@@ -27,7 +27,7 @@ abbrev pub storedOutput : Bytes
 storedOutput = replicate (storedRoom limits) 7
 
 abbrev pub printedOutput : Bytes
-printedOutput = replicate (textRoom limits + 512) 7
+printedOutput = replicate (printedRoom limits) 7
 
 abbrev pub entries : List Entry
 entries = replicate (entryRoom limits) (7, 7)

@@ -1,6 +1,6 @@
--- From a plan to what its calls ask and come to: the plan's numbers tell the act, and the act tells the rule. Assumes nothing.
-use Prim.Native.Nat.{ℕ, _+_, _-_, _^_, _<_, _≤_}
-use mathlib.Core.Path.{_≡_, refl, sym, ap, subst, _∙_}
+-- From a plan to what its calls ask and come to: the plan's number tells what extraction makes of the rule. Assumes nothing.
+use Prim.Native.Nat.{ℕ, zero, suc, _+_, _-_, _^_, _<_, _≤_}
+use mathlib.Core.Path.{_≡_, refl, ap, subst}
 use mathlib.Core.List.{List}
 use mathlib.Core.Option.{Option}
 use native.Mathlib.Omega.{arith}
@@ -13,153 +13,104 @@ use Rattle.rules.specs.Proof.{Proof, encodeProof}
 use Rattle.rules.specs.Extraction.{terms, Entries, identity, joined}
 use Rattle.draft.specs.Draft.{Drafts}
 use Rattle.draft.specs.Made.{made, mostNumber, over}
-use Rattle.proof.specs.Place.{FormulaAt, ProofAt}
-use Rattle.proof.specs.Shape.{Sees}
-use Rattle.proof_draft.specs.Acts.{Does}
-use Rattle.proof_draft.specs.Puts.{Open, Put}
-use Rattle.proof_draft.specs.declared.put.Drafted.{Drafted}
-use Rattle.proof.specs.declared.rule.Looked.{Looked}
-use Rattle.proof_draft.specs.declared.plan.Act.{Act}
-use Rattle.proof_draft.specs.declared.plan.Act.the-variants.{Leaf, Bare, Axiom, First, Pair, Cut}
+use Rattle.proof.specs.Place.{FormulaAt, proofsLong}
+use Rattle.proof.specs.Shape.{linearOf, premisesOf}
 use Rattle.proof.proofs.rule.Items.{Some, SkipIs}
-use Rattle.proof_draft.specs.declared.entry.CutEntry.{CutEntry}
+use Rattle.proof.proofs.rule.Rules.{linear-many, linear-inside, formulas-here, cut-formula as formula-here}
+use Rattle.proof_draft.specs.Acts.{Leaves, Bares, Names, Overs, Pairs, Cuts, Acts}
+use Rattle.proof_draft.specs.Puts.{Open, Put}
 use Rattle.proof_draft.specs.Entry.{EntriesAt}
 use Rattle.proof_draft.specs.Searching.{nameSaid, Row, Takes}
-use Rattle.proof_draft.specs.Walk.{Starts, Ends}
-use Rattle.proof_draft.specs.Planning.{numberOf, kindOf, namesOf, Planned, Began}
-use Rattle.proof_draft.specs.declared.plan.Plan.{Plan}
+use Rattle.proof_draft.specs.Walk.{Task, Starts, Ends}
+use Rattle.proof_draft.specs.Planning.{Planned, Began}
 use Rattle.proof_draft.specs.declared.axiom.Search.{Search}
+use Rattle.proof_draft.specs.declared.entry.CutEntry.{CutEntry}
+use Rattle.proof_draft.specs.declared.plan.Plan.{Plan}
+use Rattle.proof_draft.specs.declared.put.Drafted.{Drafted}
 use Rattle.proof_draft.proofs.plan.Pushing.{pushed}
-use Rattle.proof_draft.proofs.plan.Premised.{FirstOf, TwoOf, CutOf, first-starts, first-some, first-rest, first-open, first-ends, one-starts, two-on, two-starts, pair-open, pair-ends, withEntry, cut-two, cut-formula-here, cut-on, consumer-starts, cut-open, cut-ends}
-use Rattle.proof_draft.proofs.plan.Ruled.{starts-inside, starts-later, premises-some, axiom-asks, first-asks, pair-asks, cut-asks, ends-leaf, ends-bare, ends-axiom, ends-first, ends-pair, ends-cut}
+use Rattle.proof_draft.proofs.plan.Premised.{FirstOf, TwoOf, CutOf, first-starts, first-some, first-rest, first-open, first-ends, one-starts, two-on, two-starts, pair-open, pair-ends, withEntry, cut-formula-here, cut-on, consumer-starts, cut-open, cut-ends}
+use Rattle.proof_draft.proofs.plan.Ruled.{leaf-part, starts-inside, told, act-at, premises-here, first-premises, two-premises, put-done, past-done}
 
--- ---- the act, by its number
+-- a number over 4 is a Cut's
+of-cut : (a k m : ℕ) (p : Proof) → 4 < a → Acts a k m p → Cuts p m
+of-cut zero k m p h d = absurd (omega (arith, h))
+of-cut (suc zero) k m p h d = absurd (omega (arith, h))
+of-cut (suc (suc zero)) k m p h d = absurd (omega (arith, h))
+of-cut (suc (suc (suc zero))) k m p h d = absurd (omega (arith, h))
+of-cut (suc (suc (suc (suc zero)))) k m p h d = absurd (omega (arith, h))
+of-cut (suc (suc (suc (suc (suc a))))) k m p h d = d
 
-is-leaf : (a : Act) → numberOf a < 1 → a ≡ Leaf (kindOf a)
-is-leaf (Leaf i) h = refl
-is-leaf (Bare k) h = absurd (omega (arith, h))
-is-leaf Axiom h = absurd (omega (arith, h))
-is-leaf (First k m) h = absurd (omega (arith, h))
-is-leaf Pair h = absurd (omega (arith, h))
-is-leaf Cut h = absurd (omega (arith, h))
+module _ {s : Bytes} {at : ℕ} {r : Plan} (b : Planned s at r) {cs : List CutEntry} {k : ℕ} {ws : List ℕ} {used n : ℕ} where
+  pub plan-later : Starts s at cs k ws used n → (at < length s) × (at < r .first)
+  plan-later (p, es, w) = (starts-inside (p, es, w), omega (arith, told b w .first))
 
-is-bare : (a : Act) → numberOf a ≡ 1 → a ≡ Bare (kindOf a)
-is-bare (Leaf i) h = absurd (omega (arith, h))
-is-bare (Bare k) h = refl
-is-bare Axiom h = absurd (omega (arith, h))
-is-bare (First k m) h = absurd (omega (arith, h))
-is-bare Pair h = absurd (omega (arith, h))
-is-bare Cut h = absurd (omega (arith, h))
+  pub plan-some : Starts s at cs k ws used n → Some encodeProof s (r .first) (r .premises)
+  plan-some (p, es, w) = (premisesOf p, premises-here b w)
 
-is-axiom : (a : Act) → numberOf a ≡ 2 → a ≡ Axiom
-is-axiom (Leaf i) h = absurd (omega (arith, h))
-is-axiom (Bare k) h = absurd (omega (arith, h))
-is-axiom Axiom h = refl
-is-axiom (First k m) h = absurd (omega (arith, h))
-is-axiom Pair h = absurd (omega (arith, h))
-is-axiom Cut h = absurd (omega (arith, h))
+  -- ---- rules that read no premise
 
-is-first : (a : Act) → numberOf a ≡ 3 → a ≡ First (kindOf a) (namesOf a)
-is-first (Leaf i) h = absurd (omega (arith, h))
-is-first (Bare k) h = absurd (omega (arith, h))
-is-first Axiom h = absurd (omega (arith, h))
-is-first (First k m) h = refl
-is-first Pair h = absurd (omega (arith, h))
-is-first Cut h = absurd (omega (arith, h))
+  pub leaf-ends : {next : ℕ} → r .act < 1 → SkipIs encodeProof s (r .first) (r .premises) next → Ends s at cs k ws ws used n (record { next = next; used = used; counter = n; part = r .kind })
+  leaf-ends {next} h g p es w =
+      let d : Leaves p (r .kind) = act-at b w 0 (omega arith) in
+      past-done b w (d .is es n) refl
+      (record {
+        next = g (premisesOf p) (premises-here b w);
+        counter = refl;
+        part = leaf-part (r .kind) (d .among) (w .ready .rows);
+        small = w .ready .small;
+        few = omega arith;
+        low = omega arith;
+        still = λ j t z. z;
+      })
 
-is-pair : (a : Act) → numberOf a ≡ 4 → (a ≡ Pair) × (namesOf a ≡ 0)
-is-pair (Leaf i) h = absurd (omega (arith, h))
-is-pair (Bare k) h = absurd (omega (arith, h))
-is-pair Axiom h = absurd (omega (arith, h))
-is-pair (First k m) h = absurd (omega (arith, h))
-is-pair Pair h = (refl, refl)
-is-pair Cut h = absurd (omega (arith, h))
+  pub bare-ends : {ws′ : List ℕ} {x : Drafted} → r .act ≡ 1 → ((s : Bytes) → Put s ws ws′ used n (r .first) (made s (r .kind) (leaf unit) (leaf unit) 0 0, n) x) → Ends s at cs k ws ws′ used n x
+  bare-ends h g p es w =
+      let d : Bares p (r .kind) = act-at b w 1 h in
+      let z : proofsLong (premisesOf p) ≡ 0 = ap (λ (c : List Proof). proofsLong c) (d .none) in
+      put-done b w (d .is s es n) (r .first) (omega arith) (g s)
 
-is-cut : (a : Act) → 4 < numberOf a → (a ≡ Cut) × (namesOf a ≡ 1)
-is-cut (Leaf i) h = absurd (omega (arith, h))
-is-cut (Bare k) h = absurd (omega (arith, h))
-is-cut Axiom h = absurd (omega (arith, h))
-is-cut (First k m) h = absurd (omega (arith, h))
-is-cut Pair h = absurd (omega (arith, h))
-is-cut Cut h = (refl, refl)
+  -- ---- Axiom
 
--- the premise that is walked first, by the act
-module _ {s : Bytes} {at : ℕ} {cs : List CutEntry} {k : ℕ} {ws : List ℕ} {used n : ℕ} {q : Looked} {a : Act} (f : (p : Proof) → ProofAt s at p → Sees at p q)
-    (d : Does (q .tag) (q .premises) a) (w : Starts s at cs k ws used n) where
-  one-begins : (b : Act) → a ≡ b → 2 < numberOf b → Starts s (q .first) cs k ws used (n + namesOf b) × (namesOf b ≤ 3)
-  one-begins (Leaf i) e h = absurd (omega (arith, h))
-  one-begins (Bare i) e h = absurd (omega (arith, h))
-  one-begins Axiom e h = absurd (omega (arith, h))
-  one-begins (First i m) e h = let x = first-asks f d e w in (first-starts m (x .1) (x .0), x .1)
-  one-begins Pair e h = (one-starts 0 (omega arith) (pair-asks f d e w), omega arith)
-  one-begins Cut e h = (one-starts 1 (omega arith) (cut-two (cut-asks f d e w)), omega arith)
+  pub axiom-begins : Starts s at cs k ws used n → (r .linear < length s) × Row s cs k (r .linear + 1) (getD s (r .linear) 0)
+  axiom-begins (p, es, w) =
+      let h = told b w .linear in
+      let fs = formulas-here s at p (w .proof) (r .linear) h (getD s (r .linear) 0) (linear-many s at p (w .proof) (r .linear) h) in
+      (linear-inside s at p (w .proof) (r .linear) h, (linearOf p, es, fs, w .ready .entries))
 
--- ---- over a plan
+  pub axiom-ends : (q : Search) {next : ℕ} {ws′ : List ℕ} {x : Drafted} → r .act ≡ 2 → SkipIs encodeProof s (r .first) (r .premises) next
+      → Takes s cs k (r .linear + 1) (getD s (r .linear) 0) (nameSaid s q) → Put s ws ws′ used n next (identity terms (nameSaid s q) n) x → Ends s at cs k ws ws′ used n x
+  axiom-ends q {next} {ws′} {x} h g t y p es w =
+      let d : Names p = act-at b w 2 h in
+      let i = told b w .linear in
+      let fs = formulas-here s at p (w .proof) (r .linear) i (getD s (r .linear) 0) (linear-many s at p (w .proof) (r .linear) i) in
+      put-done b w (d .is es n) next (g (premisesOf p) (premises-here b w))
+      (subst (λ (o : Option Name). Put s ws ws′ used n next (identity terms o n) x) (t (linearOf p) es fs (w .ready .entries)) y)
 
-module _ {s : Bytes} {at : ℕ} {r : Plan} (b : Planned s at r) where
-  first-is : r .first ≡ b .rule .first
-  first-is = ap (λ (z : Plan). z .first) (b .is)
+  -- ---- the first premise
 
-  act-is : r .act ≡ numberOf (b .act)
-  act-is = ap (λ (z : Plan). z .act) (b .is)
+  one-begins : {p : Proof} {es : Entries} (w : Task s at cs k ws used n p es) (a : ℕ) → 2 < a → Acts a (r .kind) (r .names) p
+      → Starts s (r .first) cs k ws used (n + r .names) × (r .names ≤ 3)
+  one-begins w zero h d = absurd (omega (arith, h))
+  one-begins w (suc zero) h d = absurd (omega (arith, h))
+  one-begins w (suc (suc zero)) h d = absurd (omega (arith, h))
+  one-begins {p} {es} w (suc (suc (suc zero))) h d = (first-starts (r .names) (d .few) (d .premise, d .others, es, first-premises b w (d .are)), d .few)
+  one-begins {p} {es} w (suc (suc (suc (suc zero)))) h d =
+      (one-starts (r .names) (omega (arith, d .names)) (d .one, d .other, es, two-premises b w (d .are)), omega (arith, d .names))
+  one-begins {p} {es} w (suc (suc (suc (suc (suc a))))) h d =
+      (one-starts (r .names) (omega (arith, d .names)) (d .one, d .other, es, two-premises b w (d .are)), omega (arith, d .names))
 
-  names-is : r .names ≡ namesOf (b .act)
-  names-is = ap (λ (z : Plan). z .names) (b .is)
-
-  kind-is : r .kind ≡ kindOf (b .act)
-  kind-is = ap (λ (z : Plan). z .kind) (b .is)
-
-  many-is : r .premises ≡ b .rule .premises
-  many-is = ap (λ (z : Plan). z .premises) (b .is)
-
-  linear-is : r .linear ≡ b .rule .linear
-  linear-is = ap (λ (z : Plan). z .linear) (b .is)
-
-  skipped : {next : ℕ} → SkipIs encodeProof s (r .first) (r .premises) next → SkipIs encodeProof s (b .rule .first) (b .rule .premises) next
-  skipped g = rw (first-is, many-is) at g
-
-  module _ {cs : List CutEntry} {k : ℕ} {ws : List ℕ} {used n : ℕ} where
-    pub plan-later : Starts s at cs k ws used n → (at < length s) × (at < r .first)
-    plan-later w = (starts-inside w, omega (arith, starts-later (b .sees) w, first-is))
-
-    pub plan-some : Starts s at cs k ws used n → Some encodeProof s (r .first) (r .premises)
-    plan-some w = rw (first-is, many-is) (premises-some (b .sees) w)
-
-    -- ---- rules that read no premise
-
-    pub leaf-ends : {next : ℕ} → r .act < 1 → SkipIs encodeProof s (r .first) (r .premises) next → Ends s at cs k ws ws used n (record { next = next; used = used; counter = n; part = r .kind })
-    leaf-ends {next} h g =
-        subst (λ (i : ℕ). Ends s at cs k ws ws used n (record { next = next; used = used; counter = n; part = i })) (sym kind-is)
-        (ends-leaf (b .sees) (b .does) (is-leaf (b .act) (omega (arith, h, act-is))) (skipped g))
-
-    pub bare-ends : {ws′ : List ℕ} {x : Drafted} → r .act ≡ 1 → ((s : Bytes) → Put s ws ws′ used n (r .first) (made s (r .kind) (leaf unit) (leaf unit) 0 0, n) x) → Ends s at cs k ws ws′ used n x
-    bare-ends h g = ends-bare (b .sees) (b .does) (is-bare (b .act) (sym act-is ∙ h)) (λ t. let y = g t in rw (first-is, kind-is) at y)
-
-    -- ---- Axiom
-
-    pub axiom-begins : Starts s at cs k ws used n → (r .linear < length s) × Row s cs k (r .linear + 1) (getD s (r .linear) 0)
-    axiom-begins w = let (l, es, i, x, y) = axiom-asks (b .sees) w in rw linear-is (i, (l, es, x, y))
-
-    pub axiom-ends : (q : Search) {next : ℕ} {ws′ : List ℕ} {x : Drafted} → r .act ≡ 2 → SkipIs encodeProof s (r .first) (r .premises) next
-        → Takes s cs k (r .linear + 1) (getD s (r .linear) 0) (nameSaid s q) → Put s ws ws′ used n next (identity terms (nameSaid s q) n) x → Ends s at cs k ws ws′ used n x
-    axiom-ends q {next} {ws′} {x} h g t y =
-        ends-axiom (b .sees) (b .does) (is-axiom (b .act) (sym act-is ∙ h)) (skipped g)
-        (λ l es u v. subst (λ (o : Option Name). Put s ws ws′ used n next (identity terms o n) x) (t l es (rw linear-is u) v) y)
-
-    -- ---- the first premise
-
-    pub one-begun : 2 < r .act → Starts s at cs k ws used n → Starts s (r .first) cs k ws used (n + r .names) × (r .names ≤ 3)
-    one-begun h w = rw (first-is, names-is) (one-begins (b .sees) (b .does) w (b .act) refl (omega (arith, h, act-is)))
+  pub one-begun : 2 < r .act → Starts s at cs k ws used n → Starts s (r .first) cs k ws used (n + r .names) × (r .names ≤ 3)
+  one-begun h (p, es, w) = one-begins w (r .act) h (told b w .acts)
 
 -- ---- with the first premise walked
 
 module _ {s : Bytes} {at : ℕ} {cs : List CutEntry} {k : ℕ} {ws ws′ : List ℕ} {used n : ℕ} {r : Plan} {one : Drafted} (g : Began s at cs k ws ws′ used n r one) where
   module _ (h : r .act ≡ 3) where
-    is-one : g .planned .act ≡ First (r .kind) (r .names)
-    is-one = rw (kind-is (g .planned), names-is (g .planned)) (is-first (g .planned .act) (sym (act-is (g .planned)) ∙ h))
-
     asks : FirstOf s (r .first) (r .premises) cs k ws used n × (r .names ≤ 3)
-    asks = rw (first-is (g .planned), many-is (g .planned)) (first-asks (g .planned .sees) (g .planned .does) is-one (g .starts))
+    asks =
+        let (p, es, w) = g .starts in
+        let d : Overs p (r .kind) (r .names) = act-at (g .planned) w 3 h in
+        ((d .premise, d .others, es, first-premises (g .planned) w (d .are)), d .few)
 
     pub first-skips : Some encodeProof s (one .next) (r .premises - 1) × (0 < r .premises)
     first-skips = (first-rest (r .names) (asks .1) (g .ends) (asks .0), first-some (r .names) (asks .1) (asks .0))
@@ -170,22 +121,25 @@ module _ {s : Bytes} {at : ℕ} {cs : List CutEntry} {k : ℕ} {ws ws′ : List 
     pub first-done : {next : ℕ} {ws″ : List ℕ} {x : Drafted} → SkipIs encodeProof s (one .next) (r .premises - 1) next
         → ((s : Bytes) (t : Term) → Drafts s ws′ (one .used) (one .part) t → Put s ws′ ws″ (one .used) (one .counter) next (over s (r .kind) n t, one .counter) x)
         → Ends s at cs k ws ws″ used n x
-    first-done f y =
-        ends-first (g .planned .sees) (g .planned .does) is-one
-        (let z = first-ends (r .names) (asks .1) (g .ends) (r .kind) f y in rw (first-is (g .planned), many-is (g .planned)) at z)
+    first-done f y p es w =
+        let d : Overs p (r .kind) (r .names) = act-at (g .planned) w 3 h in
+        past-done (g .planned) w (d .is s es n) (d .are)
+        (first-ends (r .names) (d .few) (g .ends) (r .kind) f y (d .premise) (d .others) es (first-premises (g .planned) w (d .are)))
 
   -- ---- a pair
 
   module _ (h : r .act ≡ 4) where
-    act-pair : (g .planned .act ≡ Pair) × (namesOf (g .planned .act) ≡ 0)
-    act-pair = is-pair (g .planned .act) (sym (act-is (g .planned)) ∙ h)
-
     pair-of : TwoOf s (r .first) cs k ws used n
-    pair-of = rw (first-is (g .planned)) (pair-asks (g .planned .sees) (g .planned .does) (act-pair .0) (g .starts))
+    pair-of =
+        let (p, es, w) = g .starts in
+        let d : Pairs p (r .names) = act-at (g .planned) w 4 h in
+        (d .one, d .other, es, two-premises (g .planned) w (d .are))
 
     ends-one : Ends s (r .first) cs k ws ws′ used n one
     ends-one =
-        let z : n + r .names ≡ n = omega (arith, names-is (g .planned), act-pair .1) in
+        let (p, es, w) = g .starts in
+        let d : Pairs p (r .names) = act-at (g .planned) w 4 h in
+        let z : n + r .names ≡ n = omega (arith, d .names) in
         subst (λ (m : ℕ). Ends s (r .first) cs k ws ws′ used m one) z (g .ends)
 
     pub pair-on : r .first ≤ one .next
@@ -202,20 +156,25 @@ module _ {s : Bytes} {at : ℕ} {cs : List CutEntry} {k : ℕ} {ws ws′ : List 
           → ((s : Bytes) (t u : Term) → Drafts s ws″ (other .used) (one .part) t → Drafts s ws″ (other .used) (other .part) u
           → Put s ws″ ws‴ (other .used) (other .counter) (other .next) (two pair t u, other .counter) x)
           → Ends s at cs k ws ws‴ used n x
-      pair-done f =
-          ends-pair (g .planned .sees) (g .planned .does) (act-pair .0) (let z = pair-ends ends-one (g .long) y f in rw (first-is (g .planned)) at z)
+      pair-done f p es w =
+          let d : Pairs p (r .names) = act-at (g .planned) w 4 h in
+          past-done (g .planned) w (d .is es n) (d .are)
+          (pair-ends ends-one (g .long) y f (d .one) (d .other) es (two-premises (g .planned) w (d .are)))
 
   -- ---- a Cut
 
   module _ (h : 4 < r .act) where
-    act-cut : (g .planned .act ≡ Cut) × (namesOf (g .planned .act) ≡ 1)
-    act-cut = is-cut (g .planned .act) (omega (arith, act-is (g .planned), h))
+    cuts : {p : Proof} {es : Entries} → Task s at cs k ws used n p es → Cuts p (r .names)
+    cuts w = of-cut (r .act) (r .kind) (r .names) _ h (told (g .planned) w .acts)
 
     cut-of : CutOf s (at + 1) (r .first) cs k ws used n
-    cut-of = rw (first-is (g .planned)) (cut-asks (g .planned .sees) (g .planned .does) (act-cut .0) (g .starts))
+    cut-of =
+        let (p, es, w) = g .starts in
+        let d = cuts w in
+        (d .formula, d .one, d .other, es, formula-here s at p (w .proof) (d .formula) (d .rule), two-premises (g .planned) w (d .are))
 
     ends-producer : Ends s (r .first) cs k ws ws′ used (n + 1) one
-    ends-producer = subst (λ (m : ℕ). Ends s (r .first) cs k ws ws′ used (n + m) one) (names-is (g .planned) ∙ act-cut .1) (g .ends)
+    ends-producer = let (p, es, w) = g .starts in subst (λ (m : ℕ). Ends s (r .first) cs k ws ws′ used (n + m) one) (cuts w .names) (g .ends)
 
     pub cut-goes : r .first ≤ one .next
     cut-goes = cut-on ends-producer cut-of
@@ -243,6 +202,8 @@ module _ {s : Bytes} {at : ℕ} {cs : List CutEntry} {k : ℕ} {ws ws′ : List 
           → ((f : Formula) (t u : Term) → FormulaAt s (at + 1) f → Drafts s ws″ (other .used) (one .part) t → Drafts s ws″ (other .used) (other .part) u
           → Put s ws″ ws‴ (other .used) (other .counter) (other .next) (joined terms f t u (other .counter)) x)
           → Ends s at cs k ws ws‴ used n x
-      cut-done f =
-          ends-cut (g .planned .sees) (g .planned .does) (act-cut .0)
-          (let z = cut-ends ends-producer pushes (length-set cs k entry) (g .long) y f in rw (first-is (g .planned)) at z)
+      cut-done f p es w =
+          let d = cuts w in
+          past-done (g .planned) w (d .is es n) (d .are)
+          (cut-ends ends-producer pushes (length-set cs k entry) (g .long) y f (d .formula) (d .one) (d .other) es
+          (formula-here s at p (w .proof) (d .formula) (d .rule)) (two-premises (g .planned) w (d .are)))

@@ -181,9 +181,6 @@ add-one : (n : ℕ) → n + 1 ≡ suc n
 add-one n = omega arith
 
 module _ {s : Bytes} {own at : ℕ} {cs : List CutEntry} {k : ℕ} {ws : List ℕ} {used n : ℕ} where
-  pub cut-two : CutOf s own at cs k ws used n → TwoOf s at cs k ws used n
-  cut-two (f, p, q, es, v, w) = (p, q, es, w)
-
   pub cut-formula-here : CutOf s own at cs k ws used n → (f : Formula) × FormulaAt s own f
   cut-formula-here (f, p, q, es, v, w) = (f, v)
 

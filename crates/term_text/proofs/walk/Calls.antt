@@ -7,8 +7,9 @@ use lib.ListN.{getD}
 use types.Run.{OneOf}
 use Rattle.rules.specs.Name.{Name}
 use Rattle.rules.specs.Term.{Term, leaf, two, both, branch, Leaf, discard, letPair, copy}
+use Rattle.term.specs.Shape.{shapeOf, a-leaf, a-discard, a-let, a-case}
 use Rattle.term_text.specs.Task.{TermTask, TermDone, Whole}
-use Rattle.term_text.proofs.walk.Inverts.{shapeOf, a-leaf, a-discard, a-let, a-case, leaf-key, made-of, Last, made-copy}
+use Rattle.term_text.proofs.walk.Inverts.{leaf-key, made-of, Last, made-copy}
 
 module _ {s : List ℕ} {i : ℕ} {out : List ℕ} {o : ℕ} (t : Term) (w : TermTask s i out o t) where
   pub leaf-here : OneOf (2 ∷ 10 ∷ []) (getD s i 0) → (k : Leaf) × TermTask s i out o (leaf k)

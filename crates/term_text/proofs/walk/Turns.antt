@@ -13,10 +13,10 @@ use Rattle.rules.specs.Text.{text}
 use Rattle.words.specs.Task.{Task, Done}
 use Rattle.words.specs.Steps.{told-done}
 use Rattle.term.specs.Node.{onePart}
+use Rattle.term.specs.Shape.{Bracketed, shapeOf, a-var, a-two, an-abs}
 use Rattle.term_text.specs.Task.{TermTask, TermDone, nameAt, afterName, NameIn, Whole}
 use Rattle.term_text.specs.Words.{signOf, betweenOf}
-use Rattle.term_text.proofs.phrase.Shapes.{Bracketed}
-use Rattle.term_text.proofs.walk.Inverts.{shapeOf, a-var, a-two, an-abs, two-key, made-of, made-one, Rest, is-whole}
+use Rattle.term_text.proofs.walk.Inverts.{two-key, made-of, made-one, Rest, is-whole}
 use Rattle.term_text.proofs.phrase.Shaped.{begun}
 use Rattle.term_text.proofs.walk.Walking.{At, On, here, brackets-room, ends, one-asked, one-turn, two-room, left-part, two-further, between-room, two-turn, last-task, last-long, last-done, abs-in, abs-room, abs-turn}
 

@@ -14,9 +14,10 @@ use Rattle.laws.specs.reading.Names.{name-long}
 use Rattle.words.specs.Prints.{Prints, brackets}
 use Rattle.words.specs.Task.{Task, Done}
 use Rattle.words.specs.Steps.{first-byte, passed, printed, part-of, part-end, after-part, part-then, pass-then, print-then, no-more, no-more-done, told, told-done, Named, named}
+use Rattle.term.specs.Shape.{Bracketed}
 use Rattle.term_text.specs.Task.{TermTask, TermDone, nameAt, afterName, NameIn}
 use Rattle.term_text.specs.Words.{signOf, betweenOf}
-use Rattle.term_text.proofs.phrase.Shapes.{Bracketed, one-word, one-low, two-text}
+use Rattle.term_text.proofs.phrase.Shapes.{one-word, one-low, two-text}
 use Rattle.term_text.proofs.phrase.Names.{name-in, name-is, after-one, one-then}
 use Rattle.term_text.proofs.phrase.Shaped.{chosen}
 

@@ -1,4 +1,4 @@
--- `sign::opening` meets its contract. Assumes nothing.
+-- `sign::opening` meets its contract: the two tags that are tested, and all others. Assumes nothing.
 use borrow.Author.Tests.{ne-eqb}
 use Rattle.formula_text.proofs.sign.opening.Statement.{statement}
 use Rattle.formula_text.proofs.sign.opening.Tie as tie

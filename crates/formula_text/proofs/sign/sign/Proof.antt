@@ -1,4 +1,4 @@
--- `sign::sign` meets its contract. Assumes nothing.
+-- `sign::sign` meets its contract: a word's length stands in its highest byte, and is at most eight. Assumes nothing.
 use Rattle.formula_text.proofs.sign.Few.{word-few}
 use borrow.Author.Needs.{needs}
 use Rattle.formula_text.proofs.sign.sign.Statement.{statement}

@@ -1,4 +1,4 @@
--- `walk::leaf` meets its contract. Assumes nothing.
+-- `walk::leaf` meets its contract: its name, or no bytes, then its sign. Assumes nothing.
 use Prim.Native.Nat.{_+_, _-_}
 use native.Mathlib.Omega.{arith}
 use borrow.Author.Needs.{needs}

@@ -1,54 +1,53 @@
--- `plan::act_of` meets its contract: each tag is one rule's. Assumes nothing.
-use Rattle.proof_draft.proofs.plan.Acting.{acts-axiom, acts-cut, acts-uncut, acts-one, acts-top, tensor-pairs, with-pairs}
+-- `plan::act_of` meets its contract: each arm of its table is one of the definition's. Assumes nothing.
+use Prim.Native.Nat.{ℕ}
+use mathlib.Core.Logic.{⊎-elim, inl, inr}
+use mathlib.Core.Path.{sym, ap, _∙_}
+use Rattle.proof_draft.specs.Acts.{actOf}
+use Rattle.proof_draft.proofs.plan.Acting.{act-other}
 use borrow.Author.Needs.{needs}
 use Rattle.proof_draft.proofs.plan.act_of.Statement.{statement}
 use Rattle.proof_draft.proofs.plan.act_of.Tie as tie
 
+with-two-requires : tie.Need-with-two-requires
+with-two-requires c κs = search needs
+
+with-two-requires-2 : tie.Need-with-two-requires-2
+with-two-requires-2 c κs = search needs
+
+with-first-requires : tie.Need-with-first-requires
+with-first-requires c κs = search needs
+
 returns : tie.Need-returns
-returns c = acts-axiom _ _ (c .if1 .taken)
+returns c = ap (λ (t : ℕ). actOf t (c .before .args .premises)) (sym (c .match .keys1))
 
 returns-2 : tie.Need-returns-2
-returns-2 c = acts-cut _ _ (c .before .if2 .taken) (c .if3 .taken)
+returns-2 c = c .with-two .ensures ∙ ap (λ (t : ℕ). actOf t (c .before .before .args .premises)) (sym (c .before .match .keys2))
 
 returns-3 : tie.Need-returns-3
-returns-3 c = acts-uncut _ _ (c .before .if2 .taken) (c .if3 .left)
+returns-3 c =
+    let m = c .before .args .premises in
+    ⊎-elim (λ e. ap (λ (t : ℕ). actOf t m) (sym e)) (λ e. ap (λ (t : ℕ). actOf t m) (sym e)) (c .match .keys3)
 
 returns-4 : tie.Need-returns-4
-returns-4 c = acts-one _ _ (c .if4 .taken)
+returns-4 c =
+    let m = c .before .before .args .premises in
+    c .with-two2 .ensures ∙ ⊎-elim (λ e. ap (λ (t : ℕ). actOf t m) (sym e)) (λ e. ap (λ (t : ℕ). actOf t m) (sym e)) (c .before .match .keys4)
 
 returns-5 : tie.Need-returns-5
-returns-5 c = acts-top _ _ (c .if5 .taken)
-
-pair-act-requires : tie.Need-pair-act-requires
-pair-act-requires c κs = search needs
-
-returns-6 : tie.Need-returns-6
-returns-6 c = λ x l ps e h. c .pair-act .ensures x l ps (tensor-pairs _ (c .before .if6 .taken) x l ps e) h
-
-pair-act-requires-2 : tie.Need-pair-act-requires-2
-pair-act-requires-2 c κs = search needs
-
-returns-7 : tie.Need-returns-7
-returns-7 c = λ x l ps e h. c .pair-act2 .ensures x l ps (with-pairs _ (c .before .if7 .taken) x l ps e) h
-
-first-act-requires : tie.Need-first-act-requires
-first-act-requires c κs = record { names = c .before .before .before .before .before .if1 .left; cut = c .before .before .before .before .if2 .left; one = c .before .before .before .if4 .left; tensor = c .before .if6 .left; top = c .before .before .if5 .left; also = c .if7 .left }
-
-returns-8 : tie.Need-returns-8
-returns-8 c = search needs
+returns-5 c =
+    let n = c .before .match .rest in
+    c .with-first .ensures
+    ∙ act-other _ (c .before .before .args .premises) (n .0 .0 .0 .1) (n .0 .0 .1) (λ e. n .0 .1 (inl e)) (λ e. n .0 .1 (inr e)) (λ e. n .1 (inl e)) (λ e. n .1 (inr e))
 
 pub act-of-spec : {M : Type 1} → statement M
 act-of-spec =
     tie.close
     (tie.spec
+    with-two-requires
+    with-two-requires-2
+    with-first-requires
     returns
     returns-2
     returns-3
     returns-4
-    returns-5
-    pair-act-requires
-    returns-6
-    pair-act-requires-2
-    returns-7
-    first-act-requires
-    returns-8)
+    returns-5)

@@ -7,17 +7,14 @@ use Rattle.proof_draft.proofs.put.put_bare.Tie as tie
 put-row-requires : tie.Need-put-row-requires
 put-row-requires c κs = search needs
 
-add-t9 : tie.Need-add-t9
-add-t9 c = search needs
-
-add-t10 : tie.Need-add-t10
-add-t10 c = search needs
+row-made-requires : tie.Need-row-made-requires
+row-made-requires c κs = search needs
 
 same-length : tie.Need-same-length
 same-length c = search needs
 
 returns : tie.Need-returns
-returns c = λ s. put-bare (c .before .before .before .before .before .pre) (c .before .before .put-row .ensures)
+returns c = λ s. put-bare (c .before .before .before .before .before .before .pre) (c .before .before .before .put-row .ensures) (c .row-made .ensures)
 
 pub put-bare-spec : {M : Type 1} → statement M
-put-bare-spec = tie.close (tie.spec put-row-requires add-t9 add-t10 same-length returns)
+put-bare-spec = tie.close (tie.spec put-row-requires row-made-requires same-length returns)

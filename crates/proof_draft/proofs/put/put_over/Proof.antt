@@ -10,17 +10,15 @@ returns c = λ s t d. put-pass _ _ (c .before .before .pre .0) d (c .if1 .taken)
 put-row-requires : tie.Need-put-row-requires
 put-row-requires c κs = search needs
 
-add-t12 : tie.Need-add-t12
-add-t12 c = search needs
-
-add-t13 : tie.Need-add-t13
-add-t13 c = search needs
+row-made-requires : tie.Need-row-made-requires
+row-made-requires c κs = search needs
 
 same-length : tie.Need-same-length
 same-length c = search needs
 
 returns-2 : tie.Need-returns-2
-returns-2 c = λ s t d. put-over _ _ (c .before .before .before .before .before .before .pre .0) d (c .before .before .before .before .if1 .left) (c .before .before .before .before .before .before .pre .1) (c .before .before .put-row .ensures)
+returns-2 c = λ s t d. put-over _ _ (c .before .before .before .before .before .before .before .pre .0) d (c .before .before .before .before .before .if1 .left) (c .before .before .before .before .before .before .before .pre .1) (c .before .before .before .put-row .ensures) (c .row-made .ensures)
 
 pub put-over-spec : {M : Type 1} → statement M
-put-over-spec = tie.close (tie.spec returns put-row-requires add-t12 add-t13 same-length returns-2)
+put-over-spec =
+    tie.close (tie.spec returns put-row-requires row-made-requires same-length returns-2)

@@ -1,4 +1,4 @@
--- `writing::put_head` meets its contract. Assumes nothing.
+-- `writing::put_head` meets its contract: four bytes, one after the other. Assumes nothing.
 use native.Mathlib.Omega.{arith}
 use lib.ListN.{length-set}
 use borrow.Author.Needs.{needs}

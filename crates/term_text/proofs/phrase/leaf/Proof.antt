@@ -1,4 +1,4 @@
--- `phrase::leaf` meets its contract. Assumes nothing.
+-- `phrase::leaf` meets its contract: its word is all of its text. Assumes nothing.
 use Rattle.rules.specs.Term.{leaf}
 use Rattle.term_text.proofs.phrase.Shaped.{begun, leaf-asked, leaf-places, leaf-done}
 use borrow.Author.Needs.{needs}

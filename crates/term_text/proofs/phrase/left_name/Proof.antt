@@ -1,4 +1,4 @@
--- `phrase::left_name` meets its contract. Assumes nothing.
+-- `phrase::left_name` meets its contract: two words, then the name and its word. Assumes nothing.
 use Rattle.words.specs.Steps.{chain}
 use borrow.Author.Needs.{needs}
 use Rattle.term_text.proofs.phrase.left_name.Statement.{statement}

@@ -1,4 +1,4 @@
--- `phrase::past_names` meets its contract. Assumes nothing.
+-- `phrase::past_names` meets its contract: the second name stands after the first. Assumes nothing.
 use Prim.Native.Nat.{ℕ}
 use mathlib.Core.Path.{ap, _∙_}
 use denote.Ref.{now}

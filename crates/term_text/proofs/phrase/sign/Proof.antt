@@ -1,4 +1,4 @@
--- `phrase::sign` meets its contract. Assumes nothing.
+-- `phrase::sign` meets its contract: no tag's word is longer than nine bytes. Assumes nothing.
 use Rattle.term_text.proofs.phrase.Shapes.{long-few}
 use borrow.Author.Needs.{needs}
 use Rattle.term_text.proofs.phrase.sign.Statement.{statement}

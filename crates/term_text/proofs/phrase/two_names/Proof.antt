@@ -1,4 +1,4 @@
--- `phrase::two_names` meets its contract. Assumes nothing.
+-- `phrase::two_names` meets its contract: a word, then each name with the word after it. Assumes nothing.
 use mathlib.Core.Path.{_≡_, refl}
 use mathlib.Core.List.{_++_}
 use native.Mathlib.Omega.{arith}

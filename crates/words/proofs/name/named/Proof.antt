@@ -1,4 +1,4 @@
--- `name::named` meets its contract. Assumes nothing.
+-- `name::named` meets its contract: the name, then the word. Assumes nothing.
 use Prim.Native.Nat.{_+_}
 use mathlib.Core.Path.{_≡_}
 use native.Mathlib.Omega.{arith}

@@ -1,4 +1,4 @@
--- `word::byte` meets its contract. Assumes nothing.
+-- `word::byte` meets its contract: one byte is written. Assumes nothing.
 use mathlib.Core.Path.{refl}
 use mathlib.Core.List.{[], _∷_}
 use native.Mathlib.Omega.{arith}

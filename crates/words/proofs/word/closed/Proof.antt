@@ -1,4 +1,4 @@
--- `word::closed` meets its contract. Assumes nothing.
+-- `word::closed` meets its contract: the brackets are printed, and nothing more is passed. Assumes nothing.
 use Prim.Native.Nat.{ℕ}
 use native.Mathlib.Omega.{arith}
 use lib.ListN.{length-replicate}

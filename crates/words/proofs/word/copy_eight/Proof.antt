@@ -1,4 +1,4 @@
--- `word::copy_eight` meets its contract. Assumes nothing.
+-- `word::copy_eight` meets its contract: the eight bytes that are read are the first from `from` on. Assumes nothing.
 use mathlib.Core.Path.{ap, _∙_}
 use lib.Seq.{sets}
 use Rattle.words.specs.Written.{run}

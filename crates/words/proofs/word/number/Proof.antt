@@ -1,4 +1,4 @@
--- `word::number` meets its contract. Assumes nothing.
+-- `word::number` meets its contract: eight bytes are written, of which the first n count. Assumes nothing.
 use Rattle.words.specs.Prints.{eight}
 use Rattle.words.specs.Written.{prints}
 use borrow.Author.Needs.{needs}

@@ -1,4 +1,4 @@
--- `word::spaced` meets its contract. Assumes nothing.
+-- `word::spaced` meets its contract: nine bytes are written, of which the first n count. Assumes nothing.
 use mathlib.Core.Path.{refl}
 use denote.Ref.{now}
 use Rattle.words.specs.Prints.{eight}

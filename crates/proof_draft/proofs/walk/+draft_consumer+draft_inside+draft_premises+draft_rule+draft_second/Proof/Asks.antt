@@ -209,7 +209,7 @@ module _ {M : Type 1} (𝓤 : URA M) (H : Heap 𝓤) (A : Atoms 𝓤) (W : Given
       move ! (2 ∷ 0 ∷ []) $
       keep ! (0 ∷ 1 ∷ []) $ done !))))
 
-  -- ---- a call of `plan::put_first`
+  -- ---- a call of `put::put_first`
   abbrev pub to-first : Names → List (ℕ) → Plan → ℕ → Drafted → FirstC 𝓤 H A mem run .Ghost
   to-first p l-ws g n d = (((ρ .κ-s, (p .0 ∷ [], tt)), (ρ .q-s, (fullShare, tt)), tt, ((ref-s ρ) (ρ .γ-s) (ρ .ts-s), (g, (n, (d, ((ref-ws ρ) (p .1) l-ws, tt))))), (v-s ρ ∷ [], (mach-plan g ∷ [], (vint w64 n ∷ [], (mach-draft d ∷ [], (v-ws ρ ∷ [], tt)))))), tt)
 

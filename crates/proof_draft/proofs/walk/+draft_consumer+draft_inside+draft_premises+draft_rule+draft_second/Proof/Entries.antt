@@ -187,7 +187,7 @@ module _ {M : Type 1} (𝓤 : URA M) (H : Heap 𝓤) (A : Atoms 𝓤) (W : Given
       move ! (2 ∷ 0 ∷ []) $
       keep ! (0 ∷ 1 ∷ []) $ done !))))
 
-  -- ---- a call of `plan::put_cut`
+  -- ---- a call of `put::put_cut`
   abbrev pub to-join : Names → List (ℕ) → ℕ → Drafted → Drafted → JoinC 𝓤 H A mem run .Ghost
   to-join p l-ws j c d = (((ρ .κ-s, (p .0 ∷ [], tt)), (ρ .q-s, (fullShare, tt)), tt, ((ref-s ρ) (ρ .γ-s) (ρ .ts-s), (j, (c, (d, ((ref-ws ρ) (p .1) l-ws, tt))))), (v-s ρ ∷ [], (vint w64 j ∷ [], (mach-draft c ∷ [], (mach-draft d ∷ [], (v-ws ρ ∷ [], tt)))))), tt)
 
