@@ -10,9 +10,8 @@ use Rattle.rules.specs.Proof.{proof, row}
 use Rattle.rules.specs.Reading.{many, proofAt}
 use Rattle.laws.specs.reading.Holds.{told as holding}
 use Rattle.laws.specs.reading.SteadyProof.{steady-proof}
-use Rattle.proof.specs.Seen.{metBy, seen, found, countSeen, within}
+use Rattle.proof.specs.Seen.{Reached, Reading, Conclusion, To, Fault, Before, NoCount, metBy, seen, found, countSeen, within}
 use Rattle.proof.specs.Stages.{topOf, ownOf, linearOf, rowOf}
-use Rattle.proof.proofs.conclusion.Answers.{Reached, Reading, Conclusion, To, Fault, Before, NoCount}
 use Rattle.proof.proofs.conclusion.Views.{seen-made, seen-bad, Came, came, many-none, many-one, many-off, many-on}
 use Rattle.proof.proofs.conclusion.Ways.{Few, top-few, proof-few, proof-onward}
 use Rattle.proof.proofs.conclusion.Split.{split, Topped, topped, count-bad}

@@ -3,8 +3,7 @@ use Prim.Native.Nat.{ℕ, _+_, _-_, _*_, _/_, _%_, _<_, _≤_}
 use native.Mathlib.Omega.{arith}
 use mathlib.Core.Path.{_≡_, ap, _∙_}
 use borrow.Author.Tests.{lt-ltb, le-ltb}
-use Rattle.proof.specs.Seen.{reachedAt}
-use Rattle.proof.proofs.conclusion.Answers.{To, Fault}
+use Rattle.proof.specs.Seen.{To, Fault, reachedAt}
 use Rattle.proof.specs.OneNumber.{faultFrom, told}
 
 pub tells-place : (r : ℕ) → r < faultFrom → told r ≡ To (reachedAt (r % 65536) (r / 65536 % 65536) (r / 4294967296))

@@ -17,9 +17,8 @@ use Rattle.laws.specs.reading.Holds.{told}
 use Rattle.laws.specs.reading.Octets.{Octets}
 use Rattle.laws.specs.reading.SteadyProof.{steady-proof}
 use Rattle.laws.specs.reading.SoundProof.{proof-reads}
-use Rattle.proof.specs.Seen.{metBy, reachedAt, seen, found, endOf}
-use Rattle.proof.proofs.reached.Places.{rest-in, rest-out}
-use Rattle.proof.proofs.conclusion.Answers.{Reached, To, Fault}
+use Rattle.proof.specs.Seen.{Reached, To, Fault, metBy, reachedAt, seen, found, endOf}
+use Rattle.reader.proofs.class.Views.{rest-in, rest-out}
 use Rattle.proof.proofs.conclusion.Views.{seen-bad, Came, came}
 
 module _ (i : ℕ) (s : Bytes) where

@@ -1,5 +1,5 @@
 -- What the proofs of several functions use, here and in the crates above.
-pub mod Answers
+pub mod Bytes
 pub mod Views
 pub mod Rows
 pub mod Ways

@@ -16,8 +16,8 @@ pub use Rattle.proof.specs.declared.reached.Reading.{Reading}
 pub use Rattle.proof.specs.declared.reached.Reading.the-variants.{To, Fault}
 pub use Rattle.proof.specs.declared.tag.Tag.{Tag}
 pub use Rattle.proof.specs.declared.tag.Tag.the-variants.{Plain, Cut, Focus, Fault as NoTag}
-pub use Rattle.proof.specs.declared.count.Conclusion.{Conclusion}
-pub use Rattle.proof.specs.declared.count.Conclusion.the-variants.{Before, Fault as NoCount}
+pub use Rattle.proof.specs.declared.conclusion.Conclusion.{Conclusion}
+pub use Rattle.proof.specs.declared.conclusion.Conclusion.the-variants.{Before, Fault as NoCount}
 
 -- what was met on the way to a place, and that place
 abbrev pub metBy : Reached → Met

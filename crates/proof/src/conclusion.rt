@@ -5,9 +5,7 @@ ghost use lib.ListN.{length};
 ghost use Rattle.rules.specs.Formula.{formulas as formulaLayout};
 ghost use Rattle.reader.specs.Classes.{Classes};
 ghost use Rattle.proof.specs.Seen.{seen, found, countSeen, within};
-ghost use Rattle.proof.specs.Stages.{rowOf, indexOf, ownOf, linearOf, topOf};
-use crate::count::Conclusion;
-use crate::count::read_count;
+ghost use Rattle.proof.specs.Stages.{rowOf, indexOf, ownOf, linearOf, countOf, topOf};
 use crate::reached::Most;
 use crate::reached::Reached;
 use crate::reached::Reading;
@@ -94,6 +92,34 @@ fn read_linear(s: &[u8], t: &[u8; 256], most: Most, from: Reached) -> Reading
     }
     let at = from.next;
     read_formulas(s, t, most, past_byte(from), s[at] as usize)
+}
+
+// Where the premises begin, and how many there are.
+pub enum Conclusion {
+    Before { reached: Reached, premises: usize },
+    Fault { number: u8, place: usize },
+}
+
+// The count of premises.
+fn read_count(s: &[u8], from: Reached) -> Conclusion
+    ensures { λ r. ⌜ r ≡ countSeen (λ n. n) (found countOf (now (s .entry)) from) ⌝ }
+{
+    if s.len() <= from.next {
+        return Conclusion::Fault {
+            number: 3,
+            place: from.next,
+        };
+    }
+    let at = from.next;
+    let premises = s[at] as usize;
+    let reached = past_byte(from);
+    if 3 < premises {
+        return Conclusion::Fault {
+            number: 4,
+            place: at,
+        };
+    }
+    Conclusion::Before { reached, premises }
 }
 
 // All that stands before the premises.

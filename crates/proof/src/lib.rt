@@ -16,7 +16,6 @@ use rules::Answer;
 use rules::MOST_BYTES;
 
 pub mod conclusion;
-pub mod count;
 mod one_number;
 mod premises;
 pub mod reached;

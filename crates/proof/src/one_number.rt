@@ -18,7 +18,7 @@ pub fn come_to(next: usize, rules: usize, formulas: usize) -> usize
     next + rules * 65536 + formulas * 4294967296
 }
 
-pub fn fault(number: u8, place: usize) -> usize
+pub fn fault_at(number: u8, place: usize) -> usize
     requires { ⌜ place < 65536 ⌝ }
     ensures { λ r. ⌜ toldBy r ≡ Fault number place ⌝ }
 {

@@ -8,10 +8,10 @@ ghost use Rattle.rules.specs.Reading.{many, proofAt};
 ghost use Rattle.reader.specs.Classes.{Classes};
 ghost use Rattle.proof.specs.Seen.{seen, found, reachedAt};
 ghost use Rattle.proof.specs.OneNumber.{told as toldBy, Far};
+use crate::conclusion::Conclusion;
 use crate::conclusion::read_conclusion;
-use crate::count::Conclusion;
 use crate::one_number::come_to;
-use crate::one_number::fault;
+use crate::one_number::fault_at;
 use crate::one_number::told;
 use crate::reached::Most;
 use crate::reached::Reached;
@@ -36,7 +36,7 @@ pub fn read_rule(s: &&[u8], t: &[u8; 256], next: usize, rules: usize, formulas: 
     };
     match read_conclusion(*s, t, most, from) {
         Conclusion::Before { reached, premises } => read_premises(s, t, reached, premises),
-        Conclusion::Fault { number, place } => fault(number, place),
+        Conclusion::Fault { number, place } => fault_at(number, place),
     }
 }
 

@@ -1,4 +1,4 @@
-// The bytes of a proof one by one: a rule's tag, the count of its premises, and that nothing stands behind the last rule.
+// How far a reading of a proof has come, and what is told of the whole input where its first rule ends.
 ghost use mathlib.Core.Path.{_≡_};
 ghost use Prim.Native.Nat.{_+_, _^_, _<_};
 ghost use Rattle.proof.specs.Seen.{pastByte, pastTag, endOf};

@@ -157,7 +157,7 @@ pub fn holds(s: &[u8], at: usize, gone: Ahead, room: usize) -> bool
 }
 
 // Where the next `room` bytes of s end, or s does.
-fn end_of(s: &[u8], at: usize, room: usize) -> usize
+fn end_within(s: &[u8], at: usize, room: usize) -> usize
     requires { ⌜ at ≤ length (now s) ⌝ }
     ensures { λ r. ⌜ (r ≤ length (now (s .entry))) × (r - at ≤ room) × (at ≤ r) ⌝ }
 {
@@ -184,7 +184,7 @@ pub fn read_row(
     if s.len() <= at {
         return node::read_row(s, form, t, at, used, most, n);
     }
-    let end = end_of(s, at, MOST_AHEAD);
+    let end = end_within(s, at, MOST_AHEAD);
     let gone = go_ahead(s, form, t, at, end, n);
     if holds(s, at, gone, room_for(most, used)) {
         return node::read_row(
@@ -226,7 +226,7 @@ pub fn read_from(s: &[u8], form: Form, t: &[u8; 256], at: usize, used: usize, mo
     if s.len() <= at {
         return bad(3, at);
     }
-    let end = end_of(s, at, room_for(most, used));
+    let end = end_within(s, at, room_for(most, used));
     let past = pass_ones(s, form, t, at, end);
     read_row(s, form, t, past, used + (past - at), most, 1)
 }

@@ -1,16 +1,15 @@
 -- The test `straight` of terms in a row: a node passes by itself, and then its parts take its place. Assumes nothing.
 use Prim.Native.Nat.{ℕ, _-_, _+_, _<_, _≤_}
 use mathlib.Core.Path.{_≡_, refl, sym, ap, ap₂, _∙_}
-use mathlib.Core.Bool.{Bool, true, false, not, _&&_, and-true, and-assoc}
+use mathlib.Core.Bool.{Bool, true, false, _&&_, and-true, and-assoc}
 use mathlib.Core.List.{List, [], _∷_, _++_}
 use native.Mathlib.Omega.{arith}
 use lib.ListN.{length}
 use Rattle.rules.specs.Term.{Term, var, leaf, one, two, abs, both, branch, parts}
 use Rattle.rules.specs.Straight.{Binder, _over_, binders, plain, every, once, straight}
-use Rattle.term.specs.Node.{head}
 use Rattle.term.specs.Place.{TermAt, TermsAt}
 use Rattle.term.specs.declared.node.Row.{Row}
-use Rattle.term.proofs.node.Terms.{Some, some-first, some-fits, first, unrolled, alone, at-end, apart-size}
+use Rattle.term.proofs.node.Terms.{Some, some-first, first, alone, LookIs, turned, turn-some, turn-fits, turn-ahead}
 use Rattle.straight.specs.Node.{ownPlain, ownBinders, passesIn}
 use Rattle.straight.specs.Place.{Within}
 
@@ -98,16 +97,7 @@ abbrev NodeIs : List ℕ → ℕ → Bool → Type 0
 NodeIs s i b = (w t : Term) → Within s i w t → b ≡ passesIn w t
 
 abbrev pub RowIs : List ℕ → ℕ → Row → Type 0
-RowIs s i r = (t : Term) → TermAt s i t → (r .start ≡ i + length (head t)) × (r .parts ≡ length (parts t))
-
--- by the loop's test, which is the answer of `passes` turned about
-pub failed : (b : Bool) → not b ≡ true → b ≡ false
-failed true h = sym h
-failed false h = refl
-
-pub held : (b : Bool) → not b ≡ false → b ≡ true
-held true h = refl
-held false h = sym h
+RowIs s i r = LookIs s i (r .start) (r .parts)
 
 -- all nodes up to i pass; whatever the rest does, the whole does
 pub record Going (s : List ℕ) (i left : ℕ) : Type 0 where
@@ -149,24 +139,15 @@ module _ {s : List ℕ} {i left : ℕ} (g : Going s i left) where
         none w a (t ∷ ts) u = so-node false _ f w a t ts u refl
 
     module _ (r : Row) (k : RowIs s i r) where
-      turned : (t : Term) (ts : List Term) → TermsAt s i left (t ∷ ts) → TermsAt s (r .start) (left - 1 + r .parts) (parts t ++ ts)
-      turned t ts w =
-          let e = k t (first s i left t ts w) in
-          unrolled s i left t ts w (r .start) (left - 1 + r .parts) (e .0) (ap (λ (n : ℕ). left - 1 + n) (e .1))
-
-      some-next : Some s i left → Some s (r .start) (left - 1 + r .parts)
-      some-next ([], w) = absurd (omega (arith, w .many))
-      some-next (t ∷ ts, w) = (parts t ++ ts, turned t ts w)
-
-      pub ahead : (i < r .start) × (i < length s)
-      ahead = let (t, w) = one-here in let e = k t w in (omega (arith, e .0), omega (arith, at-end s i t w, apart-size t))
+      pub ahead : (i < length s) × (i < r .start)
+      ahead = turn-ahead s i left (r .start) (r .parts) k l (g .some)
 
       pub few : left - 1 + r .parts ≤ length s
-      few = some-fits s (r .start) (left - 1 + r .parts) (some-next (g .some)) .0
+      few = turn-fits s i left (r .start) (r .parts) k l (g .some)
 
       so-rest : NodeIs s i true → (b : Bool) → PassIs s (r .start) (left - 1 + r .parts) b → PassIs s i left b
       so-rest f b q w a [] u = absurd (omega (arith, u .many))
-      so-rest f b q w a (t ∷ ts) u = so-node true b f w a t ts u (q w a (parts t ++ ts) (turned t ts u))
+      so-rest f b q w a (t ∷ ts) u = so-node true b f w a t ts u (q w a (parts t ++ ts) (turned s i left (r .start) (r .parts) k l t ts u))
 
       pub turn : NodeIs s i true → Going s (r .start) (left - 1 + r .parts)
-      turn f = record { whole = g .whole; some = some-next (g .some); rest = λ b q. g .rest b (so-rest f b q) }
+      turn f = record { whole = g .whole; some = turn-some s i left (r .start) (r .parts) k l (g .some); rest = λ b q. g .rest b (so-rest f b q) }

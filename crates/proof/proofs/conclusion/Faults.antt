@@ -15,9 +15,8 @@ use Rattle.rules.specs.Formula.{formulas}
 use Rattle.rules.specs.Proof.{RuleHead, aPlain, aCut, aFocus, ruleHeads}
 use Rattle.rules.specs.Reading.{Got, got, bad, Reader, andThen, times, many, byte, byteFor, room, letters, name, listed, tag, tooMany, node, ruleGot, formulaGot, ruleOf}
 use Rattle.laws.specs.reading.Steady.{Stands, stands, stands-next}
-use Rattle.proof.specs.Seen.{found, countSeen}
+use Rattle.proof.specs.Seen.{Reached, NoCount, found, countSeen}
 use Rattle.proof.specs.Stages.{formulaOf, rowOf, tagOf, ownOf, linearOf, countOf, topOf}
-use Rattle.proof.proofs.conclusion.Answers.{Reached, NoCount}
 use Rattle.proof.proofs.conclusion.Split.{count-bad}
 
 -- it came to a place of s, or its fault lies there

@@ -10,11 +10,10 @@ use Rattle.rules.specs.Layout.{headAt}
 use Rattle.rules.specs.Formula.{Formula}
 use Rattle.rules.specs.Proof.{RuleHead, aPlain, aCut, aFocus, ruleHeads, cut, focus}
 use Rattle.rules.specs.Reading.{Got, got, bad, Reader, Met, andThen, byte, tag, ruleGot, ruleOf}
-use Rattle.proof.proofs.conclusion.Answers.{Reached, To, Fault, Tag, Plain, Cut, Focus, NoTag}
-use Rattle.proof.specs.Seen.{pastTag, seen, found, carries, tagSeen}
+use Rattle.proof.specs.Seen.{Reached, To, Fault, Tag, Plain, Cut, Focus, NoTag, pastTag, seen, found, carries, tagSeen}
 use Rattle.proof.specs.Stages.{formulaOf, rowOf, indexOf, ownOf}
 use Rattle.proof.proofs.conclusion.Views.{seen-made, many-one}
-use Rattle.proof.proofs.reached.Tags.{Headed}
+use Rattle.proof.proofs.tag.Tags.{Headed}
 
 -- one formula in a row
 row-one : (L : Limits) (s : Bytes) (q : Reached) → seen (found (rowOf L 1) s q) ≡ seen (found (formulaOf L) s q)

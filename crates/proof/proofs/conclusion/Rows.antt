@@ -11,8 +11,8 @@ use Rattle.rules.specs.Reading.{Got, got, bad, Reader, andThen, pure, times, ma
 use Rattle.reader.specs.declared.class.Read.{Read}
 use Rattle.reader.specs.declared.class.Read.the-variants.{Whole, Bad}
 use Rattle.reader.specs.View.{view}
-use Rattle.proof.proofs.conclusion.Answers.{Reached, Most, Reading, To, Fault}
-use Rattle.proof.specs.Seen.{seen, found, within}
+use Rattle.reader.proofs.class.Views.{view-made}
+use Rattle.proof.specs.Seen.{Reached, Most, Reading, To, Fault, seen, found, within}
 use Rattle.proof.specs.Stages.{formulaOf, rowOf}
 use Rattle.proof.proofs.conclusion.Views.{seen-made, many-none}
 
@@ -24,10 +24,6 @@ afterRules k (Bad n p) = Fault n p
 abbrev pair : {A : Type 0} (n : ℕ) → A → Tuple A n → Tuple A (suc n)
 pair n x xs = (x, xs)
 
-made : {A B : Type 0} (g : Got ℕ A) (f : A → B) → view (andThen g (λ x u p r. got (f x) u p r)) ≡ view g
-made (got x u p r) f = refl
-made (bad n p) f = refl
-
 module _ {A : Type 0} (m : Reader ℕ A) (k : ℕ) where
   pub rows : (n u at : ℕ) (r : Bytes) → seen (many (countingFormulas m) n (record { rules = k; formulas = u }) at r) ≡ afterRules k (view (times m n u at r))
   unfolding many times
@@ -37,7 +33,7 @@ module _ {A : Type 0} (m : Reader ℕ A) (k : ℕ) where
       go : (g : Got ℕ A) → ((u at : ℕ) (r : Bytes) → seen (many (countingFormulas m) n (record { rules = k; formulas = u }) at r) ≡ afterRules k (view (times m n u at r)))
           → seen (andThen (formulaGot k g) (λ x u p r. andThen (many (countingFormulas m) n u p r) (λ xs. pure (x ∷ xs))))
           ≡ afterRules k (view (andThen g (λ x u p r. andThen (times m n u p r) (λ xs. pure (pair n x xs)))))
-      go (got x v p q) h = seen-made (many (countingFormulas m) n (record { rules = k; formulas = v }) p q) (λ xs. x ∷ xs) ∙ h v p q ∙ ap (afterRules k) (sym (made (times m n v p q) (pair n x)))
+      go (got x v p q) h = seen-made (many (countingFormulas m) n (record { rules = k; formulas = v }) p q) (λ xs. x ∷ xs) ∙ h v p q ∙ ap (afterRules k) (sym (view-made (times m n v p q) (pair n x)))
       go (bad i p) h = refl
 
 pub row-none : (s : Bytes) (most : Most) (from : Reached) (n : ℕ) → n ≡ 0 → seen (found (rowOf (within most) n) s from) ≡ To from

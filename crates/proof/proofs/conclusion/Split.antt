@@ -11,8 +11,7 @@ use Rattle.rules.specs.Proof.{Proof, proof, row}
 use Rattle.rules.specs.Reading.{Got, got, bad, Reader, Met, andThen, pure, many, byte, tag, tooMany, ruleOf, proofAt}
 use Rattle.laws.specs.reading.Holds.{told}
 use Rattle.laws.specs.reading.Steady.{steady-got}
-use Rattle.proof.proofs.conclusion.Answers.{Reached, Before, NoCount}
-use Rattle.proof.specs.Seen.{metBy, found, countSeen}
+use Rattle.proof.specs.Seen.{Reached, Before, NoCount, metBy, found, countSeen}
 use Rattle.proof.specs.Stages.{formulaOf, rowOf, tagOf, ownOf, linearOf, countOf, Top, topOf}
 use Rattle.proof.proofs.conclusion.Ways.{steady-top, Ruled, top-ruled}
 

@@ -5,8 +5,7 @@ use mathlib.Core.Path.{_≡_, refl}
 use Rattle.rules.specs.Basic.{Bytes}
 use Rattle.rules.specs.Limits.{Limits}
 use Rattle.rules.specs.Reading.{Got, got, bad, Met, andThen}
-use Rattle.proof.proofs.conclusion.Answers.{Reached, Conclusion, Fault, NoCount}
-use Rattle.proof.specs.Seen.{seen, found, countSeen}
+use Rattle.proof.specs.Seen.{Reached, Conclusion, Fault, NoCount, seen, found, countSeen}
 use Rattle.proof.specs.Stages.{ownOf, linearOf, countOf, topOf}
 use Rattle.proof.proofs.conclusion.Views.{seen-bad, Came}
 

@@ -8,8 +8,7 @@ use lib.ListN.{length, drop}
 use Rattle.rules.specs.Basic.{Bytes}
 use Rattle.rules.specs.Reading.{Got, got, bad, Reader, Met, andThen, many}
 use Rattle.laws.specs.reading.Steady.{Steady, steady-got}
-use Rattle.proof.proofs.conclusion.Answers.{Reached, To, Fault}
-use Rattle.proof.specs.Seen.{metBy, seen, found}
+use Rattle.proof.specs.Seen.{Reached, To, Fault, metBy, seen, found}
 
 -- A value made of the one read changes nothing.
 pub seen-made : {A B : Type 0} (g : Got Met A) (f : A → B) → seen (andThen g (λ x u p r. got (f x) u p r)) ≡ seen g

@@ -15,7 +15,7 @@ use Rattle.laws.specs.reading.Keeps.{Kept, Keeps, keeps-byte, keeps-byteFor, ke
 use Rattle.laws.specs.reading.Steady.{Steady, Along, along, to-steady, stands-next}
 use Rattle.laws.specs.reading.SteadyProof.{OnFormulas, keeps-part, keeps-rule, keeps-proof}
 use Rattle.proof.specs.Stages.{formulaOf, rowOf, tagOf, ownOf, linearOf, countOf, topOf}
-use Rattle.proof.proofs.reached.Tags.{Tagged, tag-holds}
+use Rattle.proof.proofs.tag.Tags.{Tagged, tag-holds}
 
 -- a tag makes T, and what keeps R keeps it
 record Begins (L : Limits) (T R : Met → ℕ → Bytes → Met → ℕ → Bytes → Type 0) : Type 0 where

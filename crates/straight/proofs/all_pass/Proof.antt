@@ -3,7 +3,8 @@ use Prim.Native.Nat.{_-_}
 use mathlib.Core.Path.{sym, _∙_}
 use native.Mathlib.Omega.{arith}
 use lib.ListN.{length}
-use Rattle.straight.proofs.StraightRows.{failed, held, Going, begin, finish, one-here, node-here, stop, ahead, few, turn}
+use borrow.Author.Tests.{not-true, not-false}
+use Rattle.straight.proofs.StraightRows.{Going, begin, finish, one-here, node-here, stop, ahead, few, turn}
 use Rattle.straight.proofs.all_pass.Statement.{statement}
 use Rattle.straight.proofs.all_pass.Tie as tie
 
@@ -20,7 +21,7 @@ passes-requires : tie.Need-passes-requires Inv-loop μ-loop
 passes-requires c κs = node-here (c .before .loop .inv) (c .loop-test .taken)
 
 returns : tie.Need-returns Inv-loop μ-loop
-returns c = stop (c .before .before .before .loop .inv) (c .before .before .loop-test .taken) (λ w t a. sym (failed _ (c .if1 .taken)) ∙ c .before .passes .ensures w t a)
+returns c = stop (c .before .before .before .loop .inv) (c .before .before .loop-test .taken) (λ w t a. sym (not-true _ (c .if1 .taken)) ∙ c .before .passes .ensures w t a)
 
 parts-at-requires : tie.Need-parts-at-requires Inv-loop μ-loop
 parts-at-requires c κs = one-here (c .before .before .before .loop .inv) (c .before .before .loop-test .taken)
@@ -37,7 +38,7 @@ loop-less c = omega (arith, ahead (c .before .before .before .before .before .lo
 loop-again : tie.Need-loop-again Inv-loop μ-loop
 loop-again c =
     turn (c .before .before .before .before .before .loop .inv) (c .before .before .before .before .loop-test .taken) _ (c .before .parts-at .ensures)
-    (λ w t a. sym (held _ (c .before .before .if1 .left)) ∙ c .before .before .before .passes .ensures w t a)
+    (λ w t a. sym (not-false _ (c .before .before .if1 .left)) ∙ c .before .before .before .passes .ensures w t a)
 
 returns-2 : tie.Need-returns-2 Inv-loop μ-loop
 returns-2 c = finish (c .before .loop .inv) (omega arith)

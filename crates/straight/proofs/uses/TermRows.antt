@@ -1,6 +1,6 @@
 -- Terms in a row, with one name in mind: a node has its own uses and binders, and then its parts take its place. Assumes nothing.
 use Prim.Native.Nat.{ℕ, _+_, _-_, _<_, _≤_}
-use mathlib.Core.Path.{_≡_, refl, ap}
+use mathlib.Core.Path.{_≡_, refl}
 use mathlib.Core.List.{List, [], _∷_, _++_, map}
 use native.Mathlib.Omega.{arith}
 use lib.ListN.{length, length-append}
@@ -9,7 +9,7 @@ use Rattle.rules.specs.Term.{Term, var, leaf, one, two, abs, both, branch, part
 use Rattle.rules.specs.Straight.{count, uses, stands}
 use Rattle.term.specs.Node.{names}
 use Rattle.term.specs.Place.{TermAt, TermsAt}
-use Rattle.term.proofs.node.Terms.{Some, some-first, some-fits, first, unrolled, alone, at-end, apart-size}
+use Rattle.term.proofs.node.Terms.{Some, some-first, first, alone, at-end, apart-size, LookIs, turned, turn-some, turn-fits}
 use Rattle.laws.specs.straight.Weights.{weigh, usesOf, standsOf, uses-weigh, stands-weigh}
 use Rattle.straight.specs.declared.uses.NodeUses.{NodeUses}
 use Rattle.straight.specs.Node.{ownVariables, ownBinders}
@@ -89,14 +89,14 @@ abbrev pub UsesAtIs : List ℕ → ℕ → Name → NodeUses → Type 0
 UsesAtIs s i x m = (t : Term) → TermAt s i t → AtNode x i t m
 
 -- the n terms at i use x so often, and have it at so many binders
-abbrev SeekIs : List ℕ → ℕ → ℕ → Name → ℕ → ℕ → Type 0
-SeekIs s i n x u v = (ts : List Term) → TermsAt s i n ts → (u ≡ usesAll x ts) × (v ≡ standsAll x ts)
+abbrev RowUses : List ℕ → ℕ → ℕ → Name → ℕ → ℕ → Type 0
+RowUses s i n x u v = (ts : List Term) → TermsAt s i n ts → (u ≡ usesAll x ts) × (v ≡ standsAll x ts)
 
 -- u uses and v binders were met up to i; whatever the rest has, the whole has that and them
 pub record Going (s : List ℕ) (at : ℕ) (x : Name) (i left u v : ℕ) : Type 0 where
   pub some : Some s i left
   pub past : at + (u + v) ≤ i
-  pub rest : (m n : ℕ) → SeekIs s i left x m n → SeekIs s at 1 x (u + m) (v + n)
+  pub rest : (m n : ℕ) → RowUses s i left x m n → RowUses s at 1 x (u + m) (v + n)
 
 pub begin : (s : List ℕ) (at : ℕ) (x : Name) → ((t : Term) × TermAt s at t) → Going s at x at 1 0 0
 begin s at x (t, w) =
@@ -110,7 +110,7 @@ module _ {s : List ℕ} {at : ℕ} {x : Name} {i left u v : ℕ} (g : Going s at
   pub finish : left ≡ 0 → (t : Term) → TermAt s at t → InTerm x t (record { uses = u; stands = v })
   finish z t w = let e = g .rest 0 0 none (t ∷ []) (alone s at t w) in record { uses = omega (arith, e .0); stands = omega (arith, e .1) }
     where
-      none : SeekIs s i left x 0 0
+      none : RowUses s i left x 0 0
       none [] w = (refl, refl)
       none (t ∷ ts) w = absurd (omega (arith, w .many))
 
@@ -119,14 +119,8 @@ module _ {s : List ℕ} {at : ℕ} {x : Name} {i left u v : ℕ} (g : Going s at
     one-here = some-first s i left l (g .some)
 
     module _ (m : NodeUses) (f : UsesAtIs s i x m) where
-      turned : (t : Term) (ts : List Term) → TermsAt s i left (t ∷ ts) → TermsAt s (m .start) (left - 1 + m .parts) (parts t ++ ts)
-      turned t ts w =
-          let e = f t (first s i left t ts w) in
-          unrolled s i left t ts w (m .start) (left - 1 + m .parts) (e .start) (ap (λ (k : ℕ). left - 1 + k) (e .parts))
-
-      some-next : Some s i left → Some s (m .start) (left - 1 + m .parts)
-      some-next ([], w) = absurd (omega (arith, w .many))
-      some-next (t ∷ ts, w) = (parts t ++ ts, turned t ts w)
+      look : LookIs s i (m .start) (m .parts)
+      look t w = let e = f t w in (e .start, e .parts)
 
       -- what the node has is less than its head is long, and the head is within the list
       pub room : (i + (m .uses + m .stands) < m .start) × (m .start ≤ length s)
@@ -138,12 +132,12 @@ module _ {s : List ℕ} {at : ℕ} {x : Name} {i left u v : ℕ} (g : Going s at
           )
 
       pub few : left - 1 + m .parts ≤ length s
-      few = some-fits s (m .start) (left - 1 + m .parts) (some-next (g .some)) .0
+      few = turn-fits s i left (m .start) (m .parts) look l (g .some)
 
-      so-rest : (a b : ℕ) → SeekIs s (m .start) (left - 1 + m .parts) x a b → SeekIs s i left x (m .uses + a) (m .stands + b)
+      so-rest : (a b : ℕ) → RowUses s (m .start) (left - 1 + m .parts) x a b → RowUses s i left x (m .uses + a) (m .stands + b)
       so-rest a b k [] w = absurd (omega (arith, w .many))
       so-rest a b k (t ∷ ts) w =
-          let d = k (parts t ++ ts) (turned t ts w) in
+          let d = k (parts t ++ ts) (turned s i left (m .start) (m .parts) look l t ts w) in
           let e = f t (first s i left t ts w) in (
             omega (arith, d .0, e .uses, uses-parts x t, uses-append x (parts t) ts),
             omega (arith, d .1, e .stands, stands-parts x t, stands-append x (parts t) ts),
@@ -152,7 +146,7 @@ module _ {s : List ℕ} {at : ℕ} {x : Name} {i left u v : ℕ} (g : Going s at
       pub turn : Going s at x (m .start) (left - 1 + m .parts) (u + m .uses) (v + m .stands)
       turn =
           record {
-            some = some-next (g .some);
+            some = turn-some s i left (m .start) (m .parts) look l (g .some);
             past = omega (arith, g .past, room .0);
             rest = λ a b k ts w. let e = g .rest (m .uses + a) (m .stands + b) (so-rest a b k) ts w in (omega (arith, e .0), omega (arith, e .1));
           }

@@ -172,19 +172,27 @@ starts s i q h e f t w = omega (arith, f (names t) (rw (e ∙ at-count-names s i
 
 -- ---- a turn of a loop over terms in a row: the first one's parts are put in its place
 
-module _ (s : List ℕ) (i n q p h : ℕ) (l : 0 < n) (eq : q ≡ namesAfter (getD s i 0)) (ep : p ≡ partsAfter (getD s i 0)) (eh : AfterIs s (i + 1) q h) where
-  turned : (t : Term) (ts : List Term) → TermsAt s i n (t ∷ ts) → TermsAt s h (n - 1 + p) (parts t ++ ts)
-  turned t ts w =
-      let a = first s i n t ts w in
-      unrolled s i n t ts w h (n - 1 + p) (starts s i q h eq eh t a) (ap (λ (k : ℕ). n - 1 + k) (ep ∙ at-count-parts s i t a))
+-- what a look at the term at i tells: its parts start at h, and there are p of them
+abbrev pub LookIs : List ℕ → (i h p : ℕ) → Type 0
+LookIs s i h p = (t : Term) → TermAt s i t → (h ≡ i + length (head t)) × (p ≡ length (parts t))
+
+pub look-is : (s : List ℕ) (i q p h : ℕ) → q ≡ namesAfter (getD s i 0) → p ≡ partsAfter (getD s i 0) → AfterIs s (i + 1) q h → LookIs s i h p
+look-is s i q p h eq ep eh t w = (starts s i q h eq eh t w, ep ∙ at-count-parts s i t w)
+
+module _ (s : List ℕ) (i n h p : ℕ) (f : LookIs s i h p) (l : 0 < n) where
+  pub turned : (t : Term) (ts : List Term) → TermsAt s i n (t ∷ ts) → TermsAt s h (n - 1 + p) (parts t ++ ts)
+  turned t ts w = let e = f t (first s i n t ts w) in unrolled s i n t ts w h (n - 1 + p) (e .0) (ap (λ (k : ℕ). n - 1 + k) (e .1))
 
   pub turn-some : Some s i n → Some s h (n - 1 + p)
   turn-some ([], w) = absurd (omega (arith, w .many))
   turn-some (t ∷ ts, w) = (parts t ++ ts, turned t ts w)
 
+  pub turn-fits : Some s i n → n - 1 + p ≤ length s
+  turn-fits w = some-fits s h (n - 1 + p) (turn-some w) .0
+
   pub turn-ahead : Some s i n → (i < length s) × (i < h)
   turn-ahead ([], w) = absurd (omega (arith, w .many))
-  turn-ahead (t ∷ ts, w) = let a = first s i n t ts w in (at-inside s i t a, omega (arith, starts s i q h eq eh t a))
+  turn-ahead (t ∷ ts, w) = let a = first s i n t ts w in (at-inside s i t a, omega (arith, f t a .0))
 
   turn-long : (t : Term) (ts : List Term) → length (encode t ++ encodeAll ts) ≡ length (head t) + length (encodeAll (parts t ++ ts))
   turn-long t ts =
@@ -197,5 +205,5 @@ module _ (s : List ℕ) (i n q p h : ℕ) (l : 0 < n) (eq : q ≡ namesAfter (ge
       )
 
   pub turn-skip : (r : ℕ) → SkipIs s h (n - 1 + p) r → SkipIs s i n r
-  turn-skip r f [] w = absurd (omega (arith, w .many))
-  turn-skip r f (t ∷ ts) w = omega (arith, f (parts t ++ ts) (turned t ts w), starts s i q h eq eh t (first s i n t ts w), turn-long t ts)
+  turn-skip r g [] w = absurd (omega (arith, w .many))
+  turn-skip r g (t ∷ ts) w = omega (arith, g (parts t ++ ts) (turned t ts w), f t (first s i n t ts w) .0, turn-long t ts)

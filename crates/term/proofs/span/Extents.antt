@@ -1,16 +1,16 @@
 -- Nodes of terms in a row: a node counts one, and then its parts take its place. Assumes nothing.
 use Prim.Native.Nat.{ℕ, _+_, _-_, _<_, _≤_}
-use mathlib.Core.Path.{_≡_, refl, ap, _∙_}
+use mathlib.Core.Path.{_≡_, refl, ap}
 use mathlib.Core.List.{List, [], _∷_, _++_, append-nil}
 use native.Mathlib.Omega.{arith}
-use lib.ListN.{length, getD, length-append}
+use lib.ListN.{length}
 use Rattle.rules.specs.Name.{Name}
-use Rattle.rules.specs.Term.{Term, one, two, encode, nodes, parts}
+use Rattle.rules.specs.Term.{Term, encode, nodes, parts}
 use Rattle.laws.specs.size.Parts.{nodesOfAll, parts-nodes}
-use Rattle.term.specs.Node.{encodeAll, namesAfter, partsAfter}
+use Rattle.term.specs.Node.{encodeAll}
 use Rattle.term.specs.Place.{TermAt, TermsAt, NameAt, NamesAt}
 use Rattle.term.proofs.node.Names.{AfterIs, first-name, other-names, name-end}
-use Rattle.term.proofs.node.Terms.{Some, apart-size, encodeAll-append, at-count-parts, first, others, unrolled, starts, alone}
+use Rattle.term.proofs.node.Terms.{Some, first, others, alone, LookIs, turned, turn-some, turn-ahead, turn-skip}
 use Rattle.term.specs.declared.span.Extent.{Extent}
 use Rattle.term.specs.Measured.{Measured, MeasuredTwo, Named}
 
@@ -40,42 +40,19 @@ done s at i left count g z t w =
     none [] u = (omega arith, refl)
     none (x ∷ ts) u = absurd (omega (arith, u .many))
 
-module _ (s : List ℕ) (at i n count q p h : ℕ) (g : Going s at i n count) (l : 0 < n) (eq : q ≡ namesAfter (getD s i 0)) (ep : p ≡ partsAfter (getD s i 0)) (eh : AfterIs s (i + 1) q h) where
-  turned : (t : Term) (ts : List Term) → TermsAt s i n (t ∷ ts) → TermsAt s h (n - 1 + p) (parts t ++ ts)
-  turned t ts w =
-      let a = first s i n t ts w in
-      unrolled s i n t ts w h (n - 1 + p) (starts s i q h eq eh t a) (ap (λ (k : ℕ). n - 1 + k) (ep ∙ at-count-parts s i t a))
-
-  some-next : Some s i n → Some s h (n - 1 + p)
-  some-next ([], w) = absurd (omega (arith, w .many))
-  some-next (t ∷ ts, w) = (parts t ++ ts, turned t ts w)
-
-  ahead : Some s i n → i < h
-  ahead ([], w) = absurd (omega (arith, w .many))
-  ahead (t ∷ ts, w) = omega (arith, starts s i q h eq eh t (first s i n t ts w))
-
+module _ (s : List ℕ) (at i n count h p : ℕ) (g : Going s at i n count) (f : LookIs s i h p) (l : 0 < n) where
   so-rest : (r m : ℕ) → SpanIs s h (n - 1 + p) r m → SpanIs s i n r (1 + m)
-  so-rest r m f [] w = absurd (omega (arith, w .many))
-  so-rest r m f (t ∷ ts) w =
-      let e = f (parts t ++ ts) (turned t ts w) in (
-        omega (
-          arith,
-          e .0,
-          starts s i q h eq eh t (first s i n t ts w),
-          length-append (encode t) (encodeAll ts),
-          apart-size t,
-          ap (λ (z : List ℕ). length z) (encodeAll-append (parts t) ts),
-          length-append (encodeAll (parts t)) (encodeAll ts),
-        ),
-        omega (arith, e .1, parts-nodes t, nodes-append (parts t) ts),
-      )
+  so-rest r m k [] w = absurd (omega (arith, w .many))
+  so-rest r m k (t ∷ ts) w =
+      let e = k (parts t ++ ts) (turned s i n h p f l t ts w) in
+      (turn-skip s i n h p f l r (λ us u. k us u .0) (t ∷ ts) w, omega (arith, e .1, parts-nodes t, nodes-append (parts t) ts))
 
   pub turn : Going s at h (n - 1 + p) (count + 1)
   turn =
       record {
-        some = some-next (g .some);
-        past = omega (arith, g .past, ahead (g .some));
-        rest = λ r m f ts w. let e = g .rest r (1 + m) (so-rest r m f) ts w in (e .0, omega (arith, e .1));
+        some = turn-some s i n h p f l (g .some);
+        past = omega (arith, g .past, turn-ahead s i n h p f l (g .some));
+        rest = λ r m k ts w. let e = g .rest r (1 + m) (so-rest r m k) ts w in (e .0, omega (arith, e .1));
       }
 
 -- ---- two terms in a row

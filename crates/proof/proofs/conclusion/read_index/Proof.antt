@@ -1,9 +1,8 @@
 -- `conclusion::read_index` meets its contract: each return is a case of what reading two bytes finds. Assumes nothing.
 use native.Mathlib.Omega.{arith}
 use mathlib.Core.Path.{sym, ap, _∙_}
-use Rattle.proof.proofs.conclusion.Answers.{To, Fault}
-use Rattle.proof.specs.Seen.{pastByte}
-use Rattle.proof.proofs.reached.Bytes.{index-out, index-cut, index-in}
+use Rattle.proof.specs.Seen.{To, Fault, pastByte}
+use Rattle.proof.proofs.conclusion.Bytes.{index-out, index-cut, index-in}
 use borrow.Author.Needs.{needs}
 use Rattle.proof.proofs.conclusion.read_index.Statement.{statement}
 use Rattle.proof.proofs.conclusion.read_index.Tie as tie

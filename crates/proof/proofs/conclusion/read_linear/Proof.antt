@@ -4,7 +4,7 @@ use mathlib.Core.Path.{sym, ap, _∙_}
 use lib.ListN.{getD}
 use Rattle.proof.specs.Seen.{seen, found, within}
 use Rattle.proof.specs.Stages.{rowOf}
-use Rattle.proof.proofs.reached.Bytes.{linear-out, linear-in}
+use Rattle.proof.proofs.conclusion.Bytes.{linear-out, linear-in}
 use borrow.Author.Needs.{needs}
 use Rattle.proof.proofs.conclusion.read_linear.Statement.{statement}
 use Rattle.proof.proofs.conclusion.read_linear.Tie as tie

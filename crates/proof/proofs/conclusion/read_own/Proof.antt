@@ -1,10 +1,9 @@
 -- `conclusion::read_own` meets its contract: a case for each thing that a rule may carry. Assumes nothing.
 use native.Mathlib.Omega.{arith}
 use mathlib.Core.Path.{refl, sym, ap, _∙_}
-use Rattle.proof.proofs.conclusion.Answers.{To, Plain, Cut, Focus}
-use Rattle.proof.specs.Seen.{seen, found, within}
+use Rattle.proof.specs.Seen.{To, Plain, Cut, Focus, seen, found, within}
 use Rattle.proof.specs.Stages.{rowOf, indexOf}
-use Rattle.proof.proofs.reached.Tags.{headed}
+use Rattle.proof.proofs.tag.Tags.{headed}
 use Rattle.proof.proofs.conclusion.Owns.{own-off, own-plain, own-cut, own-focus}
 use borrow.Author.Needs.{needs}
 use Rattle.proof.proofs.conclusion.read_own.Statement.{statement}

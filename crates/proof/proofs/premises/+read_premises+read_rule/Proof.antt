@@ -19,7 +19,7 @@ use Rattle.proof.proofs.premises.read_rule.Kinds as read-rule-kinds
 use Rattle.proof.proofs.premises.+read_premises+read_rule.Lts-read_rule as read-rule-lts
 use Rattle.proof.proofs.conclusion.read_conclusion.Reads as read-conclusion-reads
 use Rattle.proof.proofs.one_number.come_to.Reads as come-to-reads
-use Rattle.proof.proofs.one_number.fault.Reads as fault-reads
+use Rattle.proof.proofs.one_number.fault_at.Reads as fault-at-reads
 use Rattle.proof.proofs.one_number.told.Reads as told-reads
 use Rattle.proof.proofs.premises.+read_premises+read_rule.{statement}
 use Rattle.proof.proofs.premises.+read_premises+read_rule.Tie.{close}
@@ -60,7 +60,7 @@ abbrev read-premises-claims : ℕ → read-premises-lts.Claims
 read-premises-claims t = (come-to-reads.Asked, come-to-reads.Learnt, read-rule-below t, read-rule.Post, told-reads.Asked, told-reads.Learnt)
 
 abbrev read-rule-claims : ℕ → read-rule-lts.Claims
-read-rule-claims t = (read-conclusion-reads.Asked, read-conclusion-reads.Learnt, read-premises-below t, read-premises.Post, fault-reads.Asked, fault-reads.Learnt)
+read-rule-claims t = (read-conclusion-reads.Asked, read-conclusion-reads.Learnt, read-premises-below t, read-premises.Post, fault-at-reads.Asked, fault-at-reads.Learnt)
 
 read-premises-come-to-requires : (t : ℕ) → read-premises-lts.Need-come-to-requires (read-premises-claims t) (read-premises-at t) read-premises.Post read-premises-Inv-loop read-premises-μ-loop
 read-premises-come-to-requires t c κs = let f = c .before .pre .1 .1 in (omega (arith, f .inside, f .short), omega (arith, f .ruled), omega (arith, f .formed))
@@ -119,14 +119,14 @@ read-rule-read-premises-requires t c κs =
 read-rule-enum-known-number : (t : ℕ) → read-rule-lts.Need-enum-known-number (read-rule-claims t) (read-rule-at t) read-rule.Post
 read-rule-enum-known-number t c = search needs
 
-read-rule-fault-requires : (t : ℕ) → read-rule-lts.Need-fault-requires (read-rule-claims t) (read-rule-at t) read-rule.Post
-read-rule-fault-requires t c κs = let a = c .before .before .before .before .before .args in let k = c .before .before .before .read-conclusion in fault-near (a .s .now .now) (reachedAt (a .next) (a .rules) (a .formulas)) (c .before .before .before .before .before .pre .1 .1) (k .result) (k .ensures) (c .before .number .given .1)
+read-rule-fault-at-requires : (t : ℕ) → read-rule-lts.Need-fault-at-requires (read-rule-claims t) (read-rule-at t) read-rule.Post
+read-rule-fault-at-requires t c κs = let a = c .before .before .before .before .before .args in let k = c .before .before .before .read-conclusion in fault-near (a .s .now .now) (reachedAt (a .next) (a .rules) (a .formulas)) (c .before .before .before .before .before .pre .1 .1) (k .result) (k .ensures) (c .before .number .given .1)
 
 read-rule-returns : (t : ℕ) → read-rule-lts.Need-returns (read-rule-claims t) (read-rule-at t) read-rule.Post
 read-rule-returns t c = let a = c .before .before .before .before .before .before .args in let k = c .before .before .before .before .read-conclusion in rule-on (a .s .now .now) (reachedAt (a .next) (a .rules) (a .formulas)) (c .before .before .before .before .before .before .pre .1 .1) (k .result) (k .ensures) (c .before .before .reached .given .1) (told (c .read-premises .result)) (c .read-premises .ensures)
 
 read-rule-returns-2 : (t : ℕ) → read-rule-lts.Need-returns-2 (read-rule-claims t) (read-rule-at t) read-rule.Post
-read-rule-returns-2 t c = let a = c .before .before .before .before .before .before .args in let k = c .before .before .before .before .read-conclusion in λ d h. c .fault .ensures ∙ rule-off (a .s .now .now) (reachedAt (a .next) (a .rules) (a .formulas)) (c .before .before .before .before .before .before .pre .1 .1) (k .result) (k .ensures) (c .before .before .number .given .1) d h
+read-rule-returns-2 t c = let a = c .before .before .before .before .before .before .args in let k = c .before .before .before .before .read-conclusion in λ d h. c .fault-at .ensures ∙ rule-off (a .s .now .now) (reachedAt (a .next) (a .rules) (a .formulas)) (c .before .before .before .before .before .before .pre .1 .1) (k .result) (k .ensures) (c .before .before .number .given .1) d h
 
 pub +read-premises+read-rule-spec : {M : Type 1} → statement M
 +read-premises+read-rule-spec = close μ-read-premises μ-read-rule (λ t. read-premises-lts.spec (read-premises-claims t) (read-premises-at t)
@@ -152,6 +152,6 @@ pub +read-premises+read-rule-spec : {M : Type 1} → statement M
     (read-rule-enum-known-reached t)
     (read-rule-read-premises-requires t)
     (read-rule-enum-known-number t)
-    (read-rule-fault-requires t)
+    (read-rule-fault-at-requires t)
     (read-rule-returns t)
     (read-rule-returns-2 t)

@@ -1,7 +1,7 @@
 -- `tag::carried_by` meets its contract: its tests are those that were compared with the list of heads at each byte. Assumes nothing.
 use mathlib.Core.Path.{sym, _∙_}
 use borrow.Author.Tests.{lt-ltb, le-ltb, ne-eqb}
-use Rattle.proof.proofs.reached.Tags.{carried-is}
+use Rattle.proof.proofs.tag.Tags.{carried-is}
 use Rattle.proof.proofs.tag.carried_by.Statement.{statement}
 use Rattle.proof.proofs.tag.carried_by.Tie as tie
 

@@ -2,7 +2,7 @@
 use native.Mathlib.Omega.{arith}
 use mathlib.Core.Path.{sym, ap, _∙_}
 use borrow.Author.Tests.{ne-eqb}
-use Rattle.proof.proofs.reached.Tags.{shown, tag-out, tag-full, tag-is}
+use Rattle.proof.proofs.tag.Tags.{shown, tag-out, tag-full, tag-is}
 use borrow.Author.Needs.{needs}
 use Rattle.proof.proofs.tag.read_tag.Statement.{statement}
 use Rattle.proof.proofs.tag.read_tag.Tie as tie

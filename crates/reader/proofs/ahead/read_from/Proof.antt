@@ -21,8 +21,8 @@ returns c = let a = c .before .before .before .args in λ d h. c .bad .ensures �
 room-for-requires : tie.Need-room-for-requires
 room-for-requires c κs = search needs
 
-end-of-requires : tie.Need-end-of-requires
-end-of-requires c κs = search needs
+end-within-requires : tie.Need-end-within-requires
+end-within-requires c κs = search needs
 
 pass-ones-requires : tie.Need-pass-ones-requires
 pass-ones-requires c κs = search needs
@@ -42,7 +42,7 @@ returns-2 c =
     let F = layoutOf (a .form) in
     λ d h.
     c .read-row .ensures
-    ∙ sym (c .before .pass-ones .ensures .2 (a .most) (a .used) (λ q. omega (arith, c .before .pass-ones .ensures .1, c .before .before .end-of .ensures .1, c .before .before .before .room-for .ensures)))
+    ∙ sym (c .before .pass-ones .ensures .2 (a .most) (a .used) (λ q. omega (arith, c .before .pass-ones .ensures .1, c .before .before .end-within .ensures .1, c .before .before .before .room-for .ensures)))
     ∙ sym (rest-is F (a .most) (a .s .now) 1 (a .used) (a .at))
     ∙ sym (rest-one F (a .most) (a .s .now) (a .used) (a .at))
     ∙ ap view (same F (a .most) (a .most) d (a .used) (a .at) (drop (a .at) (a .s .now)) (omega arith) h)
@@ -54,7 +54,7 @@ read-from-spec =
     bad-requires
     returns
     room-for-requires
-    end-of-requires
+    end-within-requires
     pass-ones-requires
     sub-read-row
     add-read-row

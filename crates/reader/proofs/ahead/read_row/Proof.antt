@@ -11,11 +11,11 @@ read-row-requires c κs = search needs
 returns : tie.Need-returns
 returns c = search needs
 
-end-of-requires : tie.Need-end-of-requires
-end-of-requires c κs = search needs
+end-within-requires : tie.Need-end-within-requires
+end-within-requires c κs = search needs
 
 go-ahead-requires : tie.Need-go-ahead-requires
-go-ahead-requires c κs = (c .before .before .before .pre .0, omega (arith, c .end-of .ensures, c .before .before .before .pre .1))
+go-ahead-requires c κs = (c .before .before .before .pre .0, omega (arith, c .end-within .ensures, c .before .before .before .pre .1))
 
 room-for-requires : tie.Need-room-for-requires
 room-for-requires c κs = search needs
@@ -48,7 +48,7 @@ read-row-spec =
     (tie.spec
     read-row-requires
     returns
-    end-of-requires
+    end-within-requires
     go-ahead-requires
     room-for-requires
     holds-requires

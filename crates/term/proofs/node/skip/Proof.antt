@@ -2,7 +2,7 @@
 use Prim.Native.Nat.{ℕ, _-_}
 use native.Mathlib.Omega.{arith}
 use lib.ListN.{length}
-use Rattle.term.proofs.node.Terms.{Some, SkipIs, some-first, some-fits, skip-none, at-inside, at-small, some-names, turn-some, turn-ahead, turn-skip}
+use Rattle.term.proofs.node.Terms.{Some, SkipIs, some-first, some-fits, skip-none, at-inside, at-small, some-names, look-is, turn-some, turn-ahead, turn-skip}
 use Rattle.term.proofs.node.skip.Statement.{statement}
 use Rattle.term.proofs.node.skip.Tie as tie
 
@@ -41,15 +41,13 @@ after-names-requires c κs = let l = c .before .before .before .before .loop in 
 
 loop-less : tie.Need-loop-less Inv-loop μ-loop
 loop-less c = let l = c .before .before .before .before .before .loop in
-    omega (arith, turn-ahead _ _ _ _ _ _ (c .before .before .before .before .loop-test .taken) (c .before .names-of .ensures) (c .before .before .parts-of .ensures) (c .after-names .ensures) (l .inv .0))
+    omega (arith, turn-ahead _ _ _ _ _ (look-is _ _ _ _ _ (c .before .names-of .ensures) (c .before .before .parts-of .ensures) (c .after-names .ensures)) (c .before .before .before .before .loop-test .taken) (l .inv .0))
 
 loop-again : tie.Need-loop-again Inv-loop μ-loop
 loop-again c = let l = c .before .before .before .before .before .loop in
     let t = c .before .before .before .before .loop-test .taken in
-    let q = c .before .names-of .ensures in
-    let p = c .before .before .parts-of .ensures in
-    let h = c .after-names .ensures in
-    (turn-some _ _ _ _ _ _ t q p h (l .inv .0), λ r f. l .inv .1 r (turn-skip _ _ _ _ _ _ t q p h r f))
+    let a = look-is _ _ _ _ _ (c .before .names-of .ensures) (c .before .before .parts-of .ensures) (c .after-names .ensures) in
+    (turn-some _ _ _ _ _ a t (l .inv .0), λ r f. l .inv .1 r (turn-skip _ _ _ _ _ a t r f))
 
 returns : tie.Need-returns Inv-loop μ-loop
 returns c = let l = c .before .loop in l .inv .1 (l .i) (skip-none _ _ _ (omega arith))

@@ -3,7 +3,7 @@
 use Prim.Native.Nat.{_-_}
 use native.Mathlib.Omega.{arith}
 use lib.ListN.{length}
-use Rattle.term.proofs.node.Terms.{some-first, some-fits, at-inside, at-small, some-names, turn-ahead}
+use Rattle.term.proofs.node.Terms.{some-first, some-fits, at-inside, at-small, some-names, look-is, turn-ahead}
 use Rattle.term.proofs.span.Extents.{Going, begin, done, turn}
 use Rattle.term.proofs.span.span.Statement.{statement}
 use Rattle.term.proofs.span.span.Tie as tie
@@ -45,10 +45,10 @@ add-count : tie.Need-add-count Inv-loop μ-loop
 add-count c = let a = some-first _ _ _ (c .before .before .before .before .loop-test .taken) (c .before .before .before .before .before .loop .inv .some) in omega (arith, at-inside _ _ (a .0) (a .1), c .before .before .before .before .before .loop .inv .past)
 
 loop-less : tie.Need-loop-less Inv-loop μ-loop
-loop-less c = omega (arith, turn-ahead _ _ _ _ _ _ (c .before .before .before .before .loop-test .taken) (c .before .names-of .ensures) (c .before .before .parts-of .ensures) (c .after-names .ensures) (c .before .before .before .before .before .loop .inv .some))
+loop-less c = omega (arith, turn-ahead _ _ _ _ _ (look-is _ _ _ _ _ (c .before .names-of .ensures) (c .before .before .parts-of .ensures) (c .after-names .ensures)) (c .before .before .before .before .loop-test .taken) (c .before .before .before .before .before .loop .inv .some))
 
 loop-again : tie.Need-loop-again Inv-loop μ-loop
-loop-again c = turn _ _ _ _ _ _ _ _ (c .before .before .before .before .before .loop .inv) (c .before .before .before .before .loop-test .taken) (c .before .names-of .ensures) (c .before .before .parts-of .ensures) (c .after-names .ensures)
+loop-again c = turn _ _ _ _ _ _ _ (c .before .before .before .before .before .loop .inv) (look-is _ _ _ _ _ (c .before .names-of .ensures) (c .before .before .parts-of .ensures) (c .after-names .ensures)) (c .before .before .before .before .loop-test .taken)
 
 returns : tie.Need-returns Inv-loop μ-loop
 returns c = done _ _ _ _ _ (c .before .loop .inv) (omega arith)

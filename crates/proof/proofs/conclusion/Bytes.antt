@@ -9,7 +9,7 @@ use Rattle.rules.specs.Limits.{Limits}
 use Rattle.rules.specs.Reading.{got, bad, byte, byteFor}
 use Rattle.proof.specs.Seen.{Reached, To, Fault, Before, NoCount, metBy, pastByte, seen, found, countSeen}
 use Rattle.proof.specs.Stages.{rowOf, indexOf, linearOf, countOf}
-use Rattle.proof.proofs.reached.Places.{rest-in, rest-out}
+use Rattle.reader.proofs.class.Views.{rest-in, rest-out}
 
 module _ (s : Bytes) (q : Reached) where
   pub byte-out : length s ≤ q .next → found byte s q ≡ bad 3 (q .next)

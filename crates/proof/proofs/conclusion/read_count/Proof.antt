@@ -1,12 +1,12 @@
--- `count::read_count` meets its contract: each return is a case of what reading the count finds. Assumes nothing.
+-- `conclusion::read_count` meets its contract: each return is a case of what reading the count finds. Assumes nothing.
 use native.Mathlib.Omega.{arith}
 use mathlib.Core.Path.{sym, ap, _∙_}
 use lib.ListN.{getD}
 use Rattle.proof.specs.Seen.{Before}
-use Rattle.proof.proofs.reached.Bytes.{count-out, count-over, count-in}
+use Rattle.proof.proofs.conclusion.Bytes.{count-out, count-over, count-in}
 use borrow.Author.Needs.{needs}
-use Rattle.proof.proofs.count.read_count.Statement.{statement}
-use Rattle.proof.proofs.count.read_count.Tie as tie
+use Rattle.proof.proofs.conclusion.read_count.Statement.{statement}
+use Rattle.proof.proofs.conclusion.read_count.Tie as tie
 
 returns : tie.Need-returns
 returns c = let a = c .before .before .before .args in sym (count-out (a .s .now) (a .from) (omega arith))

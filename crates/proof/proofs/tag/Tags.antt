@@ -16,7 +16,7 @@ use Rattle.laws.specs.free.Same.{both-true}
 use Rattle.laws.specs.reading.Holds.{Holds, chosen, told as read}
 use Rattle.laws.specs.reading.Steady.{steady-got, steady-tag}
 use Rattle.proof.specs.Seen.{Tag, Plain, Cut, Focus, NoTag, carries, carriedBy, tagSeen}
-use Rattle.proof.proofs.reached.Places.{rest-in, rest-out}
+use Rattle.reader.proofs.class.Views.{rest-in, rest-out}
 
 module _ (f : ℕ → Bool) where
   abbrev allBelow : ℕ → Bool
