@@ -1,35 +1,22 @@
 -- What reading a rule's tag finds, by the tests that the code makes: one test at each byte, which antt computes, says what a tag carries.
 -- Assumes nothing.
-use Prim.Native.Nat.{ℕ, zero, suc, _+_, _<_, _≤_}
+use Prim.Native.Nat.{ℕ, _+_, _<_, _≤_}
 use native.Mathlib.Omega.{arith}
 use mathlib.Core.Path.{_≡_, refl, sym, ap, _∙_}
-use mathlib.Core.Bool.{Bool, true, false, _&&_}
+use mathlib.Core.Bool.{Bool, true, false}
 use mathlib.Core.List.{[], _∷_}
 use mathlib.Core.Option.{Option, none, some}
 use lib.ListN.{length, getD, drop}
-use borrow.Author.Tests.{lt-ltb, le-ltb, ltb-true, eqb-true, eqb-false}
+use borrow.Author.Tests.{lt-ltb, le-ltb, ltb-true, eqb-true}
 use Rattle.rules.specs.Basic.{Bytes, if_then_else_, _<?_, _==_}
 use Rattle.rules.specs.Layout.{headAt}
 use Rattle.rules.specs.Proof.{RuleHead, aPlain, aCut, aFocus, ruleHeads}
 use Rattle.rules.specs.Reading.{Got, got, bad, byte, listed, tag}
-use Rattle.laws.specs.free.Same.{both-true}
+use Rattle.laws.specs.Below.{below}
 use Rattle.laws.specs.reading.Holds.{Holds, chosen, told as read}
 use Rattle.laws.specs.reading.Steady.{steady-got, steady-tag}
 use Rattle.proof.specs.Seen.{Tag, Plain, Cut, Focus, NoTag, carries, carriedBy, tagSeen}
 use Rattle.reader.proofs.class.Views.{rest-in, rest-out}
-
-module _ (f : ℕ → Bool) where
-  abbrev allBelow : ℕ → Bool
-  allBelow zero = true
-  allBelow (suc n) = f n && allBelow n
-
-  below : (n : ℕ) → allBelow n ≡ true → (k : ℕ) → k < n → f k ≡ true
-  below zero e k h = absurd (omega arith)
-  below (suc n) e k h = go (k == n) refl (below n (both-true (f n) (allBelow n) e .1) k)
-    where
-      go : (b : Bool) → (k == n) ≡ b → (k < n → f k ≡ true) → f k ≡ true
-      go true q g = rw (eqb-true k n q) (both-true (f n) (allBelow n) e .0)
-      go false q g = g (omega (arith, eqb-false k n q))
 
 -- what a tag carries, by the tests of the code
 abbrev pub carriedTests : ℕ → ℕ
