@@ -2,12 +2,12 @@
 use crate::check::CHECK_AT;
 use crate::check::check_of;
 use crate::check::zero_from;
+use reader::refused;
 use rules::Answer;
 use rules::BLOCK_BYTES;
 use rules::BLOCK_CONTENT;
 use rules::Kind;
 use rules::MOST_BYTES;
-use rules::Refusal;
 ghost use mathlib.Core.Path.{_≡_};
 ghost use Prim.Native.Nat.{_+_, _≤_, _<_};
 ghost use lib.ListN.{length};
@@ -100,18 +100,7 @@ pub fn open_block(kind: Kind, file: &[u8], number: usize, block: &[u8]) -> Answe
     let head = head_wrong(kind, file, number, block);
     let fault = first_fault(sum, head, !clean);
     if fault != 0 {
-        return refused(fault, number);
+        return refused(fault, number, 1);
     }
     Answer::Good(used)
-}
-
-// A refusal that is about the one input.
-pub fn refused(number: u8, place: usize) -> Answer
-    ensures { λ r. ⌜ r ≡ Answer.Refused (record { number = number; place = place; input = 1 }) ⌝ }
-{
-    Answer::Refused(Refusal {
-        number,
-        place,
-        input: 1,
-    })
 }

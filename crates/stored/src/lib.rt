@@ -1,10 +1,10 @@
 // The stored form: a term or a proof as blocks, each with its check.
-use block::refused;
 use blocks::open_blocks;
 use blocks::put_blocks;
 use buffer::run::clear;
 use buffer::run::copy;
 use proof::proof_input;
+use reader::refused;
 use reader::term_input;
 use rules::Answer;
 use rules::BLOCK_BYTES;
@@ -97,7 +97,7 @@ pub fn load(kind: Kind, file: &[u8], out: &mut [u8]) -> Answer
         return Answer::Refused(Refusal::of_no_input(1));
     }
     if size_wrong(file.len()) {
-        return refused(10, 0);
+        return refused(10, 0, 1);
     }
     let mut content = [0u8; GATHER_ROOM];
     match open_blocks(kind, file, &mut content) {
