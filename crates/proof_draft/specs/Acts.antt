@@ -9,7 +9,7 @@ use Rattle.rules.specs.Formula.{Formula}
 use Rattle.rules.specs.Term.{leaf, Leaf, unit, trivial}
 use Rattle.rules.specs.Proof.{Proof, cut}
 use Rattle.rules.specs.Extraction.{terms, Entries, axiomName, identity, extract}
-use Rattle.draft.specs.Made.{made}
+use Rattle.draft.specs.Made.{over}
 use Rattle.proof.specs.Shape.{ruleOf, linearOf, premisesOf}
 use Rattle.proof.specs.declared.rule.Looked.{Looked}
 use Rattle.proof_draft.specs.Walk.{overFirst, pairOf, cutOf}
@@ -69,7 +69,7 @@ pub record Leaves (p : Proof) (i : ℕ) : Type 0 where
 
 pub record Bares (p : Proof) (k : ℕ) : Type 0 where
   pub none : premisesOf p ≡ []
-  pub is : (s : Bytes) (es : Entries) (n : ℕ) → extract terms p es n ≡ (made s k (leaf unit) (leaf unit) 0 0, n)
+  pub is : (s : Bytes) (es : Entries) (n : ℕ) → extract terms p es n ≡ (over s k 0 (leaf unit), n)
 
 pub record Names (p : Proof) : Type 0 where
   pub is : (es : Entries) (n : ℕ) → extract terms p es n ≡ identity terms (axiomName es (linearOf p)) n

@@ -24,7 +24,7 @@ pub const PAIR: usize = 4;
 pub const CUT: usize = 5;
 
 // The two parts with which a draft begins.
-const UNIT: usize = 0;
+pub const UNIT: usize = 0;
 
 const TRIVIAL: usize = 1;
 

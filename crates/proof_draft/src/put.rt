@@ -5,10 +5,10 @@ ghost use Prim.Native.Nat.{ℕ, _+_, _^_, _<_};
 ghost use lib.ListN.{getD};
 ghost use Rattle.rules.specs.Basic.{Bytes};
 ghost use Rattle.rules.specs.Formula.{Formula};
-ghost use Rattle.rules.specs.Term.{Term, leaf, unit, two, pair};
+ghost use Rattle.rules.specs.Term.{Term, two, pair};
 ghost use Rattle.rules.specs.Extraction.{terms, identity, joined};
 ghost use Rattle.draft.specs.Draft.{Drafts};
-ghost use Rattle.draft.specs.Made.{mostNumber, made, over};
+ghost use Rattle.draft.specs.Made.{mostNumber, over};
 ghost use Rattle.proof.specs.Place.{FormulaAt};
 ghost use Rattle.proof_draft.specs.Puts.{Open, Put, rowMade};
 ghost use Rattle.proof_draft.specs.declared.entry.CutEntry.{CutEntry};
@@ -19,6 +19,7 @@ use crate::axiom::Search;
 use crate::plan::BARE;
 use crate::plan::NO_ROW;
 use crate::plan::Plan;
+use crate::plan::UNIT;
 use draft::row::put_row;
 use proof::rule::skip_proofs;
 
@@ -50,7 +51,13 @@ pub fn put_alone(s: &[u8], plan: Plan, rows: &mut [usize], used: usize, counter:
         → Ends (now (s .entry)) at row k (now (rows .entry)) (now (rows .exit)) used counter r) ⌝ }
 {
     if plan.act == BARE {
-        return put_bare(plan.kind, plan.first, rows, used, counter);
+        let unit = Drafted {
+            next: plan.first,
+            used,
+            counter,
+            part: UNIT,
+        };
+        return put_over(plan.kind, 0, plan.first, unit, rows);
     }
     Drafted {
         next: skip_proofs(s, plan.first, plan.premises),
@@ -58,15 +65,6 @@ pub fn put_alone(s: &[u8], plan: Plan, rows: &mut [usize], used: usize, counter:
         counter,
         part: plan.kind,
     }
-}
-
-// A row over Unit.
-fn put_bare(kind: usize, next: usize, rows: &mut [usize], used: usize, counter: usize) -> Drafted
-    requires { ⌜ Open (now rows) used ⌝ }
-    ensures { λ r. ⌜ ((s : Bytes) → Put s (now (rows .entry)) (now (rows .exit)) used counter next (made s kind (leaf unit) (leaf unit) 0 0, counter) r) ⌝ }
-{
-    put_row(rows, used, kind, 0, 0, 0, 0);
-    row_made(next, used, counter)
 }
 
 // An Axiom, whose search is over.

@@ -12,7 +12,8 @@ use Rattle.rules.specs.Term.{Term, leaf, unit, two, pair}
 use Rattle.rules.specs.Proof.{Proof, encodeProof}
 use Rattle.rules.specs.Extraction.{terms, Entries, identity, joined}
 use Rattle.draft.specs.Draft.{Drafts}
-use Rattle.draft.specs.Made.{made, mostNumber, over}
+use Rattle.draft.specs.Steady.{drafts-unit}
+use Rattle.draft.specs.Made.{mostNumber, over}
 use Rattle.proof.specs.Place.{FormulaAt, proofsLong}
 use Rattle.proof.specs.Shape.{linearOf, premisesOf}
 use Rattle.proof.proofs.rule.Items.{Some, SkipIs}
@@ -63,11 +64,12 @@ module _ {s : Bytes} {at : ℕ} {r : Plan} (b : Planned s at r) {cs : List CutEn
         still = λ j t z. z;
       })
 
-  pub bare-ends : {ws′ : List ℕ} {x : Drafted} → r .act ≡ 1 → ((s : Bytes) → Put s ws ws′ used n (r .first) (made s (r .kind) (leaf unit) (leaf unit) 0 0, n) x) → Ends s at cs k ws ws′ used n x
+  pub bare-ends : {ws′ : List ℕ} {x : Drafted} → r .act ≡ 1
+      → ((s : Bytes) (t : Term) → Drafts s ws used 0 t → Put s ws ws′ used n (r .first) (over s (r .kind) 0 t, n) x) → Ends s at cs k ws ws′ used n x
   bare-ends h g p es w =
       let d : Bares p (r .kind) = act-at b w 1 h in
       let z : proofsLong (premisesOf p) ≡ 0 = ap (λ (c : List Proof). proofsLong c) (d .none) in
-      put-done b w (d .is s es n) (r .first) (omega arith) (g s)
+      put-done b w (d .is s es n) (r .first) (omega arith) (g s (leaf unit) (drafts-unit (w .ready .rows)))
 
   -- ---- Axiom
 

@@ -41,11 +41,6 @@ module _ {s : Bytes} {ws ws′ : List ℕ} {used n end : ℕ} where
         still = λ i t d. w .still s i t d;
       })
 
-  -- a row over Unit
-  pub put-bare : {kind : ℕ} {r : Drafted} → Open ws used → Added ws used kind 0 0 0 0 ws′ → r ≡ rowMade end used n
-      → Put s ws ws′ used n end (made s kind (leaf unit) (leaf unit) 0 0, n) r
-  put-bare o w e = put-new o w (drafts-unit (o .rows)) (drafts-unit (o .rows)) (omega arith) n (omega arith) e
-
 module _ {s : Bytes} {ws : List ℕ} {used n end part : ℕ} {t : Term} (kind number : ℕ) (o : Open ws used) (d : Drafts s ws used part t) where
   pub put-pass : kind ≡ 12 → Put s ws ws used n end (over s kind number t, n) (record { next = end; used = used; counter = n; part = part })
   put-pass e =

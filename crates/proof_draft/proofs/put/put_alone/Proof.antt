@@ -6,14 +6,14 @@ use borrow.Author.Needs.{needs}
 use Rattle.proof_draft.proofs.put.put_alone.Statement.{statement}
 use Rattle.proof_draft.proofs.put.put_alone.Tie as tie
 
-put-bare-requires : tie.Need-put-bare-requires
-put-bare-requires c κs = let (at, row, k, p, w) = c .before .before .before .before .before .pre .1 in starts-open w .0
+put-over-requires : tie.Need-put-over-requires
+put-over-requires c κs = let (at, row, k, p, w) = c .before .before .before .before .before .pre .1 in (starts-open w .0, omega arith, omega arith)
 
 same-length : tie.Need-same-length
 same-length c = search needs
 
 returns : tie.Need-returns
-returns c = λ at row k b. bare-ends b (c .before .before .before .before .if1 .taken) (c .before .before .put-bare .ensures)
+returns c = λ at row k b. bare-ends b (c .before .before .before .before .if1 .taken) (c .before .before .put-over .ensures)
 
 skip-proofs-requires : tie.Need-skip-proofs-requires
 skip-proofs-requires c κs = let (at, row, k, p, w) = c .before .before .before .before .pre .1 in plan-some p w
@@ -25,7 +25,7 @@ pub put-alone-spec : {M : Type 1} → statement M
 put-alone-spec =
     tie.close
     (tie.spec
-    put-bare-requires
+    put-over-requires
     same-length
     returns
     skip-proofs-requires
