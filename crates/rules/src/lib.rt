@@ -1,8 +1,8 @@
-// What every room shares: the few types in which public calls answer. The rules themselves are definitions, in specs/.
+// What every room shares: the types in which public calls answer, and the limits by name. The rules themselves are definitions, in specs/.
 ghost use mathlib.Core.Path.{_≡_};
 ghost use Rattle.rules.specs.Stored.{kindByte};
 
-// The limits of document 01, and the room that a call must be lent (specs/Limits.antt has the same numbers).
+// The limits, and the room that a call must be lent. specs/Limits.antt has the same numbers, and the contracts hold the code to those.
 pub const MOST_BYTES: usize = 4096;
 
 pub const MOST_NODES: usize = 512;
