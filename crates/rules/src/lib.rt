@@ -2,7 +2,7 @@
 ghost use mathlib.Core.Path.{_≡_};
 ghost use Rattle.rules.specs.Stored.{kindByte};
 
-// The limits, and the room that a call must be lent. specs/Limits.antt has the same numbers, and the contracts hold the code to those.
+// The limits. specs/Limits.antt has the same numbers, and the contracts hold the code to those.
 pub const MOST_BYTES: usize = 4096;
 
 pub const MOST_NODES: usize = 512;
@@ -11,22 +11,23 @@ pub const MOST_RULES: usize = 512;
 
 pub const MOST_FORMULA_NODES: usize = 1024;
 
-pub const OUTPUT_ROOM: usize = 4096;
-
-pub const TEXT_ROOM: usize = 20480;
-
-pub const FORMULA_TEXT_ROOM: usize = 11264;
-
-pub const STORED_ROOM: usize = 4608;
-
-pub const SCRATCH_ROOM: usize = 8192;
-
-pub const ENTRY_ROOM: usize = 512;
-
 // A block of a stored file, and how much of it is content.
 pub const BLOCK_BYTES: usize = 512;
 
 pub const BLOCK_CONTENT: usize = 506;
+
+// The room that a call must be lent follows from them.
+pub const OUTPUT_ROOM: usize = MOST_BYTES;
+
+pub const TEXT_ROOM: usize = 5 * MOST_BYTES;
+
+pub const FORMULA_TEXT_ROOM: usize = 11 * MOST_FORMULA_NODES;
+
+pub const STORED_ROOM: usize = BLOCK_BYTES * ((MOST_BYTES + BLOCK_CONTENT - 1) / BLOCK_CONTENT);
+
+pub const SCRATCH_ROOM: usize = 2 * MOST_BYTES;
+
+pub const ENTRY_ROOM: usize = MOST_RULES;
 
 // How many bytes a name and an atom may have.
 pub const LONGEST_NAME: usize = 24;
