@@ -1,4 +1,5 @@
 pub mod Below
+pub mod Outcome
 pub mod reading
 pub mod size
 pub mod free

@@ -3,5 +3,8 @@ pub mod SubstFree
 pub mod SubstReach
 pub mod SubstAmong
 pub mod SubstLegal
-pub mod Order
-pub mod OrderBytes
+pub mod Swap
+pub mod NotFree
+pub mod Granted
+pub mod TwoFeeds
+pub mod Needed

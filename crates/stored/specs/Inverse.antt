@@ -14,6 +14,7 @@ use Rattle.rules.specs.Refusal.{Outcome, good, refused, _>>=_}
 use Rattle.rules.specs.declared.Refusal.{Refusal}
 use Rattle.rules.specs.declared.Kind.{Kind}
 use Rattle.rules.specs.Stored.{check, blockAt, two-bytes, lengthIn, usedIn, allZero, headWrong, openBlock, openBlocks, opened, readKind}
+use Rattle.laws.specs.Outcome.{good-first}
 use Rattle.stored.specs.Heads.{HeadRight, head-right}
 use Rattle.stored.specs.Opening.{contentIn, used-le}
 use Rattle.stored.specs.Storing.{SizeRight, sizeWrong, size-right}
@@ -74,15 +75,14 @@ pub record Opens (L : Limits) (k : Kind) (f s : Bytes) : Type 0 where
   pub parts : openBlocks L k f 0 (length f / blockBytes) ≡ good s
   pub read : readKind L k 1 s ≡ good tt
 
-accepts : (c s : Bytes) (x : Outcome (Unit {0})) → _>>=_ x (λ _. good c) ≡ good s → (x ≡ good tt) × (c ≡ s)
-accepts c s (good a) e = (refl, cc)
-accepts c s (refused r) e = absurd (let z : _≡_ {A = ℕ} 0 1 = cc in omega arith)
-
 goes : (t : Bool) (r : Refusal) (o : Outcome Bytes) (rd : Bytes → Outcome (Unit {0})) (s : Bytes)
     → (if t then refused r else _>>=_ o (λ (c : Bytes). _>>=_ (rd c) (λ _. good c))) ≡ good s → (t ≡ false) × (o ≡ good s) × (rd s ≡ good tt)
 goes true r o rd s e = absurd (let z : _≡_ {A = ℕ} 0 1 = cc in omega arith)
-goes false r (refused x) rd s e = absurd (let z : _≡_ {A = ℕ} 0 1 = cc in omega arith)
-goes false r (good c) rd s e = let a = accepts c s (rd c) e in (refl, ap good (a .1), sym (ap rd (a .1)) ∙ a .0)
+goes false r o rd s e =
+    let (c, p, q) = good-first o _ s e in
+    let (u, v, w) = good-first (rd c) _ s q in
+    let i : c ≡ s = cc in
+    (refl, p ∙ ap good i, sym (ap rd i) ∙ v)
 
 pub opens : (L : Limits) (k : Kind) (f s : Bytes) → opened L k f ≡ good s → Opens L k f s
 unfolding opened

@@ -1,20 +1,20 @@
 -- The public call on a straight term: what it reads is that term, and reduction is not refused; and so where is_straight says yes.
 -- Assumes nothing.
 use Prim.Native.Nat.{ℕ, _≤_}
-use mathlib.Core.Path.{_≡_, refl, ap, ap₂}
+use mathlib.Core.Path.{_≡_, ap, ap₂}
 use mathlib.Core.Bool.{true, _&&_}
-use native.Mathlib.Omega.{arith}
 use lib.ListN.{length}
 use borrow.Author.Tests.{le-leb}
 use Rattle.rules.specs.Basic.{Bytes}
 use Rattle.rules.specs.Limits.{Limits, outputRoom, scratchRoom}
-use Rattle.rules.specs.Refusal.{Outcome, good, refused, mapped}
+use Rattle.rules.specs.Refusal.{good}
 use Rattle.rules.specs.Term.{Term, encode, fits}
 use Rattle.rules.specs.Legal.{Legal}
 use Rattle.rules.specs.Reading.{readTerm}
 use Rattle.rules.specs.Reduction.{Reduced, reduce}
 use Rattle.rules.specs.Straight.{Straight, straight}
 use Rattle.rules.specs.Calls.{workRoom, reduceEnding, reduceWith, reduceCall, ReduceCall, isStraightCall}
+use Rattle.laws.specs.Outcome.{good-mapped}
 use Rattle.laws.specs.reading.Fits.{fits-accepted, accepted-fits}
 use Rattle.laws.specs.reading.Decoding.{term-sound, term-complete}
 use Rattle.laws.specs.straight.Decides.{straight-decides}
@@ -49,11 +49,7 @@ straight-legal-call L t limit o s l f = straight-call L t limit (encode t) o s (
 -- where is_straight says yes, a straight term is read
 pub straight-told : (L : Limits) (i : Bytes) → isStraightCall L i ≡ good true → (t : Term) × (readTerm L 1 i ≡ good t) × Straight t
 unfolding isStraightCall
-straight-told L i h = go (readTerm L 1 i) refl h
-  where
-    go : (o : Outcome Term) → readTerm L 1 i ≡ o → mapped straight o ≡ good true → (t : Term) × (readTerm L 1 i ≡ good t) × Straight t
-    go (good t) e h = (t, e, straight-decides t .0 (cc))
-    go (refused r) e h = absurd (let z : _≡_ {A = ℕ} 0 1 = cc in omega arith)
+straight-told L i h = let (t, e, f) = good-mapped straight (readTerm L 1 i) true h in (t, e, straight-decides t .0 f)
 
 -- and bounded reduction of it is as promised
 pub told-call : (L : Limits) (limit : ℕ) (i o s : Bytes) → isStraightCall L i ≡ good true → outputRoom L ≤ length o → scratchRoom L ≤ length s

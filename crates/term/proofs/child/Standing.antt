@@ -9,11 +9,12 @@ use lib.ListN.{length, take, drop, getElem?, length-append}
 use lib.Seq.{take-at}
 use Rattle.rules.specs.Basic.{Bytes}
 use Rattle.rules.specs.Limits.{Limits}
-use Rattle.rules.specs.Refusal.{Outcome, good, refused, _>>=_}
+use Rattle.rules.specs.Refusal.{good}
 use Rattle.rules.specs.Name.{encodeNames}
 use Rattle.rules.specs.Term.{Term, encode, size, names, parts}
 use Rattle.rules.specs.Reading.{readTerm}
 use Rattle.rules.specs.Calls.{Places, placesFrom, partPlaces, orNoChild, locateCall, childCall}
+use Rattle.laws.specs.Outcome.{good-first}
 use Rattle.laws.specs.reading.Decoding.{term-sound}
 use Rattle.term.specs.Node.{encodeAll}
 use Rattle.term.specs.Place.{TermAt, TermsAt}
@@ -97,14 +98,11 @@ module _ (L : Limits) (s : Bytes) (k : ℕ) (p : Places) where
 
   pub located : locateCall L s k ≡ good p → Stands L s k p
   unfolding locateCall
-  located h = go (readTerm L 1 s) refl h
-    where
-      go : (o : Outcome Term) → readTerm L 1 s ≡ o → _>>=_ o (λ u. orNoChild (getElem? (partPlaces u) k)) ≡ good p → Stands L s k p
-      go (good t) e h =
-          let f = has (getElem? (partPlaces t) k) p h in
-          let w = whole t s (term-sound L 1 s t e .bytes) in
-          standing t e f (pick s k _ (length (parts t)) (parts t) (row-of s t w) (some-at _ k (parts t) p f))
-      go (refused r) e h = absurd (let z : _≡_ {A = ℕ} 0 1 = cc in omega arith)
+  located h =
+      let (t, e, g) = good-first (readTerm L 1 s) _ p h in
+      let f = has (getElem? (partPlaces t) k) p g in
+      let w = whole t s (term-sound L 1 s t e .bytes) in
+      standing t e f (pick s k _ (length (parts t)) (parts t) (row-of s t w) (some-at _ k (parts t) p f))
 
   module _ (h : locateCall L s k ≡ good p) where
     pub in-order : p .from ≤ p .end

@@ -1,4 +1,4 @@
--- Two names put in, in either order (request (viii)): equal terms, if neither name is free in what goes in for the other.
+-- Two names put into a term, in either order: equal terms, if neither name is free in what goes in for the other (request (viii); TwoFeeds says it of the call).
 -- Nothing is renamed, so a name that is caught is caught in both orders. By induction on the term.
 -- Assumes nothing.
 use mathlib.Core.Path.{_≡_, refl, sym, ap, ap₂, _∙_}

@@ -1,0 +1,143 @@
+-- Each condition of `Apart` is needed: for each a smallest template, and feeds that lack it alone, where the two orders differ. antt computes the table.
+-- No smaller template shows it: below three bytes there is no variable.
+-- Assumes nothing.
+use Prim.Native.Nat.{ℕ, zero, suc, _+_, _*_, _≤_, _<_}
+use mathlib.Core.Path.{_≡_, refl, sym, ap, _∙_}
+use mathlib.Core.Bool.{Bool, true, false, not, true≢false}
+use mathlib.Core.List.{List, [], _∷_, map}
+use native.Mathlib.Omega.{arith}
+use lib.ListN.{length, take, replicate}
+use Rattle.rules.specs.Basic.{Bytes, _==_, say}
+use Rattle.rules.specs.Limits.{Limits, limits, outputRoom, scratchRoom}
+use Rattle.rules.specs.Refusal.{Outcome, good, mapped}
+use Rattle.rules.specs.Name.{Name, same, leads, follows, nameMost}
+use Rattle.rules.specs.Term.{Term, var, leaf, two, abs, unit, trivial, app, encode, nodes, fits}
+use Rattle.rules.specs.Reading.{times, many, byte, byteFor, room, letters, name, tag, tooMany, node, whole, readTerm, readName}
+use Rattle.rules.specs.Free.{occurrences}
+use Rattle.rules.specs.Substitution.{subst}
+use Rattle.rules.specs.Straight.{Each}
+use Rattle.rules.specs.Calls.{substituted, substituteCall}
+use Rattle.laws.specs.Outcome.{good-mapped}
+use Rattle.laws.specs.free.Same.{same-itself}
+use Rattle.laws.specs.size.SubstSize.{occurrences-bytes}
+use Rattle.laws.specs.reading.Names.{name-long}
+use Rattle.laws.specs.reading.Decoding.{bare-name-sound}
+use Rattle.laws.specs.substitution.NotFree.{NotFree, given-back}
+use Rattle.laws.specs.substitution.Granted.{granted}
+use Rattle.laws.specs.substitution.TwoFeeds.{Feed, Buffers, inOrder, EitherFirst, by-terms}
+
+-- a for x and b for y in a template: whether the names differ, x is not free in b, y is not free in a; and the term that each order leaves
+pub record Row : Type 0 where
+  pub template : Term
+  pub x : Name
+  pub a : Term
+  pub y : Name
+  pub b : Term
+  pub conditions : List Bool
+  pub xFirst : Term
+  pub yFirst : Term
+
+abbrev pub X : Name
+X = say "x"
+
+abbrev pub Y : Name
+Y = say "y"
+
+abbrev pub Z : Name
+Z = say "z"
+
+abbrev pub table : List Row
+table =
+    -- one name: the first feed takes the place
+    (record { template = var X; x = X; a = leaf unit; y = X; b = leaf trivial; conditions = false ∷ true ∷ true ∷ []; xFirst = leaf unit; yFirst = leaf trivial })
+    -- x is free in b: it is fed if b goes first
+    ∷ (record { template = var Y; x = X; a = leaf unit; y = Y; b = var X; conditions = true ∷ false ∷ true ∷ []; xFirst = var X; yFirst = leaf unit })
+    -- y is free in a: it is fed if a goes first
+    ∷ (record { template = var X; x = X; a = var Y; y = Y; b = leaf unit; conditions = true ∷ true ∷ false ∷ []; xFirst = leaf unit; yFirst = var Y })
+    ∷ []
+
+-- Where all three hold: in \z. (x y) both values are caught, in \x. (x y) the first has no place, in either order.
+abbrev pub kept : List Row
+kept =
+    (record { template = abs Z (two app (var X) (var Y)); x = X; a = var Z; y = Y; b = var Z; conditions = true ∷ true ∷ true ∷ []; xFirst = abs Z (two app (var Z) (var Z)); yFirst = abs Z (two app (var Z) (var Z)) })
+    ∷ (record { template = abs X (two app (var X) (var Y)); x = X; a = leaf unit; y = Y; b = var Z; conditions = true ∷ true ∷ true ∷ []; xFirst = abs X (two app (var X) (var Z)); yFirst = abs X (two app (var X) (var Z)) })
+    ∷ []
+
+abbrev pub lent : Buffers
+lent = record { output = replicate (outputRoom limits) 7; scratch = replicate (scratchRoom limits) 7 }
+
+abbrev pub feedX : Row → Feed
+feedX r = record { name = r .x; value = encode (r .a) }
+
+abbrev pub feedY : Row → Feed
+feedY r = record { name = r .y; value = encode (r .b) }
+
+-- the term that two calls leave
+abbrev pub left : ℕ × Bytes → Bytes
+left r = take (r .0) (r .1)
+
+abbrev pub leaves : (f g : Feed) → (template : Bytes) → Outcome Bytes
+leaves f g t = mapped left (inOrder limits f g t lent lent)
+
+abbrev pub Found : Type 0
+Found = List Bool × Outcome Bytes × Outcome Bytes
+
+abbrev pub stated : Row → Found
+stated r = (r .conditions, good (encode (r .xFirst)), good (encode (r .yFirst)))
+
+unfoldable pub computed : Row → Found
+unfolding times many byte byteFor room letters name tag tooMany node whole readTerm readName leads follows occurrences subst nodes encode fits substituted substituteCall
+computed r =
+    let conditions = not (same (r .x) (r .y)) ∷ (occurrences (r .x) (r .b) == 0) ∷ (occurrences (r .y) (r .a) == 0) ∷ [] in
+    (conditions, leaves (feedX r) (feedY r) (encode (r .template)), leaves (feedY r) (feedX r) (encode (r .template)))
+
+pub needed : map computed table ≡ map stated table
+unfolding computed encode
+needed = refl
+
+pub caught-alike : map computed kept ≡ map stated kept
+unfolding computed encode
+caught-alike = refl
+
+-- so in no row of the table may either feed go first
+abbrev pub Differ : Row → Type 0
+Differ r = ¬ EitherFirst limits (feedX r) (feedY r) (encode (r .template))
+
+one-term : (m n : Outcome (ℕ × Bytes)) (u w : Bytes) → ((r r′ : ℕ × Bytes) → m ≡ good r → n ≡ good r′ → r ≡ r′) → mapped left m ≡ good u → mapped left n ≡ good w → u ≡ w
+one-term m n u w h e f =
+    let (r, p, i) = good-mapped left m u e in
+    let (r′, q, j) = good-mapped left n w f in
+    sym i ∙ ap left (h r r′ p q) ∙ j
+
+differ : (r : Row) → computed r ≡ stated r → same (encode (r .xFirst)) (encode (r .yFirst)) ≡ false → Differ r
+unfolding computed
+differ r e d h =
+    let x = encode (r .xFirst) in
+    let y = encode (r .yFirst) in
+    let k = one-term _ _ x y (λ u w p q. h lent lent lent lent u w p q refl) (ap (λ z. z .1) e) (ap (λ z. z .2) e) in
+    true≢false (sym (same-itself x) ∙ ap (same x) k ∙ d)
+
+pub all-differ : Each Differ table
+unfolding encode
+all-differ = each table needed (refl, (refl, (refl, tt)))
+  where
+    each : (rs : List Row) → map computed rs ≡ map stated rs → Each (λ r. same (encode (r .xFirst)) (encode (r .yFirst)) ≡ false) rs → Each Differ rs
+    each [] e d = tt
+    each (r ∷ rs) e d = (differ r (cc) (d .0), each rs (cc) (d .1))
+
+-- A template of fewer than three bytes has no variable, so either may go first whatever goes in.
+no-variable : (L : Limits) (x v t r : Bytes) → length t < 3 → substituted L t x v ≡ good r → NotFree L x t
+no-variable L x v t r h e u a = go (occurrences x u) (occurrences-bytes x u)
+  where
+    named : 1 ≤ length x
+    named = name-long nameMost x (bare-name-sound 2 x x (granted L t x v r e .names) .1) .0
+
+    go : (n : ℕ) → n * (2 + length x) ≤ length (encode u) → n ≡ 0
+    go zero k = refl
+    go (suc n) k = absurd (omega (arith, h, named, ap length (a .bytes)))
+
+pub no-smaller : (L : Limits) (f g : Feed) (t : Bytes) → length t < 3 → EitherFirst L f g t
+no-smaller L f g t h = by-terms L f g t (λ u w u′ w′ p q p′ q′.
+    let i = given-back L t (f .name) (f .value) (no-variable L (f .name) (f .value) t u h p) u p in
+    let j = given-back L t (g .name) (g .value) (no-variable L (g .name) (g .value) t u′ h p′) u′ p′ in
+    cc (i, j, p, q, p′, q′))
