@@ -89,7 +89,8 @@ void patch_child(const uint8_t *term, size_t term_length, size_t k, uint64_t ans
 void patch_free_vars(const uint8_t *term, size_t term_length, uint8_t *out, size_t out_length, uint64_t answer[PATCH_ANSWER]);
 
 /* The term with the value for the name, a bare name without a length byte, to an output of at least PATCH_OUTPUT_ROOM bytes, by way of a scratch of at
- * least PATCH_SCRATCH_ROOM. Value: its length. */
+ * least PATCH_SCRATCH_ROOM. Value: its length. Two values may go in in either order if their names differ and neither name is free in the other value:
+ * where no call is refused, both orders leave the same bytes. For a name that is not free the term comes back as it is. */
 void patch_substitute(const uint8_t *term, size_t term_length, const uint8_t *name, size_t name_length, const uint8_t *value, size_t value_length,
                       uint8_t *out, size_t out_length, uint8_t *scratch, size_t scratch_length, uint64_t answer[PATCH_ANSWER]);
 

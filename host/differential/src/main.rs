@@ -4,6 +4,7 @@
 mod case;
 mod died;
 mod extraction;
+mod feeds;
 mod files;
 mod formulas;
 mod guarded;
@@ -20,11 +21,12 @@ mod terms;
 use patch_harness::{families, Family};
 use std::process::ExitCode;
 
-const FAMILIES: [Family; 9] = [
+const FAMILIES: [Family; 10] = [
     ("refusals", refusals::all),
     ("readers", readers::all),
     ("formulas", formulas::all),
     ("terms", terms::all),
+    ("feeds", feeds::all),
     ("steps", reduction::steps),
     ("reduction", reduction::reductions),
     ("straight", straight::all),

@@ -2,12 +2,11 @@
 
 use crate::case::{Call, Case};
 use crate::run::random;
-use lolli_core::Term;
 use patch_generate::{straight, Rng};
 use patch_harness::{hold, many, Verdict};
-use patch_model::form::{parts, term_nodes};
+use patch_model::form::term_nodes;
+use patch_model::free::occurrences;
 use patch_model::{read, Limits};
-use std::collections::BTreeMap;
 
 const L: Limits = Limits::BASE;
 
@@ -54,33 +53,9 @@ fn reduces_as_promised(rng: &mut Rng) -> Result<(), String> {
     let after = read::term(&L, 1, &told.term).map_err(|r| format!("the result is not legal {r:?}"))?;
     let [app, pairs, case, fst, snd, derelict, copy, discard] = told.counts;
     hold(patch::is_straight(&told.term) == Ok(true), "no longer straight")?;
-    hold(unbound(&after) == unbound(&before), "an unbound name occurs more or less often")?;
+    hold(occurrences(&after) == occurrences(&before), "an unbound name occurs more or less often")?;
     hold(case + fst + snd + copy + discard == 0, "a rule that straight terms have not")?;
     hold(app + pairs + derelict == told.steps && told.steps <= limit, "the counts are not those of the steps")?;
     hold(nodes - term_nodes(&after) == (3 * app + 4 * pairs + 2 * derelict) as usize, "nodes lost")?;
     hold(told.normal || limit < enough, "a step remains")
-}
-
-/// How often each unbound name is used.
-fn unbound(term: &Term) -> BTreeMap<&str, usize> {
-    fn count<'a>(term: &'a Term, around: &mut Vec<&'a str>, found: &mut BTreeMap<&'a str, usize>) {
-        let bound = around.len();
-        match term {
-            Term::Var(x) if !around.contains(&x.as_str()) => *found.entry(x).or_default() += 1,
-            Term::Abs(x, body) => {
-                around.push(x);
-                count(body, around, found);
-            }
-            Term::LetPair(x, y, pair, body) => {
-                count(pair, around, found);
-                around.extend([x.as_str(), y.as_str()]);
-                count(body, around, found);
-            }
-            _ => parts(term).into_iter().for_each(|part| count(part, around, found)),
-        }
-        around.truncate(bound);
-    }
-    let mut found = BTreeMap::new();
-    count(term, &mut Vec::new(), &mut found);
-    found
 }

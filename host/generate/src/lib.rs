@@ -2,6 +2,7 @@
 
 pub mod bad;
 pub mod damage;
+pub mod feeds;
 pub mod files;
 pub mod formulas;
 pub mod inputs;

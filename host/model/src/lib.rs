@@ -5,6 +5,7 @@
 pub mod calls;
 pub mod extract;
 pub mod form;
+pub mod free;
 pub mod limits;
 pub mod program;
 pub mod read;

@@ -109,7 +109,8 @@ pub fn substitute_to(term: &[u8], name: &[u8], value: &[u8], out: &mut [u8], scr
     count(raw::substitute(term, name, value, out, scratch))
 }
 
-/// The term with the value for the name.
+/// The term with the value for the name. Two values may go in in either order if their names differ and neither name is free in the other
+/// value: where no call is refused, both orders give the same bytes. For a name that is not free the term comes back as it is.
 pub fn substitute(term: &[u8], name: &[u8], value: &[u8]) -> Result<Vec<u8>, Refusal> {
     written(OUTPUT_ROOM, |out| substitute_to(term, name, value, out, &mut [0; SCRATCH_ROOM]))
 }
