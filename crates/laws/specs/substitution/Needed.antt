@@ -63,8 +63,9 @@ kept =
     ∷ (record { template = abs X (two app (var X) (var Y)); x = X; a = leaf unit; y = Y; b = var Z; conditions = true ∷ true ∷ true ∷ []; xFirst = abs X (two app (var X) (var Z)); yFirst = abs X (two app (var X) (var Z)) })
     ∷ []
 
-abbrev pub lent : Buffers
-lent = record { output = replicate (outputRoom limits) 7; scratch = replicate (scratchRoom limits) 7 }
+-- as long as document 01 asks, and full of sevens
+abbrev pub buffers : Buffers
+buffers = record { output = replicate (outputRoom limits) 7; scratch = replicate (scratchRoom limits) 7 }
 
 abbrev pub feedX : Row → Feed
 feedX r = record { name = r .x; value = encode (r .a) }
@@ -73,11 +74,11 @@ abbrev pub feedY : Row → Feed
 feedY r = record { name = r .y; value = encode (r .b) }
 
 -- the term that two calls leave
-abbrev pub left : ℕ × Bytes → Bytes
-left r = take (r .0) (r .1)
+abbrev pub termOf : ℕ × Bytes → Bytes
+termOf r = take (r .0) (r .1)
 
 abbrev pub leaves : (f g : Feed) → (template : Bytes) → Outcome Bytes
-leaves f g t = mapped left (inOrder limits f g t lent lent)
+leaves f g t = mapped termOf (inOrder limits f g t buffers buffers)
 
 abbrev pub Found : Type 0
 Found = List Bool × Outcome Bytes × Outcome Bytes
@@ -103,18 +104,18 @@ caught-alike = refl
 abbrev pub Differ : Row → Type 0
 Differ r = ¬ EitherFirst limits (feedX r) (feedY r) (encode (r .template))
 
-one-term : (m n : Outcome (ℕ × Bytes)) (u w : Bytes) → ((r r′ : ℕ × Bytes) → m ≡ good r → n ≡ good r′ → r ≡ r′) → mapped left m ≡ good u → mapped left n ≡ good w → u ≡ w
+one-term : (m n : Outcome (ℕ × Bytes)) (u w : Bytes) → ((r r′ : ℕ × Bytes) → m ≡ good r → n ≡ good r′ → r ≡ r′) → mapped termOf m ≡ good u → mapped termOf n ≡ good w → u ≡ w
 one-term m n u w h e f =
-    let (r, p, i) = good-mapped left m u e in
-    let (r′, q, j) = good-mapped left n w f in
-    sym i ∙ ap left (h r r′ p q) ∙ j
+    let (r, p, i) = good-mapped termOf m u e in
+    let (r′, q, j) = good-mapped termOf n w f in
+    sym i ∙ ap termOf (h r r′ p q) ∙ j
 
 differ : (r : Row) → computed r ≡ stated r → same (encode (r .xFirst)) (encode (r .yFirst)) ≡ false → Differ r
 unfolding computed
 differ r e d h =
     let x = encode (r .xFirst) in
     let y = encode (r .yFirst) in
-    let k = one-term _ _ x y (λ u w p q. h lent lent lent lent u w p q refl) (ap (λ z. z .1) e) (ap (λ z. z .2) e) in
+    let k = one-term _ _ x y (λ u w p q. h buffers buffers buffers buffers u w p q refl) (ap (λ z. z .1) e) (ap (λ z. z .2) e) in
     true≢false (sym (same-itself x) ∙ ap (same x) k ∙ d)
 
 pub all-differ : Each Differ table
