@@ -7,11 +7,11 @@ use mathlib.Core.Bool.{Bool, true, false, not, true≢false}
 use mathlib.Core.List.{List, [], _∷_, map}
 use native.Mathlib.Omega.{arith}
 use lib.ListN.{length, take, replicate}
-use Rattle.rules.specs.Basic.{Bytes, _==_, say}
+use Rattle.rules.specs.Basic.{Bytes, say}
 use Rattle.rules.specs.Limits.{Limits, limits, outputRoom, scratchRoom}
-use Rattle.rules.specs.Refusal.{Outcome, good, mapped}
+use Rattle.rules.specs.Refusal.{Outcome, good, refuse, outgrows, mapped}
 use Rattle.rules.specs.Name.{Name, same, leads, follows, nameMost}
-use Rattle.rules.specs.Term.{Term, var, leaf, two, abs, unit, trivial, app, encode, nodes, fits}
+use Rattle.rules.specs.Term.{Term, var, leaf, one, two, abs, unit, trivial, promote, pair, app, encode, nodes, fits}
 use Rattle.rules.specs.Reading.{times, many, byte, byteFor, room, letters, name, tag, tooMany, node, whole, readTerm, readName}
 use Rattle.rules.specs.Free.{occurrences}
 use Rattle.rules.specs.Substitution.{subst}
@@ -22,7 +22,7 @@ use Rattle.laws.specs.free.Same.{same-itself}
 use Rattle.laws.specs.size.SubstSize.{occurrences-bytes}
 use Rattle.laws.specs.reading.Names.{name-long}
 use Rattle.laws.specs.reading.Decoding.{bare-name-sound}
-use Rattle.laws.specs.substitution.NotFree.{NotFree, given-back}
+use Rattle.laws.specs.substitution.NotFree.{NotFree, notFree, given-back}
 use Rattle.laws.specs.substitution.Granted.{granted}
 use Rattle.laws.specs.substitution.TwoFeeds.{Feed, Buffers, inOrder, EitherFirst, by-terms}
 
@@ -63,9 +63,26 @@ kept =
     ∷ (record { template = abs X (two app (var X) (var Y)); x = X; a = leaf unit; y = Y; b = var Z; conditions = true ∷ true ∷ true ∷ []; xFirst = abs X (two app (var X) (var Z)); yFirst = abs X (two app (var X) (var Z)) })
     ∷ []
 
--- as long as document 01 asks, and full of sevens
-abbrev pub buffers : Buffers
-buffers = record { output = replicate (outputRoom limits) 7; scratch = replicate (scratchRoom limits) 7 }
+-- as long as the limits ask, and full of sevens
+abbrev pub buffers : Limits → Buffers
+buffers L = record { output = replicate (outputRoom L) 7; scratch = replicate (scratchRoom L) 7 }
+
+-- the term that f and then g leave
+abbrev pub termOf : ℕ × Bytes → Bytes
+termOf r = take (r .0) (r .1)
+
+abbrev pub leaves : Limits → (f g : Feed) → (template : Bytes) → Outcome Bytes
+leaves L f g t = mapped termOf (inOrder L f g t (buffers L) (buffers L))
+
+-- the lines of `Apart` as tests (`not-free-decides`), and what each order leaves
+abbrev pub Found : Type 0
+Found = List Bool × Outcome Bytes × Outcome Bytes
+
+unfoldable pub found : Limits → (f g : Feed) → (template : Bytes) → Found
+unfolding times many byte byteFor room letters name tag tooMany node whole readTerm readName leads follows occurrences subst nodes encode fits substituted substituteCall
+found L f g t =
+    let conditions = not (same (f .name) (g .name)) ∷ notFree L (f .name) (g .value) ∷ notFree L (g .name) (f .value) ∷ [] in
+    (conditions, leaves L f g t, leaves L g f t)
 
 abbrev pub feedX : Row → Feed
 feedX r = record { name = r .x; value = encode (r .a) }
@@ -73,32 +90,34 @@ feedX r = record { name = r .x; value = encode (r .a) }
 abbrev pub feedY : Row → Feed
 feedY r = record { name = r .y; value = encode (r .b) }
 
--- the term that two calls leave
-abbrev pub termOf : ℕ × Bytes → Bytes
-termOf r = take (r .0) (r .1)
-
-abbrev pub leaves : (f g : Feed) → (template : Bytes) → Outcome Bytes
-leaves f g t = mapped termOf (inOrder limits f g t buffers buffers)
-
-abbrev pub Found : Type 0
-Found = List Bool × Outcome Bytes × Outcome Bytes
+abbrev pub computed : Row → Found
+computed r = found limits (feedX r) (feedY r) (encode (r .template))
 
 abbrev pub stated : Row → Found
 stated r = (r .conditions, good (encode (r .xFirst)), good (encode (r .yFirst)))
 
-unfoldable pub computed : Row → Found
-unfolding times many byte byteFor room letters name tag tooMany node whole readTerm readName leads follows occurrences subst nodes encode fits substituted substituteCall
-computed r =
-    let conditions = not (same (r .x) (r .y)) ∷ (occurrences (r .x) (r .b) == 0) ∷ (occurrences (r .y) (r .a) == 0) ∷ [] in
-    (conditions, leaves (feedX r) (feedY r) (encode (r .template)), leaves (feedY r) (feedX r) (encode (r .template)))
-
 pub needed : map computed table ≡ map stated table
-unfolding computed encode
+unfolding found encode
 needed = refl
 
 pub caught-alike : map computed kept ≡ map stated kept
-unfolding computed encode
+unfolding found encode
 caught-alike = refl
+
+-- One order alone may be refused, by 8 half-way: with nine bytes at most, !!!() for x and () for yyy in (x, yyy).
+abbrev pub nine : Limits
+nine = record { bytes = 9; nodes = 9; rules = 9; formulas = 9 }
+
+abbrev pub long : Feed
+long = record { name = X; value = encode (one promote (one promote (one promote (leaf unit)))) }
+
+abbrev pub short : Feed
+short = record { name = say "yyy"; value = encode (leaf unit) }
+
+pub one-refused : found nine long short (encode (two pair (var X) (var (say "yyy"))))
+    ≡ (true ∷ true ∷ true ∷ [], refuse outgrows 0 0, good (encode (two pair (one promote (one promote (one promote (leaf unit)))) (leaf unit))))
+unfolding found encode
+one-refused = refl
 
 -- so in no row of the table may either feed go first
 abbrev pub Differ : Row → Type 0
@@ -111,11 +130,11 @@ one-term m n u w h e f =
     sym i ∙ ap termOf (h r r′ p q) ∙ j
 
 differ : (r : Row) → computed r ≡ stated r → same (encode (r .xFirst)) (encode (r .yFirst)) ≡ false → Differ r
-unfolding computed
+unfolding found
 differ r e d h =
     let x = encode (r .xFirst) in
     let y = encode (r .yFirst) in
-    let k = one-term _ _ x y (λ u w p q. h buffers buffers buffers buffers u w p q refl) (ap (λ z. z .1) e) (ap (λ z. z .2) e) in
+    let k = one-term _ _ x y (λ u w p q. h (buffers limits) (buffers limits) (buffers limits) (buffers limits) u w p q refl) (ap (λ z. z .1) e) (ap (λ z. z .2) e) in
     true≢false (sym (same-itself x) ∙ ap (same x) k ∙ d)
 
 pub all-differ : Each Differ table

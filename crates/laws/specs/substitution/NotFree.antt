@@ -4,10 +4,12 @@
 use Prim.Native.Nat.{ℕ}
 use mathlib.Core.Path.{_≡_, refl, sym, ap, _∙_}
 use mathlib.Core.Bool.{Bool, true, false, true≢false}
+use mathlib.Core.Logic.{_↔_}
 use mathlib.Core.Option.{some}
 use native.Mathlib.Omega.{arith}
 use lib.ListN.{length, replicate}
-use Rattle.rules.specs.Basic.{Bytes}
+use borrow.Author.Tests.{eqb-true, eq-eqb}
+use Rattle.rules.specs.Basic.{Bytes, _==_}
 use Rattle.rules.specs.Limits.{Limits}
 use Rattle.rules.specs.declared.Refusal.{Refusal}
 use Rattle.rules.specs.Refusal.{Outcome, good, refused, outgrows, sparesScratch, _>>=_}
@@ -19,7 +21,7 @@ use Rattle.rules.specs.Substitution.{subst}
 use Rattle.rules.specs.Buffers.{bytesOr, lent, filled, worked}
 use Rattle.rules.specs.Calls.{workRoom, grown, substituted, substituteCall}
 use Rattle.laws.specs.Outcome.{good-first, same-then, Spares, spares-then}
-use Rattle.laws.specs.reading.Decoding.{TermIn, term-sound, bare-name-sound}
+use Rattle.laws.specs.reading.Decoding.{TermIn, term-sound, term-complete, bare-name-sound}
 use Rattle.laws.specs.reading.Fits.{accepted-fits}
 use Rattle.laws.specs.reading.Numbers.{term-spares, name-spares}
 use Rattle.laws.specs.substitution.SubstNone.{subst-none}
@@ -27,6 +29,21 @@ use Rattle.laws.specs.substitution.SubstNone.{subst-none}
 -- a name is not free in the term that these bytes are, if they are one
 abbrev pub NotFree : Limits → Name → Bytes → Type 0
 NotFree L x s = (t : Term) → TermIn L s t → occurrences x t ≡ 0
+
+-- the same as a test
+abbrev pub nowhereFree : Name → Outcome Term → Bool
+nowhereFree x (good t) = occurrences x t == 0
+nowhereFree x (refused q) = true
+
+abbrev pub notFree : Limits → Name → Bytes → Bool
+notFree L x s = nowhereFree x (readTerm L 1 s)
+
+pub not-free-decides : (L : Limits) (x : Name) (s : Bytes) → (notFree L x s ≡ true) ↔ NotFree L x s
+not-free-decides L x s = (λ h t a. eqb-true (occurrences x t) 0 (rw (term-complete L 1 s t a) at h), λ n. go n (readTerm L 1 s) refl)
+  where
+    go : NotFree L x s → (o : Outcome Term) → readTerm L 1 s ≡ o → nowhereFree x o ≡ true
+    go n (good t) e = eq-eqb (occurrences x t) 0 (n t (term-sound L 1 s t e))
+    go n (refused q) e = refl
 
 -- a substitution that changes nothing: the inputs are read in their order, and the term's own bytes are given
 abbrev pub unchanged : Limits → (term name value : Bytes) → Outcome Bytes
