@@ -63,7 +63,7 @@ kept =
     ∷ (record { template = abs X (two app (var X) (var Y)); x = X; a = leaf unit; y = Y; b = var Z; conditions = true ∷ true ∷ true ∷ []; xFirst = abs X (two app (var X) (var Z)); yFirst = abs X (two app (var X) (var Z)) })
     ∷ []
 
--- as long as the limits ask, and full of sevens
+-- buffers as long as the limits ask, full of sevens
 abbrev pub buffers : Limits → Buffers
 buffers L = record { output = replicate (outputRoom L) 7; scratch = replicate (scratchRoom L) 7 }
 
@@ -119,7 +119,7 @@ pub one-refused : found nine long short (encode (two pair (var X) (var (say "yyy
 unfolding found encode
 one-refused = refl
 
--- so in no row of the table may either feed go first
+-- In no row of the table may either feed go first: the terms that the two orders leave differ.
 abbrev pub Differ : Row → Type 0
 Differ r = ¬ EitherFirst limits (feedX r) (feedY r) (encode (r .template))
 
