@@ -10,6 +10,7 @@ use Rattle.rules.specs.Name.{Name}
 use Rattle.rules.specs.Term.{Term, nodes, size, fits}
 use Rattle.term.specs.Place.{TermAt}
 use Rattle.substitution.specs.Places.{places, Held}
+use Rattle.contraction.specs.Stays.{Stays}
 use Rattle.contraction.specs.Contracts.{Redex}
 use Rattle.contraction.specs.declared.part.Body.{Body}
 use Rattle.contraction.specs.declared.part.Part.{Part}
@@ -38,6 +39,7 @@ pub record Placing (s : Bytes) (at end : ℕ) (b : Body) (p : Part) (n l : ℕ) 
   pub value : PartIs s p v
   pub nodes-in : nodes e ≤ nodes t
   pub count : n ≡ whole - nodes t + nodes e
+  pub stays : Stays t 0
 
 -- v for x goes into e, then w for y; e is the last part of the redex t
 pub record Pairing (s : Bytes) (at middle past : ℕ) (p q : Part) (n l whole : ℕ) (t : Term) (x y : Name) (e v w : Term) : Type 0 where
@@ -52,3 +54,4 @@ pub record Pairing (s : Bytes) (at middle past : ℕ) (p q : Part) (n l whole : 
   pub ends : q .end + size e ≡ at + size t
   pub nodes-in : nodes e ≤ nodes t
   pub count : n ≡ whole - nodes t + nodes e
+  pub stays : Stays t 0

@@ -1,9 +1,8 @@
 // App of Abs, where it stands: the argument goes into the body, or stays where it is.
 ghost use mathlib.Core.Path.{_≡_};
-ghost use mathlib.Core.Bool.{true};
-ghost use mathlib.Core.List.{List, [], _∷_};
+ghost use mathlib.Core.List.{List};
 ghost use mathlib.Core.Option.{none};
-ghost use Prim.Native.Nat.{ℕ, _-_, _≤_};
+ghost use Prim.Native.Nat.{ℕ, _≤_};
 ghost use lib.ListN.{length};
 ghost use Rattle.rules.specs.Limits.{limits};
 ghost use Rattle.rules.specs.Name.{Name};
@@ -12,6 +11,7 @@ ghost use Rattle.rules.specs.declared.Rule.the-variants.{App};
 ghost use Rattle.rules.specs.Substitution.{subst};
 ghost use Rattle.substitution.specs.Places.{Row, Held};
 ghost use Rattle.substitution.specs.Put.{Room};
+ghost use Rattle.contraction.specs.Stays.{oneAtEnd};
 ghost use Rattle.contraction.specs.Contracts.{Redex, Contracts};
 use crate::part::Contracted;
 use crate::part::Contraction;
@@ -27,7 +27,7 @@ use term::span::span;
 // Whether the row holds one place, and that is the last `gap` bytes of a body so long.
 fn ends_body(places: &[u16], count: usize, gap: usize, long: usize) -> bool
     requires { ⌜ (count ≤ length (now places)) × (gap ≤ limits .bytes) ⌝ }
-    ensures { λ r. ⌜ ((ps : List ℕ) → Held (now (places .entry)) count ps → r ≡ true → (ps ≡ (long - gap) ∷ []) × (gap ≤ long)) ⌝ }
+    ensures { λ r. ⌜ ((ps : List ℕ) → Held (now (places .entry)) count ps → r ≡ oneAtEnd ps gap long) ⌝ }
 {
     if count == 1 {
         let place = places[0] as usize;

@@ -48,9 +48,9 @@ impl Contracted {
         ensures { λ r. ⌜ r ≡ contractedOf rule end put ⌝ }
     {
         match put {
-            Put::Written { size, nodes } => Contracted::Made(Contraction {
+            Put::Written { tally, nodes } => Contracted::Made(Contraction {
                 rule,
-                size,
+                size: tally.past(),
                 end,
                 nodes,
             }),

@@ -20,8 +20,10 @@ use Rattle.buffer.specs.Wrote.{Wrote}
 use Rattle.buffer.specs.Writing.{wrote-length, filled-up}
 use Rattle.substitution.specs.Places.{places, Row}
 use Rattle.substitution.specs.Beside.{fitsBeside}
+use Rattle.substitution.specs.Tally.{moved}
 use Rattle.substitution.specs.Put.{Putting, Puts}
 use Rattle.substitution.specs.Work.{Job, Done}
+use Rattle.substitution.specs.declared.tally.Tally.{Tally}
 use Rattle.substitution.specs.declared.put.Put.{Put}
 use Rattle.substitution.specs.declared.put.Put.the-variants.{Written, Outgrown}
 use Rattle.substitution.proofs.place.Writes.{held, zeros}
@@ -49,31 +51,34 @@ module _ {term name value out : Bytes} {n m : ℕ} {t v : Term} (j : Job term na
         short = omega (arith, j .term-in .short);
       }
 
-  module _ {out₁ : Bytes} {r : Put} (p : Puts (n - nodes t) (length term - size t) none (subst name v t) out out₁ r) where
-    alone : Puts 0 0 none (subst name v t) out out₁ r
+  module _ {out₁ : Bytes} {r : Put} (p : Puts (n - nodes t) (length term - size t) none (moved name v t) (subst name v t) out out₁ r) where
+    alone : Puts 0 0 none (moved name v t) (subst name v t) out out₁ r
     alone =
         let a : n - nodes t ≡ 0 = omega (arith, j .count) in
         let b : length term - size t ≡ 0 = omega (arith, term-long) in
         rw (a, b) at p
 
-    module _ {l c : ℕ} (is : r ≡ Written l c) where
-      made : Went 0 (subst name v t) out out₁ l c
-      made = went 0 (subst name v t) out out₁ r alone l c is
+    module _ {k : Tally} {c l : ℕ} (is : r ≡ Written k c) (il : l ≡ k .past) where
+      made : Went 0 (moved name v t) (subst name v t) out out₁ k c
+      made = went 0 (moved name v t) (subst name v t) out out₁ r alone k c is
+
+      long : l ≡ size (subst name v t)
+      long = il ∙ ap (λ (z : Tally). z .past) (made .moved)
 
       fit : fits limits (subst name v t) ≡ true
       fit = fits-yes limits (subst name v t) (omega (arith, made .fit)) (omega (arith, made .fit))
 
       written : Wrote out 0 (encode (subst name v t)) out₁ l
-      written = record { holds = made .leaves; ends = made .long ∙ omega arith }
+      written = record { holds = made .leaves; ends = long ∙ omega arith }
 
       pub end-within : l ≤ length out₁
-      end-within = omega (arith, made .long, made .fit, wrote-length written, j .out-room)
+      end-within = omega (arith, long, made .fit, wrote-length written, j .out-room)
 
       pub done : (out₂ scratch scratch₁ : Bytes) → out₂ ≡ sets out₁ l (replicate (length out₁ - l) 0) → scratch₁ ≡ sets scratch 0 (replicate (length scratch - 0) 0)
           → Done name t v out scratch (Good l) out₂ scratch₁
       done out₂ scratch scratch₁ e q =
           record {
-            says = rw fit (ap Good (made .long));
+            says = rw fit (ap Good long);
             leaves = rw fit (filled-up written e (omega (arith, made .fit, j .out-room)));
             clears = q ∙ zeros scratch (length scratch) refl;
           }
@@ -81,6 +86,6 @@ module _ {term name value out : Bytes} {n m : ℕ} {t v : Term} (j : Job term na
     pub outgrown : r ≡ Outgrown → (a : Refusal) → a ≡ record { number = 8; place = 0; input = 0 } → (scratch scratch₁ : Bytes) → scratch₁ ≡ sets scratch 0 (replicate (length scratch - 0) 0)
         → Done name t v out scratch (Refused a) out₁ scratch₁
     outgrown is a d scratch scratch₁ q =
-        let s = stuck 0 (subst name v t) out out₁ r alone is in
+        let s = stuck 0 (moved name v t) (subst name v t) out out₁ r alone is in
         let over : fits limits (subst name v t) ≡ false = sym (by-itself (subst name v t)) ∙ s .0 in
         record { says = rw over (ap Refused d); leaves = rw over (s .1); clears = q ∙ zeros scratch (length scratch) refl }

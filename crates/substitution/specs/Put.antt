@@ -1,5 +1,5 @@
 -- What is written for a redex, and what it is made of: a body, the places of a name in it, and the values that go in. Assumes nothing: these are definitions.
-use Prim.Native.Nat.{ℕ, _+_, _≤_}
+use Prim.Native.Nat.{ℕ, _+_, _<_, _≤_, _^_}
 use mathlib.Core.Path.{_≡_}
 use mathlib.Core.Bool.{_&&_}
 use mathlib.Core.Option.{Option}
@@ -14,6 +14,8 @@ use Rattle.rules.specs.Step.{halfFits}
 use Rattle.substitution.specs.Places.{places, Held}
 use Rattle.term.specs.Given.{Given}
 use Rattle.substitution.specs.Beside.{fitsBeside}
+use Rattle.substitution.specs.Tally.{thenMoved}
+use Rattle.substitution.specs.declared.tally.Tally.{Tally}
 use Rattle.substitution.specs.declared.put.Put.{Put}
 use Rattle.substitution.specs.declared.put.Put.the-variants.{Written, Outgrown}
 
@@ -40,11 +42,22 @@ pub record Turns (body : Bytes) (row : List ℕ) (count gap : ℕ) (a : Bytes) (
   pub few : n ≤ limits .nodes
   pub short : rest + size e ≤ limits .bytes
 
--- u is written if it fits beside so many other nodes and bytes, and what was there halfway fits by itself; else the output is as it was
-pub record Puts (others rest : ℕ) (half : Option Term) (u : Term) (out out′ : Bytes) (r : Put) : Type 0 where
-  pub says : r ≡ (if halfFits limits half && fitsBeside others rest u then Written (size u) (others + nodes u) else Outgrown)
+-- u is written if it fits beside so many other nodes and bytes, and what was there halfway fits by itself, and so much was moved for it; else
+-- the output is as it was
+pub record Puts (others rest : ℕ) (half : Option Term) (t : Tally) (u : Term) (out out′ : Bytes) (r : Put) : Type 0 where
+  pub says : r ≡ (if halfFits limits half && fitsBeside others rest u then Written t (others + nodes u) else Outgrown)
   pub leaves : out′ ≡ (if halfFits limits half && fitsBeside others rest u then sets out 0 (encode u) else out)
 
 -- a buffer to work in or to write to
 abbrev pub Room : Bytes → Type 0
 Room b = outputRoom limits ≤ length b
+
+-- what was moved for both can be counted
+abbrev pub Countable : (first : Tally) → Put → Type 0
+Countable a (Written b n) = (a .runs + b .runs < 2 ^ 64) × (a .values + b .values < 2 ^ 64)
+Countable a Outgrown = Unit {0}
+
+-- what was put behind a first that is counted too
+abbrev pub putAfter : (first : Tally) → Put → Put
+putAfter a (Written b n) = Written (thenMoved a b) n
+putAfter a Outgrown = Outgrown

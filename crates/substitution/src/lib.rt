@@ -17,6 +17,7 @@ use rules::Refusal;
 pub mod place;
 pub mod put;
 pub mod splice;
+pub mod tally;
 
 // The inputs of a substitution: how many nodes the term has, and the value; or a refusal.
 enum Inputs {
@@ -69,7 +70,8 @@ fn replace(
         out,
     ) {
         Put::Outgrown => Answer::Refused(Refusal::of_no_input(8)),
-        Put::Written { size, nodes: _ } => {
+        Put::Written { tally, nodes: _ } => {
+            let size = tally.past();
             run::clear(out, size);
             Answer::Good(size)
         }

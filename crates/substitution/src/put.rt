@@ -6,16 +6,34 @@ ghost use Rattle.rules.specs.Name.{Name};
 ghost use Rattle.rules.specs.Term.{Term, nodes as nodesOf, size as sizeOf};
 ghost use Rattle.rules.specs.Substitution.{subst};
 ghost use Rattle.substitution.specs.Places.{Row};
-ghost use Rattle.substitution.specs.Put.{Putting, Turns, Puts, Room};
+ghost use Rattle.substitution.specs.Tally.{moved, thenMoved};
+ghost use Rattle.substitution.specs.Put.{Putting, Turns, Puts, Room, Countable, putAfter};
 use crate::place::find_places;
 use crate::splice::splice;
+use crate::tally::Tally;
 use rules::MOST_BYTES;
 use rules::MOST_NODES;
 
-// The size of what was written, and the nodes of the new whole; or that outgrows the limits, and nothing was written.
+// What was moved, and the nodes of the new whole; or that outgrows the limits, and nothing was written.
 pub enum Put {
-    Written { size: usize, nodes: usize },
+    Written { tally: Tally, nodes: usize },
     Outgrown,
+}
+
+impl Put {
+    // The same, with what was moved for the first of two.
+    fn after(self, first: Tally) -> Put
+        requires { ⌜ Countable first self ⌝ }
+        ensures { λ r. ⌜ r ≡ putAfter first self ⌝ }
+    {
+        match self {
+            Put::Outgrown => Put::Outgrown,
+            Put::Written { tally, nodes } => Put::Written {
+                tally: tally.after(first),
+                nodes,
+            },
+        }
+    }
 }
 
 // What has the size `before`, when `count` of its parts of the size `each` become parts of the size `by`.
@@ -40,7 +58,7 @@ pub fn put_in(
 ) -> Put
     requires { ⌜ ((x : Name) × (e : Term) × (v : Term) × Putting (now body) (now places) count gap (now value) added nodes length x e v) ⌝ }
     requires { ⌜ Room (now out) ⌝ }
-    ensures { λ r. ⌜ ((x : Name) → (e : Term) → (v : Term) → Putting (now (body .entry)) (now (places .entry)) count gap (now (value .entry)) added nodes length x e v → Puts (nodes - nodesOf e) (length - sizeOf e) none (subst x v e) (now (out .entry)) (now (out .exit)) r) ⌝ }
+    ensures { λ r. ⌜ ((x : Name) → (e : Term) → (v : Term) → Putting (now (body .entry)) (now (places .entry)) count gap (now (value .entry)) added nodes length x e v → Puts (nodes - nodesOf e) (length - sizeOf e) none (moved x v e) (subst x v e) (now (out .entry)) (now (out .exit)) r) ⌝ }
 {
     let total = grown(nodes, count, 1, added);
     if MOST_NODES < total {
@@ -49,8 +67,11 @@ pub fn put_in(
     if MOST_BYTES < grown(length, count, gap, value.len()) {
         return Put::Outgrown;
     }
-    let size = splice(body, &places[0..count], gap, value, out, 0);
-    Put::Written { size, nodes: total }
+    let tally = splice(body, &places[0..count], gap, value, out);
+    Put::Written {
+        tally,
+        nodes: total,
+    }
 }
 
 // The body with a for x, whose places are the first `count` of the row, then b for y in all that results; what the first makes is tested as a term by itself.
@@ -72,18 +93,19 @@ pub fn in_turn(
 ) -> Put
     requires { ⌜ ((x : Name) × (e : Term) × (v : Term) × (w : Term) × Turns (now body) (now places) count gap (now a) added (now b) more nodes rest x e v w) ⌝ }
     requires { ⌜ Row (now places) × Room (now half) × Room (now out) ⌝ }
-    ensures { λ r. ⌜ ((x : Name) → (e : Term) → (v : Term) → (w : Term) → Turns (now (body .entry)) (now (places .entry)) count gap (now (a .entry)) added (now (b .entry)) more nodes rest x e v w → Puts (nodes - nodesOf e) rest (some (subst x v e)) (subst (now (y .entry)) w (subst x v e)) (now (out .entry)) (now (out .exit)) r) ⌝ }
+    ensures { λ r. ⌜ ((x : Name) → (e : Term) → (v : Term) → (w : Term) → Turns (now (body .entry)) (now (places .entry)) count gap (now (a .entry)) added (now (b .entry)) more nodes rest x e v w → Puts (nodes - nodesOf e) rest (some (subst x v e)) (thenMoved (moved x v e) (moved (now (y .entry)) w (subst x v e))) (subst (now (y .entry)) w (subst x v e)) (now (out .entry)) (now (out .exit)) r) ⌝ }
     ensures { λ _. ⌜ Row (now (places .exit)) ⌝ }
 {
     let other_gap = 2 + y.len();
     match put_in(body, places, count, gap, a, added, nodes, body.len(), half) {
         Put::Outgrown => Put::Outgrown,
         Put::Written {
-            size,
+            tally,
             nodes: halfway,
         } => {
+            let size = tally.past();
             let found = find_places(&half[0..size], y, places);
-            put_in(
+            let put = put_in(
                 &half[0..size],
                 places,
                 found.count,
@@ -93,7 +115,8 @@ pub fn in_turn(
                 halfway,
                 rest + size,
                 out,
-            )
+            );
+            put.after(tally)
         }
     }
 }

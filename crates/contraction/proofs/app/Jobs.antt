@@ -1,6 +1,7 @@
 -- What App of Abs hands on: the body, and the argument that goes into it or stays, where they stand. Assumes nothing.
 use Prim.Native.Nat.{ℕ, _+_, _-_, _≤_}
 use mathlib.Core.Path.{_≡_, refl, sym, ap, _∙_}
+use mathlib.Core.Bool.{Bool, true, false}
 use mathlib.Core.Option.{none}
 use mathlib.Core.List.{List, [], _∷_, _++_}
 use native.Mathlib.Omega.{arith}
@@ -22,12 +23,13 @@ use Rattle.buffer.specs.Writing.{slice-is, wrote-length}
 use Rattle.term.specs.Measured.{Measured}
 use Rattle.term.specs.declared.span.Extent.{Extent}
 use Rattle.term.proofs.span.Rows.{in-app, past-name, name-is}
+use Rattle.contraction.specs.Stays.{oneAtEnd, endsIn, of-app, of-app-end}
 use Rattle.contraction.specs.Contracts.{Redex, Contracts, becomes}
 use Rattle.contraction.specs.Parts.{Kept, Placing}
 use Rattle.contraction.specs.declared.part.Body.{Body}
 use Rattle.contraction.specs.declared.part.Contracted.the-variants.{Made}
 use Rattle.contraction.proofs.part.Standing.{inside}
-use Rattle.contraction.proofs.app.Tail.{tail-bytes, tail-nodes, tail-some, tail-long, front-long, front-at}
+use Rattle.contraction.proofs.app.Tail.{last-place, tail-bytes, tail-nodes, tail-some, tail-long, front-long, front-at}
 use Rattle.contraction.proofs.part.Smaller.{part-is, kept-there, smaller-fits}
 
 module _ {s : Bytes} {at n l : ℕ} where
@@ -84,10 +86,17 @@ module _ {s : Bytes} {at n l : ℕ} where
             held-in = k .held .inside;
           }
 
+      -- whether the body ends in its one place
+      pub ends-in : {q : Bool} → ((ps : List ℕ) → Held row (f .count) ps → q ≡ oneAtEnd ps (f .gap) (f .end - body)) → q ≡ endsIn x e
+      ends-in is =
+          let b = app-numbers in
+          let d : f .end - body ≡ size e = omega (arith, b .next) in
+          rw (d, b .gap-is) at (is (places x e 0) (found .held))
+
       -- the argument goes in
-      pub app-placing : {r : Extent} (m : Measured (f .end) a r)
+      pub app-placing : {r : Extent} (m : Measured (f .end) a r) → endsIn x e ≡ false
           → Placing s at (r .next) f (record { from = f .end; end = r .next; nodes = r .nodes }) (n - 2 - r .nodes) l row n t x e a
-      app-placing m =
+      app-placing m goes-in =
           let i = in-app (j .stands) g in
           let b = app-numbers in
           record {
@@ -99,16 +108,13 @@ module _ {s : Bytes} {at n l : ℕ} where
             value = part-is j app-argument m (omega (arith, i .count)) (omega (arith, i .ends, i .past));
             nodes-in = omega (arith, i .count);
             count = omega (arith, m .nodes, i .count, j .nodes-in);
+            stays = of-app x e a goes-in;
           }
 
       -- the argument stays
-      module _ (ends-so : (ps : List ℕ) → Held row (f .count) ps → (ps ≡ (f .end - body - f .gap) ∷ []) × (f .gap ≤ f .end - body)) where
+      module _ (ends-so : endsIn x e ≡ true) where
         last : (places x e 0 ≡ (size e - (2 + length x)) ∷ []) × (2 + length x ≤ size e)
-        last =
-            let b = app-numbers in
-            let q = ends-so (places x e 0) (found .held) in
-            let d : f .end - body - f .gap ≡ size e - (2 + length x) = omega (arith, b .next, b .gap-is) in
-            (q .0 ∙ ap (λ (p : ℕ). p ∷ []) d, omega (arith, q .1, b .next, b .gap-is))
+        last = last-place (places x e 0) (2 + length x) (size e) ends-so
 
         pub tail-room : {room : ℕ} → outputRoom limits ≤ room → (f .gap ≤ f .end) × (body ≤ f .end - f .gap) × (f .end - f .gap ≤ length s) × (0 + (f .end - f .gap - body) ≤ room)
         tail-room h =
@@ -133,6 +139,7 @@ module _ {s : Bytes} {at n l : ℕ} where
             let r = tail-room h in
             let v = app-argument in
             let g : slice (f .end) (at + size t) s ≡ encode a = ap (λ (k : ℕ). slice (f .end) k s) (sym (b .ends)) ∙ slice-is (f .end) s (encode a) (v .rest) (v .bytes) in
+            let size-is : at + size t - f .end ≡ size a = omega (arith, b .ends) in
             becomes _ (smaller-fits j u (omega (arith, tail-nodes x a e y, b .count)) (omega (arith, tail-long x a e y, b, y .1))) refl
             (record {
               rule = refl;
@@ -143,4 +150,5 @@ module _ {s : Bytes} {at n l : ℕ} where
                   ap (λ (q : Bytes). q ++ slice (f .end) (at + size t) s) (wrote-part o (omega (arith, o .ends, front-long x a e y, r, i)))
                   ∙ ap (λ (q : Bytes). take (size e - (2 + length x)) (encode e) ++ q) g
                   ∙ sym (tail-bytes x a e y);
+              stays = rw size-is (of-app-end x e a ends-so);
             })

@@ -2,11 +2,13 @@
 -- By the splice at one place. Assumes nothing.
 use Prim.Native.Nat.{ℕ, _+_, _-_, _*_, _≤_}
 use mathlib.Core.Path.{_≡_, refl, sym, ap, _∙_}
+use mathlib.Core.Bool.{true, false}
 use mathlib.Core.List.{List, [], _∷_, _++_, append-nil, append-assoc}
 use native.Mathlib.Omega.{arith}
 use lib.ListN.{length, getD, take, drop, length-append, take-append-drop}
 use lib.Seq.{slice, slice-empty, length-take-le}
-use Rattle.rules.specs.Basic.{Bytes}
+use borrow.Author.Tests.{eqb-true}
+use Rattle.rules.specs.Basic.{Bytes, _==_}
 use Rattle.rules.specs.Name.{Name}
 use Rattle.rules.specs.Term.{Term, encode, nodes, size}
 use Rattle.rules.specs.Free.{occurrences}
@@ -18,15 +20,31 @@ use Rattle.substitution.proofs.place.Shapes.{places-many}
 use Rattle.substitution.proofs.splice.Splices.{spliced-term}
 use Rattle.buffer.specs.Writing.{slice-is}
 use Rattle.term.specs.Place.{TermAt}
+use Rattle.contraction.specs.Stays.{oneAtEnd}
 
 -- ---- the one place that is held
 
-pub one-place : (row : List ℕ) {count : ℕ} {ps : List ℕ} → Held row count ps → count ≡ 1 → ps ≡ getD row 0 0 ∷ []
-one-place [] h e = absurd (omega (arith, h .inside))
-one-place (p ∷ row) h e = sym (h .are) ∙ ap (λ (n : ℕ). take n (p ∷ row)) e
+-- whether it is one, at the end
+pub one-at-end : (row : List ℕ) {count : ℕ} {ps : List ℕ} → Held row count ps → (gap end : ℕ) → count ≡ 1 → ((getD row 0 0 + gap) == end) ≡ oneAtEnd ps gap end
+one-at-end [] h gap end e = absurd (omega (arith, h .inside))
+one-at-end (p ∷ row) {count} {ps} h gap end e = let q : ps ≡ p ∷ [] = sym (h .are) ∙ ap (λ (n : ℕ). take n (p ∷ row)) e in rw q
 
-pub place-ends : {ps : List ℕ} {p gap long : ℕ} → ps ≡ p ∷ [] → p + gap ≡ long → (ps ≡ (long - gap) ∷ []) × (gap ≤ long)
-place-ends {p = p} {gap} {long} e q = let d : p ≡ long - gap = omega arith in (e ∙ ap (λ (z : ℕ). z ∷ []) d, omega arith)
+pub not-one : (row : List ℕ) {count : ℕ} {ps : List ℕ} → Held row count ps → (gap end : ℕ) → (count ≡ 1 → ⊥) → false ≡ oneAtEnd ps gap end
+not-one row {count} {ps} h gap end n = go ps (sym (length-take-le count row (h .inside)) ∙ ap (λ (z : List ℕ). length z) (h .are))
+  where
+    go : (qs : List ℕ) → count ≡ length qs → false ≡ oneAtEnd qs gap end
+    go [] e = refl
+    go (q ∷ []) e = absurd (n e)
+    go (q ∷ r ∷ qs) e = refl
+
+-- then it is the last of the body
+pub last-place : (ps : List ℕ) (gap end : ℕ) → oneAtEnd ps gap end ≡ true → (ps ≡ (end - gap) ∷ []) × (gap ≤ end)
+last-place [] gap end e = absurd (let z : _≡_ {A = ℕ} 0 1 = cc in omega arith)
+last-place (p ∷ []) gap end e =
+    let q : p + gap ≡ end = eqb-true (p + gap) end e in
+    let d : p ≡ end - gap = omega arith in
+    (ap (λ (z : ℕ). z ∷ []) d, omega arith)
+last-place (p ∷ q ∷ ps) gap end e = absurd (let z : _≡_ {A = ℕ} 0 1 = cc in omega arith)
 
 -- ---- what comes of it
 

@@ -14,6 +14,7 @@ use Rattle.term.specs.Measured.{Measured, Named}
 use Rattle.term.specs.declared.span.Extent.{Extent}
 use Rattle.term.specs.declared.span.Names.{Names}
 use Rattle.term.proofs.span.Rows.{branch-names, past-names, x-is, y-is, in-branch}
+use Rattle.contraction.specs.Stays.{of-case}
 use Rattle.contraction.specs.Contracts.{Redex}
 use Rattle.contraction.specs.Parts.{Kept, PartIs, Placing}
 use Rattle.contraction.specs.declared.part.Body.{Body}
@@ -72,6 +73,7 @@ module _ {s : Bytes} {at n l : ℕ} where
               value = value-part;
               nodes-in = omega (arith, i .count);
               count = omega (arith, h .nodes, g .nodes, i .count, j .nodes-in);
+              stays = of-case x y k v b d;
             }
 
       -- the right
@@ -98,4 +100,5 @@ module _ {s : Bytes} {at n l : ℕ} where
               value = value-part;
               nodes-in = omega (arith, i .count);
               count = omega (arith, h .nodes, g .nodes, i .count, j .nodes-in);
+              stays = of-case x y k v b d;
             }

@@ -1,6 +1,6 @@
 -- What goes in, and where: the parts of the redex as slices, and what the whole has with the body in the redex's place. Assumes nothing.
 use Prim.Native.Nat.{ℕ, _+_, _-_, _≤_}
-use mathlib.Core.Path.{_≡_, _∙_}
+use mathlib.Core.Path.{_≡_, refl, _∙_}
 use mathlib.Core.Option.{none, some}
 use mathlib.Core.List.{List}
 use native.Mathlib.Omega.{arith}
@@ -14,6 +14,7 @@ use Rattle.rules.specs.declared.Rule.{Rule}
 use Rattle.term.proofs.node.Terms.{at-end}
 use Rattle.term.specs.Given.{Given}
 use Rattle.term.proofs.span.Rows.{term-part}
+use Rattle.substitution.specs.Tally.{moved, thenMoved}
 use Rattle.substitution.specs.Put.{Putting, Turns, Puts, Room}
 use Rattle.substitution.specs.declared.put.Put.{Put}
 use Rattle.contraction.specs.Contracts.{Contracts, contractedOf}
@@ -58,9 +59,9 @@ module _ {s : Bytes} {at end : ℕ} {b : Body} {p : Part} {n l : ℕ} {row : Lis
       }
 
   pub placed : {rule : Rule} {made made′ : Bytes} {q : Put} {c : Contracted} → Room made
-      → Puts (n - nodes e) (l - (end - at) + (b .end - b .from) - size e) none (subst x v e) made made′ q → c ≡ contractedOf rule end q
+      → Puts (n - nodes e) (l - (end - at) + (b .end - b .from) - size e) none (moved x v e) (subst x v e) made made′ q → c ≡ contractedOf rule end q
       → Contracts s at whole l t rule none (subst x v e) made′ c
-  placed room d is = put-contracts (j .redex) (j .ends) (omega (arith, j .count)) (omega (arith, j .ends, j .found .next)) room d is
+  placed room d is = put-contracts (j .redex) (j .ends) (omega (arith, j .count)) (omega (arith, j .ends, j .found .next)) room refl (j .stays) d is
 
 -- ---- two in turn
 
@@ -97,6 +98,7 @@ module _ {s : Bytes} {at middle past : ℕ} {p q : Part} {n l whole : ℕ} {t : 
         }
 
     pub paired : {rule : Rule} {made made′ : Bytes} {z : Put} {c : Contracted} → Room made
-        → Puts (n - nodes e) (l - (b .end - at)) (some (subst x v e)) (subst (take (past - (middle + 1)) (drop (middle + 1) s)) w (subst x v e)) made made′ z → c ≡ contractedOf rule (b .end) z
+        → Puts (n - nodes e) (l - (b .end - at)) (some (subst x v e)) (thenMoved (moved x v e) (moved (take (past - (middle + 1)) (drop (middle + 1) s)) w (subst x v e)))
+        (subst (take (past - (middle + 1)) (drop (middle + 1) s)) w (subst x v e)) made made′ z → c ≡ contractedOf rule (b .end) z
         → Contracts s at whole l t rule (some (subst x v e)) (subst y w (subst x v e)) made′ c
-    paired room d is = put-contracts (j .redex) ends (omega (arith, j .count)) (omega (arith, ends)) room (rw (j .y-is) at d) is
+    paired room d is = put-contracts (j .redex) ends (omega (arith, j .count)) (omega (arith, ends)) room refl (j .stays) (rw (j .y-is) at d) is

@@ -17,10 +17,12 @@ use Rattle.buffer.specs.Wrote.{Wrote}
 use Rattle.term.proofs.node.Terms.{at-end}
 use Rattle.substitution.proofs.place.Writes.{wrote-part}
 use Rattle.substitution.specs.Put.{Puts, Room}
+use Rattle.substitution.specs.declared.tally.Tally.{Tally}
 use Rattle.substitution.specs.declared.put.Put.{Put}
 use Rattle.substitution.specs.declared.put.Put.the-variants.{Written, Outgrown as Outgrew}
 use Rattle.substitution.proofs.put.Puts.{beside-within}
 use Rattle.contraction.specs.Beside.{fitsAround}
+use Rattle.contraction.specs.Stays.{Stays}
 use Rattle.contraction.specs.Contracts.{Redex, Replaced, Contracts, becomes, outgrows, contractedOf}
 use Rattle.contraction.specs.declared.part.Contracted.{Contracted}
 
@@ -30,8 +32,9 @@ module _ {s : Bytes} {at n l : ℕ} {t : Term} (j : Redex s at n l t) where
 
   -- the whole of it was written
   pub all-written : {rule : Rule} (u : Term) {made made′ : Bytes} {k end m : ℕ} → Wrote made 0 (encode u) made′ k → k ≤ length made → end ≡ at + size t → m ≡ n - nodes t + nodes u
-      → Replaced s at n t rule u made′ (record { rule = rule; size = k; end = end; nodes = m })
-  all-written u {made} {made′} {k} {end} w h ee em =
+      → Stays t 0 → Replaced s at n t rule u made′ (record { rule = rule; size = k; end = end; nodes = m })
+  all-written u {made} {made′} {k} {end} w h ee em none =
+      let z : at + size t - end ≡ 0 = omega arith in
       record {
         rule = refl;
         count = em;
@@ -41,17 +44,18 @@ module _ {s : Bytes} {at n l : ℕ} {t : Term} (j : Redex s at n l t) where
             ap (λ (z : Bytes). slice 0 k made′ ++ z) (ap (λ (i : ℕ). slice i (at + size t) s) ee ∙ slice-empty (at + size t) s)
             ∙ append-nil (slice 0 k made′)
             ∙ wrote-part w h;
+        stays = rw z none;
       }
 
   pub put-contracts : {rule : Rule} {end others rest : ℕ} → end ≡ at + size t → others ≡ n - nodes t → rest ≡ l - size t
-      → {h : Option Term} {u : Term} {made made′ : Bytes} {p : Put} {c : Contracted} → Room made
-      → Puts others rest h u made made′ p → c ≡ contractedOf rule end p → Contracts s at n l t rule h u made′ c
-  put-contracts {rule} {end} {others} {rest} ee eo er {h} {u} {made} {made′} {p} {c} room d is =
+      → {h : Option Term} {k : Tally} {u : Term} {made made′ : Bytes} {p : Put} {c : Contracted} → Room made → k .past ≡ size u → Stays t 0
+      → Puts others rest h k u made made′ p → c ≡ contractedOf rule end p → Contracts s at n l t rule h u made′ c
+  put-contracts {rule} {end} {others} {rest} ee eo er {h} {k} {u} {made} {made′} {p} {c} room long none d is =
       go (halfFits limits h && fitsAround n l t u) refl (d .says ∙ rw (eo, er)) (d .leaves ∙ rw (eo, er))
     where
-      go : (b : Bool) → (halfFits limits h && fitsAround n l t u) ≡ b → p ≡ (if b then Written (size u) (n - nodes t + nodes u) else Outgrew)
+      go : (b : Bool) → (halfFits limits h && fitsAround n l t u) ≡ b → p ≡ (if b then Written k (n - nodes t + nodes u) else Outgrew)
           → made′ ≡ (if b then sets made 0 (encode u) else made) → Contracts s at n l t rule h u made′ c
       go true y q m =
           let f = beside-within (n - nodes t) (l - size t) u (both-true (halfFits limits h) (fitsAround n l t u) y .1) in
-          becomes _ y (is ∙ ap (λ (z : Put). contractedOf rule end z) q) (all-written u (record { holds = m; ends = omega arith }) (omega (arith, f)) ee refl)
+          becomes _ y (is ∙ ap (λ (z : Put). contractedOf rule end z) q) (all-written u (record { holds = m; ends = omega (arith, long) }) (omega (arith, f, long)) ee refl none)
       go false y q m = outgrows y (is ∙ ap (λ (z : Put). contractedOf rule end z) q)

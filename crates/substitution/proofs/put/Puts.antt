@@ -19,13 +19,17 @@ use Rattle.laws.specs.free.Same.{both-true}
 use Rattle.laws.specs.reading.Fits.{within}
 use Rattle.buffer.specs.Wrote.{Wrote}
 use Rattle.substitution.specs.Places.{places}
-use Rattle.substitution.specs.Spliced.{spliced, Left}
+use Rattle.substitution.specs.Spliced.{spliced, Splicing, Splices}
 use Rattle.substitution.proofs.place.Shapes.{places-many}
 use Rattle.substitution.proofs.splice.Splices.{spliced-term, spaced-term}
+use Rattle.substitution.proofs.splice.Runs.{tally-is, runs-moved}
 use Rattle.substitution.proofs.place.Writes.{from-start}
 use Rattle.substitution.proofs.put.Growths.{Growth, nodes-go, bytes-go, count-small, nodes-after, bytes-after}
 use Rattle.substitution.specs.Beside.{fitsBeside}
+use Rattle.substitution.specs.Tally.{moved}
+use Rattle.substitution.specs.Runs.{MovesRuns}
 use Rattle.substitution.specs.Put.{Putting, Puts}
+use Rattle.substitution.specs.declared.tally.Tally.{Tally}
 use Rattle.substitution.specs.declared.put.Put.{Put}
 use Rattle.substitution.specs.declared.put.Put.the-variants.{Written, Outgrown}
 
@@ -50,29 +54,29 @@ module _ (others rest : ℕ) (u : Term) where
   unfolding fitsBeside
   beside-long h k = rw (le-leb (others + nodes u) (limits .nodes) h) (lt-leb (rest + size u) (limits .bytes) k)
 
-  outgrown : (out : Bytes) → fitsBeside others rest u ≡ false → Puts others rest none u out out Outgrown
-  outgrown out n = record { says = rw n; leaves = rw n }
+  outgrown : (t : Tally) (out : Bytes) → fitsBeside others rest u ≡ false → Puts others rest none t u out out Outgrown
+  outgrown t out n = record { says = rw n; leaves = rw n }
 
 -- ---- what the answer tells of a term with no bytes beside it
 
-pub record Went (others : ℕ) (u : Term) (out out′ : Bytes) (l c : ℕ) : Type 0 where
+pub record Went (others : ℕ) (t : Tally) (u : Term) (out out′ : Bytes) (t′ : Tally) (c : ℕ) : Type 0 where
   pub fit : (others + nodes u ≤ limits .nodes) × (0 + size u ≤ limits .bytes)
-  pub long : l ≡ size u
+  pub moved : t′ ≡ t
   pub count : c ≡ others + nodes u
   pub leaves : out′ ≡ sets out 0 (encode u)
 
-module _ (others : ℕ) (u : Term) (out out′ : Bytes) (r : Put) (d : Puts others 0 none u out out′ r) where
-  pub went : (l c : ℕ) → r ≡ Written l c → Went others u out out′ l c
-  went l c is = go (fitsBeside others 0 u) refl (d .says) (d .leaves)
+module _ (others : ℕ) (t : Tally) (u : Term) (out out′ : Bytes) (r : Put) (d : Puts others 0 none t u out out′ r) where
+  pub went : (t′ : Tally) (c : ℕ) → r ≡ Written t′ c → Went others t u out out′ t′ c
+  went t′ c is = go (fitsBeside others 0 u) refl (d .says) (d .leaves)
     where
-      go : (b : Bool) → fitsBeside others 0 u ≡ b → r ≡ (if b then Written (size u) (others + nodes u) else Outgrown) → out′ ≡ (if b then sets out 0 (encode u) else out) → Went others u out out′ l c
-      go true y s h = record { fit = beside-within others 0 u y; long = cc; count = cc; leaves = h }
+      go : (b : Bool) → fitsBeside others 0 u ≡ b → r ≡ (if b then Written t (others + nodes u) else Outgrown) → out′ ≡ (if b then sets out 0 (encode u) else out) → Went others t u out out′ t′ c
+      go true y s h = record { fit = beside-within others 0 u y; moved = cc; count = cc; leaves = h }
       go false y s h = absurd (let z : _≡_ {A = ℕ} 0 1 = cc in omega arith)
 
   pub stuck : r ≡ Outgrown → (fitsBeside others 0 u ≡ false) × (out′ ≡ out)
   stuck is = go (fitsBeside others 0 u) refl (d .says) (d .leaves)
     where
-      go : (b : Bool) → fitsBeside others 0 u ≡ b → r ≡ (if b then Written (size u) (others + nodes u) else Outgrown) → out′ ≡ (if b then sets out 0 (encode u) else out) → (fitsBeside others 0 u ≡ false) × (out′ ≡ out)
+      go : (b : Bool) → fitsBeside others 0 u ≡ b → r ≡ (if b then Written t (others + nodes u) else Outgrown) → out′ ≡ (if b then sets out 0 (encode u) else out) → (fitsBeside others 0 u ≡ false) × (out′ ≡ out)
       go true y s h = absurd (let z : _≡_ {A = ℕ} 0 1 = cc in omega arith)
       go false y s h = (y, h)
 
@@ -121,28 +125,37 @@ module _ {body : Bytes} {row : List ℕ} {count gap : ℕ} {value : Bytes} {m n 
     total : p ≡ others + nodes (subst x v e)
     total = omega (arith, ep, nodes-after growth, nodes-go growth, j .nodes-in)
 
-    pub too-many : {out : Bytes} → limits .nodes < p → Puts others rest none (subst x v e) out out Outgrown
-    too-many {out} h = outgrown others rest (subst x v e) out (beside-many others rest (subst x v e) (omega (arith, total)))
+    pub too-many : {out : Bytes} → limits .nodes < p → Puts others rest none (moved x v e) (subst x v e) out out Outgrown
+    too-many {out} h = outgrown others rest (subst x v e) (moved x v e) out (beside-many others rest (subst x v e) (omega (arith, total)))
 
     module _ (few-enough : p ≤ limits .nodes) {q : ℕ} (eq : q ≡ l - count * gap + count * length value) where
       long : q ≡ rest + size (subst x v e)
       long = omega (arith, eq, bytes-after growth, bytes-go growth, body-long, j .bytes-in)
 
-      pub too-long : {out : Bytes} → limits .bytes < q → Puts others rest none (subst x v e) out out Outgrown
-      too-long {out} h = outgrown others rest (subst x v e) out (beside-long others rest (subst x v e) (omega (arith, total)) (omega (arith, long)))
+      pub too-long : {out : Bytes} → limits .bytes < q → Puts others rest none (moved x v e) (subst x v e) out out Outgrown
+      too-long {out} h = outgrown others rest (subst x v e) (moved x v e) out (beside-long others rest (subst x v e) (omega (arith, total)) (omega (arith, long)))
 
       module _ (short-enough : q ≤ limits .bytes) {out : Bytes} (room : outputRoom limits ≤ length out) where
-        pub splice-left : Left body (take (count - 0) row) gap value 0 out 0
-        splice-left =
+        pub splicing : Splicing body (take (count - 0) row) gap value out
+        splicing =
             record {
               spaced = rw (part-is, j .gap-is) (spaced-term x v e body (j .body-is));
               room = omega (arith, ap (λ (z : Bytes). length z) result, long);
             }
 
-        pub put-whole : {out₁ : Bytes} {o₁ : ℕ} → Wrote out 0 (spliced body value gap 0 (take (count - 0) row) (length body)) out₁ o₁
-            → Puts others rest none (subst x v e) out out₁ (Written o₁ p)
-        put-whole {out₁} {o₁} g =
-            let w : Wrote out 0 (encode (subst x v e)) out₁ o₁ = rw result at g in
+        pub put-whole : {out₁ : Bytes} {t : Tally} → Splices body (take (count - 0) row) gap value out out₁ t → Puts others rest none (moved x v e) (subst x v e) out out₁ (Written t p)
+        put-whole {out₁} {t} g =
+            let w : Wrote out 0 (encode (subst x v e)) out₁ (t .past) = rw result at (g .written) in
             let y = beside-yes others rest (subst x v e) (omega (arith, total)) (omega (arith, long)) in
-            let s : o₁ ≡ size (subst x v e) = omega (arith, w .ends) in
+            let k : length (take (count - 0) row) ≡ occurrences x e = ap (λ (z : List ℕ). length z) part-is ∙ places-many x e 0 in
+            let s : t ≡ moved x v e = tally-is t (g .read ∙ body-long) (omega (arith, w .ends)) (omega (arith, g .runs, k)) (g .values ∙ k) in
             record { says = rw (y, s, total); leaves = rw y (w .holds) }
+
+-- ---- request (x), of what `put_in` ensures: where it wrote, it moved the runs of the body, and nothing else
+
+pub put-moves-runs : (others rest : ℕ) (x : Name) (v e : Term) (out out′ : Bytes) (t : Tally) (c : ℕ) → Puts others rest none (moved x v e) (subst x v e) out out′ (Written t c) → MovesRuns x v e out out′ t
+put-moves-runs others rest x v e out out′ t c d = go (fitsBeside others rest (subst x v e)) (d .says) (d .leaves)
+  where
+    go : (b : Bool) → Written t c ≡ (if b then Written (moved x v e) (others + nodes (subst x v e)) else Outgrown) → out′ ≡ (if b then sets out 0 (encode (subst x v e)) else out) → MovesRuns x v e out out′ t
+    go true s l = let is : t ≡ moved x v e = cc in let n : 0 + size (subst x v e) ≡ size (subst x v e) = omega arith in rw is (runs-moved x v e out out′ (record { holds = l; ends = sym n }))
+    go false s l = absurd (let z : _≡_ {A = ℕ} 0 1 = cc in omega arith)

@@ -28,11 +28,14 @@ enum-told c = search needs
 of-no-input-requires : tie.Need-of-no-input-requires
 of-no-input-requires c κs = search needs
 
-enum-known-size : tie.Need-enum-known-size
-enum-known-size c = search needs
+enum-known-tally : tie.Need-enum-known-tally
+enum-known-tally c = search needs
+
+past-requires : tie.Need-past-requires
+past-requires c κs = search needs
 
 clear-requires-2 : tie.Need-clear-requires-2
-clear-requires-2 c κs = let (t, v, j) = c .before .before .before .before .before .before .before .before .before .before .before .before .before .before .before .before .before .before .before .before .pre in end-within j (c .before .before .before .before .before .before .put-in .ensures _ t v (putting j refl (c .before .before .before .before .before .before .before .before .before .find-places .ensures t (whole t _ (j .term-in .bytes)) .1))) (c .before .before .size .given .1)
+clear-requires-2 c κs = let (t, v, j) = c .before .before .before .before .before .before .before .before .before .before .before .before .before .before .before .before .before .before .before .before .before .pre in end-within j (c .before .before .before .before .before .before .before .put-in .ensures _ t v (putting j refl (c .before .before .before .before .before .before .before .before .before .before .find-places .ensures t (whole t _ (j .term-in .bytes)) .1))) (c .before .before .before .tally .given .1) (c .before .past .ensures)
 
 same-length : tie.Need-same-length
 same-length c = search needs
@@ -50,7 +53,7 @@ same-length-4 : tie.Need-same-length-4
 same-length-4 c = search needs
 
 returns-2 : tie.Need-returns-2
-returns-2 c = λ t v j. done j (c .before .before .before .before .before .before .before .before .before .put-in .ensures _ t v (putting j refl (c .before .before .before .before .before .before .before .before .before .before .before .before .find-places .ensures t (whole t _ (j .term-in .bytes)) .1))) (c .before .before .before .before .before .size .given .1) _ _ _ (c .before .before .clear2 .ensures) (c .before .before .before .before .before .before .before .before .before .before .before .before .before .before .before .before .clear .ensures)
+returns-2 c = λ t v j. done j (c .before .before .before .before .before .before .before .before .before .before .put-in .ensures _ t v (putting j refl (c .before .before .before .before .before .before .before .before .before .before .before .before .before .find-places .ensures t (whole t _ (j .term-in .bytes)) .1))) (c .before .before .before .before .before .before .tally .given .1) (c .before .before .before .before .past .ensures) _ _ _ (c .before .before .clear2 .ensures) (c .before .before .before .before .before .before .before .before .before .before .before .before .before .before .before .before .before .clear .ensures)
 
 pub replace-spec : {M : Type 1} → statement M
 replace-spec =
@@ -63,7 +66,8 @@ replace-spec =
     put-in-requires
     enum-told
     of-no-input-requires
-    enum-known-size
+    enum-known-tally
+    past-requires
     clear-requires-2
     same-length
     same-length-2

@@ -119,6 +119,17 @@ module _ (s : Bytes) (x : Name) (v : Term) where
   law (both k y z e b) = either (both k y z e b) (law e, (law b, tt))
   law (branch y z e l r) = either (branch y z e l r) (law e, (law l, (law r, tt)))
 
+  laws : (ts : List Term) → Laws ts
+  laws [] = tt
+  laws (t ∷ ts) = (law t, laws ts)
+
+  -- the places in a term that a mask may hide, and in terms in a row, lie apart and inside
+  pub part-spaced : (t : Term) (m i : ℕ) → TermAt s i t → Spaced (2 + length x) i (openPlaces x m t i) (i + size t)
+  part-spaced t m i w = rw append-nil at (part (hidden m) t (law t) i w [] (i + size t) (omega arith) .1)
+
+  pub row-spaced : (ts : List Term) (m i n : ℕ) → TermsAt s i n ts → Spaced (2 + length x) i (placesAll x m ts i) (i + length (encodeAll ts))
+  row-spaced ts m i n w = rw append-nil at (row ts (laws ts) m i n w [] (i + length (encodeAll ts)) (omega arith) .1)
+
 -- what comes of a whole term
 module _ (x : Name) (v t : Term) (s : Bytes) (e : s ≡ encode t) where
   long : 0 + size t ≡ length s

@@ -1,5 +1,6 @@
 -- `redexes::first` meets its contract: the parts of the Pair stand in a row, and the first is written. Assumes nothing.
 use native.Mathlib.Omega.{arith}
+use Rattle.contraction.specs.Stays.{of-fst}
 use Rattle.contraction.proofs.part.Standing.{inside}
 use Rattle.contraction.proofs.Staying.{in-pair, kept-nodes, first-room, first-kept}
 use borrow.Author.Needs.{needs}
@@ -25,7 +26,7 @@ same-length : tie.Need-same-length
 same-length c = search needs
 
 returns : tie.Need-returns
-returns c l a b j = first-kept j (in-pair j) (c .before .before .before .before .before .span-two .ensures _ _ (in-pair j .row)) (c .before .before .before .before .before .before .before .before .pre .1) (c .before .before .before .copy .ensures)
+returns c l a b j = first-kept j (in-pair j) (c .before .before .before .before .before .span-two .ensures _ _ (in-pair j .row)) (of-fst a b) (c .before .before .before .before .before .before .before .before .pre .1) (c .before .before .before .copy .ensures)
 
 pub first-spec : {M : Type 1} → statement M
 first-spec =

@@ -1,5 +1,6 @@
 -- `redexes::second` meets its contract: the first part of the Pair goes, the second stays where it is. Assumes nothing.
 use native.Mathlib.Omega.{arith}
+use Rattle.contraction.specs.Stays.{of-snd}
 use Rattle.contraction.proofs.part.Standing.{inside}
 use Rattle.contraction.proofs.Staying.{in-pair, first-part, gone-nodes, second-stays}
 use Rattle.contraction.proofs.redexes.second.Statement.{statement}
@@ -18,7 +19,7 @@ sub-t7 : tie.Need-sub-t7
 sub-t7 c = let j = c .before .before .before .pre .3 in omega (arith, gone-nodes j (in-pair j) (c .before .span .ensures _ (first-part j (in-pair j))))
 
 returns : tie.Need-returns
-returns c l a b j made = second-stays j (in-pair j) (c .before .span .ensures _ (first-part j (in-pair j))) _ made
+returns c l a b j made = second-stays j (in-pair j) (c .before .span .ensures _ (first-part j (in-pair j))) (of-snd a b) _ made
 
 pub second-spec : {M : Type 1} → statement M
 second-spec = tie.close (tie.spec add-span span-requires sub-t5 sub-t7 returns)

@@ -1,6 +1,6 @@
 -- `put::put_in` meets its contract: the sizes are those of the new whole, and the runs are the bytes of the result.
 -- Assumes nothing.
-use Rattle.substitution.proofs.put.Puts.{nodes-room, bytes-room, too-many, too-long, splice-left, put-whole}
+use Rattle.substitution.proofs.put.Puts.{nodes-room, bytes-room, too-many, too-long, splicing, put-whole}
 use borrow.Author.Needs.{needs}
 use Rattle.substitution.proofs.put.put_in.Statement.{statement}
 use Rattle.substitution.proofs.put.put_in.Tie as tie
@@ -27,7 +27,7 @@ part-splice-end : tie.Need-part-splice-end
 part-splice-end c = c .before .before .before .before .before .before .before .before .pre .0 .3 .held .inside
 
 splice-requires : tie.Need-splice-requires
-splice-requires c κs = let w = c .before .before .before .before .before .before .before .before .before .before .pre in splice-left (w .0 .3) (c .before .before .before .before .before .grown .ensures) (c .before .before .before .before .if1 .left) (c .before .before .before .grown2 .ensures) (c .before .before .if2 .left) (w .1)
+splice-requires c κs = let w = c .before .before .before .before .before .before .before .before .before .before .pre in splicing (w .0 .3) (c .before .before .before .before .before .grown .ensures) (c .before .before .before .before .if1 .left) (c .before .before .before .grown2 .ensures) (c .before .before .if2 .left) (w .1)
 
 same-length : tie.Need-same-length
 same-length c = search needs

@@ -1,21 +1,25 @@
--- `splice::splice` meets its contract: whatever the places that are left give, all give. Assumes nothing.
+-- `splice::splice` meets its contract: whatever the places that are left give, all give, and each turn moves one run and one value.
+-- Assumes nothing.
 use Prim.Native.Nat.{_-_}
 use mathlib.Core.Path.{_∙_}
 use native.Mathlib.Omega.{arith}
 use lib.ListN.{length}
-use Rattle.buffer.specs.Writing.{wrote-length}
-use Rattle.substitution.proofs.splice.Splicing.{Going, begin, bounds, value-room, turn, last-run, done}
+use borrow.Author.Needs.{needs}
+use Rattle.substitution.proofs.splice.Splicing.{Going, begin, run-room, value-room, turn, last-room, done}
 use Rattle.substitution.proofs.splice.splice.Statement.{statement}
 use Rattle.substitution.proofs.splice.splice.Tie as tie
 
 abbrev Inv-loop : tie.InvT-loop
-Inv-loop s places gap value out₀ to i₀ k₀ o₀ out i k o = Going s places gap value out₀ to out i k o
+Inv-loop body places gap value out₀ tally₀ k₀ out tally k = Going body places gap value out₀ out tally k
 
 abbrev μ-loop : tie.MeasureT-loop
-μ-loop s places gap value out₀ to i₀ k₀ o₀ out i k o = length places - k
+μ-loop body places gap value out₀ tally₀ k₀ out tally k = length places - k
+
+none-requires : tie.Need-none-requires Inv-loop μ-loop
+none-requires c κs = search needs
 
 loop-holds : tie.Need-loop-holds Inv-loop μ-loop
-loop-holds c = begin (c .before .before .before .before .pre)
+loop-holds c = begin (c .before .before .before .before .before .pre) (c .none .ensures)
 
 mul-place : tie.Need-mul-place Inv-loop μ-loop
 mul-place c = omega arith
@@ -26,14 +30,11 @@ shared-slice-read-place c = omega arith
 cast-place : tie.Need-cast-place Inv-loop μ-loop
 cast-place c = omega (arith, c .shared-slice-known4 .given (c .before .before .loop .k))
 
-copy-requires : tie.Need-copy-requires Inv-loop μ-loop
-copy-requires c κs = let b = bounds (c .before .before .before .loop .inv) (c .before .before .loop-test .taken) in (b .0, omega (arith, b .1), b .2)
+run-requires : tie.Need-run-requires Inv-loop μ-loop
+run-requires c κs = let r = run-room (c .before .before .before .loop .inv) (c .before .before .loop-test .taken) in (r .0, r .1, r .2, omega (arith, r .3))
 
-copy-requires-2 : tie.Need-copy-requires-2 Inv-loop μ-loop
-copy-requires-2 c κs = (omega arith, omega arith, value-room (c .before .before .before .before .before .before .before .loop .inv) (c .before .before .before .before .before .before .loop-test .taken) (c .before .before .before .copy .ensures))
-
-add-i : tie.Need-add-i Inv-loop μ-loop
-add-i c = omega (arith, bounds (c .before .before .before .before .before .before .before .before .before .before .loop .inv) (c .before .before .before .before .before .before .before .before .before .loop-test .taken) .1)
+value-requires : tie.Need-value-requires Inv-loop μ-loop
+value-requires c κs = let r = value-room (c .before .before .before .before .before .before .before .loop .inv) (c .before .before .before .before .before .before .loop-test .taken) (c .before .before .before .run .ensures) in (omega (arith, r .0), r .1, omega (arith, r .2))
 
 add-k : tie.Need-add-k Inv-loop μ-loop
 add-k c = omega arith
@@ -42,16 +43,16 @@ loop-less : tie.Need-loop-less Inv-loop μ-loop
 loop-less c = omega arith
 
 loop-again : tie.Need-loop-again Inv-loop μ-loop
-loop-again c = turn (c .before .before .before .before .before .before .before .before .before .before .loop .inv) (c .before .before .before .before .before .before .before .before .before .loop-test .taken) (c .before .before .before .before .before .before .copy .ensures) (c .before .before .copy2 .ensures)
+loop-again c = turn (c .before .before .before .before .before .before .before .before .before .before .loop .inv) (c .before .before .before .before .before .before .before .before .before .loop-test .taken) (c .before .before .before .before .before .before .run .ensures) (c .before .before .value .ensures)
 
-copy-requires-3 : tie.Need-copy-requires-3 Inv-loop μ-loop
-copy-requires-3 c κs = let b = last-run (c .before .before .loop .inv) (c .before .loop-test .left) in (b .0, omega arith, b .1)
+run-requires-2 : tie.Need-run-requires-2 Inv-loop μ-loop
+run-requires-2 c κs = let r = last-room (c .before .before .loop .inv) (c .before .loop-test .left) in (r .0, omega arith, r .1, omega (arith, r .2))
 
 same-length : tie.Need-same-length Inv-loop μ-loop
-same-length c = wrote-length (c .before .before .copy3 .ensures) ∙ c .before .before .before .before .before .loop .inv .same
+same-length c = c .before .before .run2 .kept .1 .1 .1 .0 ∙ c .before .before .before .before .before .loop .inv .same
 
 returns : tie.Need-returns Inv-loop μ-loop
-returns c = done (c .before .before .before .before .before .loop .inv) (c .before .before .before .before .loop-test .left) (c .before .before .copy3 .ensures)
+returns c = done (c .before .before .before .before .before .loop .inv) (c .before .before .before .before .loop-test .left) (c .before .before .run2 .ensures)
 
 pub splice-spec : {M : Type 1} → statement M
 splice-spec =
@@ -59,16 +60,16 @@ splice-spec =
     (tie.spec
     Inv-loop
     μ-loop
+    none-requires
     loop-holds
     mul-place
     shared-slice-read-place
     cast-place
-    copy-requires
-    copy-requires-2
-    add-i
+    run-requires
+    value-requires
     add-k
     loop-less
     loop-again
-    copy-requires-3
+    run-requires-2
     same-length
     returns)
