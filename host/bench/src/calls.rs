@@ -1,6 +1,7 @@
 //! The public calls, as they are timed: each on an input and what it is lent. The lent buffers are as long as asked, and not cleared in between.
 
 use crate::reducible::STEPS;
+use crate::sought;
 use std::hint::black_box;
 
 pub struct Lent {
@@ -51,9 +52,12 @@ pub const CHILD: Call = Call { symbol: "patch_child", room: NONE, run: |term, _|
 pub const FREE_NAMES: Call =
     Call { symbol: "patch_free_vars", room: OUTPUT, run: |term, lent| kept(patch::free_vars_to(term, &mut lent.out).unwrap()) };
 /// `fst y` for x.
-pub const SUBSTITUTION: Call = Call { symbol: "patch_substitute", room: WORK, run: |term, lent| put(term, &[11, 1, 1, b'y'], lent) };
+pub const SUBSTITUTION: Call = Call { symbol: "patch_substitute", room: WORK, run: |term, lent| put(term, "x", &[11, 1, 1, b'y'], lent) };
 /// `()` for x.
-pub const UNIT_PUT_IN: Call = Call { symbol: "patch_substitute", room: WORK, run: |term, lent| put(term, &[2], lent) };
+pub const UNIT_PUT_IN: Call = Call { symbol: "patch_substitute", room: WORK, run: |term, lent| put(term, "x", &[2], lent) };
+/// `feed_side_out` for feed_main_out.
+pub const VARIABLE_PUT_IN: Call =
+    Call { symbol: "patch_substitute", room: WORK, run: |term, lent| put(term, sought::NAME, sought::VALUE, lent) };
 pub const STEP: Call =
     Call { symbol: "patch_step", room: WORK, run: |term, lent| kept(patch::step_to(term, &mut lent.out, &mut lent.scratch).unwrap()) };
 /// To the end.
@@ -78,8 +82,8 @@ pub const STORE_PROOF: Call = Call { symbol: "patch_store_proof", room: STORED, 
 pub const LOAD_TERM: Call = Call { symbol: "patch_load_term", room: OUTPUT, run: |file, lent| load(patch::Kind::Term, file, lent) };
 pub const LOAD_PROOF: Call = Call { symbol: "patch_load_proof", room: OUTPUT, run: |file, lent| load(patch::Kind::Proof, file, lent) };
 
-fn put(term: &[u8], value: &[u8], lent: &mut Lent) {
-    kept(patch::substitute_to(term, b"x", value, &mut lent.out, &mut lent.scratch).unwrap())
+fn put(term: &[u8], name: &str, value: &[u8], lent: &mut Lent) {
+    kept(patch::substitute_to(term, name.as_bytes(), value, &mut lent.out, &mut lent.scratch).unwrap())
 }
 
 fn store(kind: patch::Kind, content: &[u8], lent: &mut Lent) {

@@ -32,7 +32,7 @@ fn var(name: &str) -> Term {
 }
 
 /// A balanced tree of pairs over so many variables.
-fn wide(leaves: usize, next: &mut usize, name: &dyn Fn(usize) -> String) -> Term {
+pub fn wide(leaves: usize, next: &mut usize, name: &dyn Fn(usize) -> String) -> Term {
     if leaves <= 1 {
         *next += 1;
         return Term::Var(name(*next - 1));

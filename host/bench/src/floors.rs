@@ -1,11 +1,14 @@
 //! The least that a row's ratio may be: what the forms that the owner names leave of speed is not to be lost by accident.
 
 /// Rows whose name begins so, from so many nodes or rules on. The first that fits counts.
-const FLOORS: [(&str, usize, f64); 14] = [
+const FLOORS: [(&str, usize, f64); 17] = [
     ("text of formulas", 1024, 6.0),
     ("text, ", 512, 8.0),
     ("free names, deep", 512, 1.0),
     ("free names", 512, 4.0),
+    ("substitution by parts, everywhere", 400, 0.7),
+    ("substitution by parts", 400, 1.2),
+    ("substitution, everywhere", 400, 2.0),
     ("substitution", 400, 4.0),
     ("step, ", 500, 5.0),
     ("reduction, applications at the root", 500, 10.0),
@@ -39,7 +42,7 @@ impl Held {
         if ratio < floor {
             self.below.push(head.split_whitespace().collect::<Vec<_>>().join(" "));
         }
-        format!("{floor:.0}")
+        floor.to_string()
     }
 
     pub fn print(&self) {

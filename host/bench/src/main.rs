@@ -5,6 +5,7 @@
 //!   bench least                       the inputs of 50 nodes or more on which the port is nearest to the Rust
 //!   bench instructions [only WORD]    instructions for each byte of input, counted by valgrind
 
+mod by_parts;
 mod calls;
 mod families;
 mod floors;
@@ -14,6 +15,7 @@ mod proofs;
 mod reducible;
 mod rows;
 mod shapes;
+mod sought;
 mod timing;
 
 use rows::{rows, Row};

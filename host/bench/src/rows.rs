@@ -1,7 +1,7 @@
-//! What is compared: for each row the port, and beside it the ported Rust or a plain loop, over the same inputs.
+//! What is compared: for each row the port, and beside it the ported Rust, a plain loop or a copy by parts, over the same inputs.
 
 use crate::calls::{self, kept, Call};
-use crate::{families, proofs, reducible};
+use crate::{families, proofs, reducible, sought};
 use lolli_core::{Formula, Proof, Term};
 use patch_generate::{formulas, terms, Rng};
 use patch_model::form::{formula_bytes, term_bytes};
@@ -65,7 +65,8 @@ impl Row {
 
 /// The rows that have the word in their name.
 pub fn rows(word: &str) -> Vec<Row> {
-    let mut rows: Vec<Row> = [any_input(), of_families(), of_reducibles(), of_proofs(), stored(), fixed()].into_iter().flatten().collect();
+    let mut rows: Vec<Row> =
+        [any_input(), of_families(), of_sought(), of_reducibles(), of_proofs(), stored(), fixed()].into_iter().flatten().collect();
     let header = include_str!("../../../include/patch.h");
     let declared = header.lines().filter_map(|line| Some(line.strip_prefix("void ")?.split_once('(')?.0)).collect::<BTreeSet<&str>>();
     assert_eq!(declared, rows.iter().map(|row| row.symbol).collect(), "each public call has a row");
@@ -117,6 +118,24 @@ fn of_families() -> Vec<Row> {
         let wide = move || families::input("wide", nodes);
         rows.push(Row::new("is normal, wide", nodes, calls::IS_NORMAL, wide, "Rust", |t: &Term, _| kept(lolli_extract::is_normal(t))));
         rows.push(Row::by_bytes("child, wide", nodes, calls::CHILD, wide));
+    }
+    rows
+}
+
+/// Substitution in terms of the greatest size, beside the Rust and beside the same work with the term copied part by part.
+fn of_sought() -> Vec<Row> {
+    let mut rows = Vec::new();
+    for often in sought::OFTEN {
+        let input = move || sought::input(often);
+        let value = sought::value();
+        let put = move |t: &Term, _: &[u8]| kept(t.substitute(sought::NAME, &value));
+        let lent = RefCell::new(calls::VARIABLE_PUT_IN.lent());
+        let by_parts = move |_: &Term, term: &[u8]| kept(sought::put_in_by_parts(term, &mut lent.borrow_mut()));
+        let named = |call: &str| format!("{call}, {often}");
+        rows.extend([
+            Row::new(named("substitution"), sought::NODES, calls::VARIABLE_PUT_IN, input, "Rust", put),
+            Row::new(named("substitution by parts"), sought::NODES, calls::VARIABLE_PUT_IN, input, "parts", by_parts),
+        ]);
     }
     rows
 }
