@@ -1,4 +1,4 @@
-// What a splice has moved so far. Only this module reads and writes the fields of a Tally, so what it counts was moved.
+// What a splice has moved so far. Only this module reads and writes the fields of a Tally, so nobody comes to `past` by runs that are not counted.
 ghost use mathlib.Core.Path.{_≡_};
 ghost use Prim.Native.Nat.{_+_, _-_, _<_, _≤_, _^_};
 ghost use lib.ListN.{length};
