@@ -8,11 +8,11 @@ use mathlib.Core.List.{List, [], _∷_}
 use lib.ListN.{replicate, take}
 use Rattle.rules.specs.Basic.{Bytes, say, digits, _‥_}
 use Rattle.rules.specs.Limits.{limits}
-use Rattle.rules.specs.Name.{leads, follows}
+use Rattle.rules.specs.Name.{leads, follows, isWord}
 use Rattle.rules.specs.Formula.{atom, plain, negated, encodeFormula}
 use Rattle.rules.specs.Term.{Term, one, promote, nodes, encode, fits}
 use Rattle.rules.specs.Proof.{Proof, Axiom, OneIntro, encodeRule, encodeFormulas, encodeProof}
-use Rattle.rules.specs.Reading.{times, many, byte, byteFor, room, letters, name, tag, tooMany, node, proofAt, whole, readTerm, readProof}
+use Rattle.rules.specs.Reading.{times, many, byte, byteFor, room, letters, spelled, name, tag, tooMany, node, proofAt, whole, readTerm, readProof}
 use Rattle.rules.specs.Text.{text}
 use Rattle.rules.specs.Substitution.{subst}
 use Rattle.rules.specs.Step.{step, contract}
@@ -63,7 +63,7 @@ abbrev pub cutOn : String → Proof
 cutOn a = cuts atom plain (say a) from (by OneIntro on [] from [] ∷ by Axiom on (atom negated (say a) ∷ []) from [] ∷ [])
 
 unfoldable pub runs : Run → Bool
-unfolding times many byte byteFor room letters name tag tooMany node proofAt whole readTerm readProof leads follows encode nodes fits text subst step contract reduceFrom extractFrom extract oldest axiomName digits stepCall extractCall encodeFormula encodeRule encodeFormulas encodeProof weighed blocks stored openBlock openBlocks opened countsLine refusalLine patchrun
+unfolding times many byte byteFor room letters spelled name tag tooMany node proofAt whole readTerm readProof leads follows isWord encode nodes fits text subst step contract reduceFrom extractFrom extract oldest axiomName digits stepCall extractCall encodeFormula encodeRule encodeFormulas encodeProof weighed blocks stored openBlock openBlocks opened countsLine refusalLine patchrun
 runs (step-of t ⟹ a) = equal (numbers stepNumbers (stepCall limits (encode t) (replicate 4096 0) (replicate 8192 0) .answer)) a
 runs (cut-on x at n ⟹ s) = equal (take 8 (extractCall limits (startCall n) (encodeProof (cutOn x)) (replicate 4096 0) (replicate 8192 0) (replicate 512 (0, 0)) .output)) s
 runs (file-of s ⟹ a) = equal (numbers (λ s. s) (opened limits aTerm (stored aTerm s))) a

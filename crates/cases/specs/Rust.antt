@@ -7,9 +7,9 @@ use lib.Dec.{eqb}
 use Rattle.rules.specs.Basic.{Bytes, digits}
 use Rattle.rules.specs.Limits.{limits}
 use Rattle.rules.specs.Refusal.{Outcome, good, refused}
-use Rattle.rules.specs.Name.{encodeNames, leads, follows, before}
+use Rattle.rules.specs.Name.{encodeNames, leads, follows, isWord, before}
 use Rattle.rules.specs.Term.{Term, nodes, encode, fits}
-use Rattle.rules.specs.Reading.{times, many, byte, byteFor, room, letters, name, tag, tooMany, node, proofAt, whole, readTerm, readFormula, readProof, readName}
+use Rattle.rules.specs.Reading.{times, many, byte, byteFor, room, letters, spelled, name, tag, tooMany, node, proofAt, whole, readTerm, readFormula, readProof, readName}
 use Rattle.rules.specs.Text.{text, formulaText}
 use Rattle.rules.specs.Free.{insert, union, without, free}
 use Rattle.rules.specs.Substitution.{subst}
@@ -50,7 +50,7 @@ extractedTo w n (good r) = eqb n (r .1) && equal w (encode (r .0))
 extractedTo w n (refused r) = false
 
 unfoldable pub right : Case → Bool
-unfolding times many byte byteFor room letters name tag tooMany node proofAt whole readTerm readFormula readProof readName leads follows before insert union without free subst step contract text formulaText nodes encode fits reduceFrom extractFrom extract oldest axiomName digits
+unfolding times many byte byteFor room letters spelled name tag tooMany node proofAt whole readTerm readFormula readProof readName leads follows isWord before insert union without free subst step contract text formulaText nodes encode fits reduceFrom extractFrom extract oldest axiomName digits
 right (freeNames t w) = readAnd (readTerm limits 1 (hex t)) (λ u. equal (hex w) (encodeNames (free u)))
 right (put t x v w) = readAnd (readTerm limits 1 (hex t)) (λ u. readAnd (readName 2 (hex x)) (λ y. readAnd (readTerm limits 3 (hex v)) (λ z. equal (hex w) (encode (subst y z u)))))
 right (printed t w) = readAnd (readTerm limits 1 (hex t)) (λ u. equal (hex w) (text u))

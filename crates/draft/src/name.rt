@@ -1,11 +1,12 @@
 // The names of a draft: a stem and a number.
+use rules::lower_byte;
 use words::digit::put_decimal;
 ghost use mathlib.Core.Path.{_≡_};
 ghost use Prim.Native.Nat.{_+_, _-_, _≤_};
 ghost use lib.ListN.{length};
 ghost use lib.Seq.{slice};
 ghost use Rattle.rules.specs.Basic.{decimal};
-ghost use Rattle.rules.specs.Name.{encodeName, lowerByte, lower};
+ghost use Rattle.rules.specs.Name.{encodeName, lower};
 ghost use Rattle.buffer.specs.Wrote.{Wrote};
 ghost use Rattle.draft.specs.Draft.{stemAt, numbered, nameOf, xName, lastTwo};
 
@@ -96,18 +97,6 @@ pub fn x_len(number: usize) -> usize
     ensures { λ r. ⌜ (r ≡ length (xName number)) × (r ≤ 21) ⌝ }
 {
     1 + digit_count(number)
-}
-
-fn lower_byte(b: u8) -> u8
-    ensures { λ r. ⌜ r ≡ lowerByte b ⌝ }
-{
-    if b < 65 {
-        return b;
-    }
-    if 90 < b {
-        return b;
-    }
-    b + 32
 }
 
 // Copies s[from..end] in lower case to out from `to` on, and returns the place after it.

@@ -34,7 +34,7 @@ agree true b e = refl
 agree false true e = refl
 agree false false e = refl
 
-from-is : (n : ℕ) (p : Proof) → extractFrom limits n p ≡ outcome (extract terms p [] n)
+pub from-is : (n : ℕ) (p : Proof) → extractFrom limits n p ≡ outcome (extract terms p [] n)
 unfolding extractFrom fits
 from-is n p =
     agree (mostCounter <? extract sizes p [] n .1) (sizeFits limits (extract sizes p [] n .0)) (extract terms p [] n)

@@ -21,7 +21,7 @@ use Rattle.extract.specs.declared.Extraction.{Extraction}
 use Rattle.extract.specs.declared.Extraction.the-variants.{Made, Refused}
 use Rattle.extract.specs.declared.ending.Ended.{Ended}
 
--- a refusal by 1 to 7 or 9 leaves the row untouched
+-- a refusal by 1 to 7, 9 or 15 leaves the row untouched
 abbrev pub clearsOf : (number room : ℕ) → ℕ
 clearsOf number room = if sparesScratch number then 0 else room
 

@@ -8,46 +8,44 @@ use mathlib.Core.Option.{Option, none, some}
 use native.Mathlib.Omega.{arith}
 use Rattle.rules.specs.Basic.{if_then_else_, _‥_}
 use Rattle.rules.specs.Limits.{mostCounter}
-use Rattle.rules.specs.Name.{Name, nameMost, atomMost, lower, leads}
+use Rattle.rules.specs.Name.{Name, lower, leads, nameSpelling}
 use Rattle.rules.specs.Legal.{LegalName, LegalFormula, Legal, LegalFormulas, LegalRule, LegalProof, LegalPremises}
 use Rattle.rules.specs.Formula.{Formula, atom, constant, exponential, connective, Sign, plain, negated, Tensor, Par, With, Plus, Lolli}
 use Rattle.rules.specs.Term.{Term, leaf, Leaf, unit, trivial, One, inl, inr, promote, derelict}
 use Rattle.rules.specs.Proof.{Proof, proof, Premises, done, _then_, Rule, plain as plainRule, cut, focus, Plain}
 use Rattle.rules.specs.Proof.Plain.{Axiom, OneIntro, BottomIntro, TensorIntro, ParIntro, TopIntro, WithIntro, PlusIntroLeft, PlusIntroRight, OfCourseIntro, WhyNotIntro, Weakening, Contraction, Dereliction, Blur}
 use Rattle.rules.specs.Extraction.{terms, Entries, fresh, x, stemFor, Premise, cutsAtom, oldest, orItself, axiomName, identity, firstOr, wrapped, paired, discarding, copying, joined, cutting, plainly, byRule, extract, extracts}
-use Rattle.extract.specs.Names.{lower-legal, fresh-legal}
+use Rattle.extract.specs.Names.{Stem, lower-stem, lower-legal, fresh-legal}
 
 -- ---- entries
 
 -- the names of the entries are legal
 abbrev pub LegalEntries : Entries → Type 0
 LegalEntries [] = Unit {0}
-LegalEntries (e ∷ es) = LegalName nameMost (e .1) × LegalEntries es
+LegalEntries (e ∷ es) = LegalName nameSpelling (e .1) × LegalEntries es
 
-entries-more : (es : Entries) (f : Formula) (v : Name) → LegalEntries es → LegalName nameMost v → LegalEntries (es ‥ (f, v) ∷ [])
+entries-more : (es : Entries) (f : Formula) (v : Name) → LegalEntries es → LegalName nameSpelling v → LegalEntries (es ‥ (f, v) ∷ [])
 entries-more [] f v l k = (k, tt)
 entries-more (e ∷ es) f v l k = (l .0, entries-more es f v (l .1) k)
 
 -- ---- names
 
-name-of-atom : (y : Name) → LegalName atomMost y → LegalName nameMost y
-name-of-atom [] l = l
-name-of-atom (b ∷ bs) l = (l .0, l .1, omega (arith, l .2))
-
-stem-legal : (f : Formula) → LegalFormula f → LegalName atomMost (stemFor f)
+x-stem : Stem x
 unfolding leads
-stem-legal (atom k a) l = lower-legal atomMost a l
-stem-legal (constant k) l = (refl, tt, omega arith)
-stem-legal (exponential k a) l = (refl, tt, omega arith)
-stem-legal (connective k a b) l = (refl, tt, omega arith)
+x-stem = record { lettered = (refl, tt); short = omega arith }
 
-x-legal : (n : ℕ) → n < mostCounter → LegalName nameMost (fresh x n .0)
-unfolding leads
-x-legal n h = fresh-legal x n (refl, tt, omega arith) h
+stem-of : (f : Formula) → LegalFormula f → Stem (stemFor f)
+stem-of (atom k a) l = lower-stem a l
+stem-of (constant k) l = x-stem
+stem-of (exponential k a) l = x-stem
+stem-of (connective k a b) l = x-stem
+
+x-legal : (n : ℕ) → n < mostCounter → LegalName nameSpelling (fresh x n .0)
+x-legal n h = fresh-legal x n x-stem h
 
 abbrev LegalOption : Option Name → Type 0
 LegalOption none = Unit {0}
-LegalOption (some v) = LegalName nameMost v
+LegalOption (some v) = LegalName nameSpelling v
 
 oldest-legal : (k : Sign) (a : Name) (es : Entries) → LegalEntries es → LegalOption (oldest k a es)
 unfolding oldest
@@ -65,7 +63,7 @@ axiom-legal es (atom k a ∷ fs) l m = go k (oldest k a es) (oldest-legal k a es
   where
     go : (k : Sign) (o : Option Name) → LegalOption o → LegalOption (axiomName es fs) → LegalOption (orItself k a o (axiomName es fs))
     go k (some v) h r = h
-    go plain none h r = name-of-atom (lower a) (lower-legal atomMost a (m .0))
+    go plain none h r = lower-legal a (m .0)
     go negated none h r = r
 axiom-legal es (constant k ∷ fs) l m = axiom-legal es fs l (m .1)
 axiom-legal es (exponential k a ∷ fs) l m = axiom-legal es fs l (m .1)
@@ -156,7 +154,7 @@ fine-cutting f m (more {p} i (more {p = q} j no-more)) =
           λ es n l h. let es′ = es ‥ (f, fresh (stemFor f) n .0) ∷ [] in
           let a = p es (suc n) in let b = q es′ (a .1) in
           let u = i .rises es (suc n) in let v = j .rises es′ (a .1) in let w = join f .up (a .0) (b .0) (b .1) in
-          let k : LegalName nameMost (fresh (stemFor f) n .0) = fresh-legal (stemFor f) n (stem-legal f m) (omega arith) in
+          let k : LegalName nameSpelling (fresh (stemFor f) n .0) = fresh-legal (stemFor f) n (stem-of f m) (omega arith) in
           join f .fit (a .0) (b .0) (b .1) (i .legal es (suc n) l (omega arith)) (j .legal es′ (a .1) (entries-more es f _ l k) (omega arith)) h;
     }
 fine-cutting f m (more i (more j (more k fs))) = record { rises = λ es n. omega arith; legal = λ es n l h. tt }

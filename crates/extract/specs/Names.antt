@@ -1,9 +1,10 @@
--- Generated names are legal: a lower-cased atom is a legal name, and a stem as long as an atom may be, with the digits of a number
--- below the most of the counter behind it, is no longer than a name may be. By the bytes, and by the number of digits. Assumes nothing.
+-- Generated names are legal: a lower-cased atom is a legal name, no word since the atom was legal; and a stem as long as an atom may be, with the
+-- digits of a number below the most of the counter behind it, is no longer than a name may be, and no word since it ends in a digit.
+-- By the bytes, and by the number of digits. Assumes nothing.
 use Prim.Native.Nat.{ℕ, zero, suc, _+_, _/_, _%_, _^_, _<_, _≤_}
-use mathlib.Core.Path.{_≡_, refl}
-use mathlib.Core.Bool.{Bool, true, false, _||_}
-use mathlib.Core.List.{List, [], _∷_, _++_, map}
+use mathlib.Core.Path.{_≡_, refl, sym, ap, _∙_}
+use mathlib.Core.Bool.{Bool, true, false, not, _||_}
+use mathlib.Core.List.{List, [], _∷_, _++_, map, append-assoc}
 use native.Mathlib.Omega.{arith}
 use native.Mathlib.Nat.{div-lt-iff-lt-mul, mod-lt, pow-suc}
 use lib.Dec.{ltb, leb, eqb}
@@ -11,9 +12,10 @@ use lib.ListN.{length, length-append, length-map}
 use borrow.Author.Tests.{lt-ltb, le-leb, lt-leb, leb-true, ltb-true}
 use Rattle.rules.specs.Basic.{if_then_else_, between, digits, decimal, _‥_}
 use Rattle.rules.specs.Limits.{mostCounter}
-use Rattle.rules.specs.Name.{Name, nameMost, atomMost, leads, follows, lowerByte, lower}
-use Rattle.rules.specs.Legal.{All, LegalName}
+use Rattle.rules.specs.Name.{Name, atomMost, leads, follows, lowerByte, lower, isWord, nameSpelling, atomSpelling}
+use Rattle.rules.specs.Legal.{All, Lettered, LegalName}
 use Rattle.laws.specs.free.Same.{both-true}
+use Rattle.laws.specs.reading.Words.{ends-in-digit}
 
 -- ---- a byte of a name, lower-cased
 
@@ -53,10 +55,21 @@ all-lower : (bs : List ℕ) → All follows bs → All follows (map lowerByte bs
 all-lower [] a = tt
 all-lower (b ∷ bs) a = (lower-follows b (a .0), all-lower bs (a .1))
 
--- A LOWER-CASED NAME IS A LEGAL NAME
-pub lower-legal : (most : ℕ) (x : Name) → LegalName most x → LegalName most (lower x)
-lower-legal most [] l = absurd l
-lower-legal most (b ∷ bs) l = (lower-leads b (l .0), all-lower bs (l .1), omega (arith, length-map bs lowerByte, l .2))
+lower-lettered : (x : Name) → Lettered x → Lettered (lower x)
+lower-lettered [] l = absurd l
+lower-lettered (b ∷ bs) l = (lower-leads b (l .0), all-lower bs (l .1))
+
+-- A LOWER-CASED ATOM IS A LEGAL NAME
+pub lower-legal : (x : Name) → LegalName atomSpelling x → LegalName nameSpelling (lower x)
+lower-legal x l = record { lettered = lower-lettered x (l .lettered); short = omega (arith, length-map x lowerByte, l .short); allowed = l .allowed }
+
+-- what a number may stand behind
+pub record Stem (x : Name) : Type 0 where
+  pub lettered : Lettered x
+  pub short : length x ≤ atomMost
+
+pub lower-stem : (x : Name) → LegalName atomSpelling x → Stem (lower x)
+lower-stem x l = record { lettered = lower-lettered x (l .lettered); short = omega (arith, length-map x lowerByte, l .short) }
 
 -- ---- digits
 
@@ -97,13 +110,32 @@ digits-few (suc d) (suc most) n h = go (ltb n 10) refl (digits-few d most (n / 1
     go true e k = omega arith
     go false e k = omega (arith, length-append (digits most (n / 10)) ((48 + n % 10) ∷ []), k less)
 
+-- the last digit
+digits-end : (most n : ℕ) → (before : List ℕ) × (d : ℕ) × (d < 10) × (digits (suc most) n ≡ before ++ (48 + d) ∷ [])
+unfolding digits
+digits-end most n = go (ltb n 10) refl
+  where
+    go : (t : Bool) → ltb n 10 ≡ t
+        → (before : List ℕ) × (d : ℕ) × (d < 10) × (_≡_ {A = List ℕ} (elim t [ true ↦ (48 + n) ∷ [] | false ↦ digits most (n / 10) ‥ (48 + n % 10) ∷ [] ]) (before ++ (48 + d) ∷ []))
+    go true e = ([], n, ltb-true n 10 e, refl)
+    go false e = (digits most (n / 10), n % 10, mod-lt n (omega arith), refl)
+
+numbered-no-word : (stem : Name) (n : ℕ) → isWord (stem ++ decimal n) ≡ false
+numbered-no-word stem n =
+    let e = digits-end n n in
+    ap (λ (ds : List ℕ). isWord (stem ++ ds)) (e .3) ∙ ap isWord (sym (append-assoc stem (e .0) ((48 + e .1) ∷ []))) ∙ ends-in-digit (stem ++ e .0) (48 + e .1) (omega (arith, e .2))
+
 -- a name and some bytes that may follow in one
-legal-more : (most room : ℕ) (x : Name) (ds : List ℕ) → LegalName most x → All follows ds → most + length ds ≤ room → LegalName room (x ++ ds)
-legal-more most room [] ds l a h = absurd l
-legal-more most room (b ∷ bs) ds l a h = (l .0, all-append follows bs ds (l .1) a, omega (arith, l .2, length-append bs ds))
+lettered-more : (x : Name) (ds : List ℕ) → Lettered x → All follows ds → Lettered (x ++ ds)
+lettered-more [] ds l a = absurd l
+lettered-more (b ∷ bs) ds l a = (l .0, all-append follows bs ds (l .1) a)
 
 -- A STEM AS LONG AS AN ATOM MAY BE AND A COUNTER BELOW THE MOST MAKE A LEGAL NAME
-pub fresh-legal : (stem : Name) (n : ℕ) → LegalName atomMost stem → n < mostCounter → LegalName nameMost (stem ++ decimal n)
+pub fresh-legal : (stem : Name) (n : ℕ) → Stem stem → n < mostCounter → LegalName nameSpelling (stem ++ decimal n)
 fresh-legal stem n l h =
     let few : length (decimal n) ≤ 8 = digits-few 7 (suc n) n h in
-    legal-more atomMost nameMost stem (decimal n) l (digits-follow (suc n) n) (omega arith)
+    record {
+      lettered = lettered-more stem (decimal n) (l .lettered) (digits-follow (suc n) n);
+      short = omega (arith, l .short, length-append stem (decimal n));
+      allowed = ap not (numbered-no-word stem n);
+    }

@@ -28,7 +28,7 @@ pub struct Ended {
     pub goes: bool,
 }
 
-// How many entries a refusal sets to zeros: none by 1 to 7 and 9, else all.
+// How many entries a refusal sets to zeros: none by 1 to 7, 9 and 15, else all.
 fn clears(number: u8, room: usize) -> usize
     ensures { λ r. ⌜ r ≡ clearsOf number room ⌝ }
 {
@@ -36,6 +36,9 @@ fn clears(number: u8, room: usize) -> usize
         return 0;
     }
     if number == 9 {
+        return 0;
+    }
+    if number == 15 {
         return 0;
     }
     room

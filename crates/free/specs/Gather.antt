@@ -4,11 +4,11 @@ use mathlib.Core.Path.{_≡_, refl, sym, ap, _∙_}
 use mathlib.Core.Bool.{Bool, true, false, not, _&&_, _||_, or-true, or-false}
 use mathlib.Core.List.{List, [], _∷_}
 use Rattle.rules.specs.Basic.{if_then_else_}
-use Rattle.rules.specs.Name.{Name, same}
+use Rattle.rules.specs.Name.{Name, same, among}
 use Rattle.rules.specs.Term.{Term, var, leaf, one, two, abs, both, branch}
 use Rattle.rules.specs.Free.{insert, union, without, free}
 use Rattle.laws.specs.free.Same.{same-equal}
-use Rattle.laws.specs.free.Occurrences.{among, among-insert, among-union, among-without}
+use Rattle.laws.specs.free.Occurrences.{among-insert, among-union, among-without}
 use Rattle.free.specs.Ordered.{Ordered, by-members, ordered-insert, ordered-free}
 
 -- the names of t that are free and not among the binders passed, the nearest first, put into a list

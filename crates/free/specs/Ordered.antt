@@ -4,11 +4,10 @@ use mathlib.Core.Path.{_≡_, refl, sym, _∙_}
 use mathlib.Core.Bool.{Bool, true, false, _||_}
 use mathlib.Core.List.{List, [], _∷_}
 use Rattle.rules.specs.Basic.{if_then_else_}
-use Rattle.rules.specs.Name.{Name, same, before}
+use Rattle.rules.specs.Name.{Name, same, before, among}
 use Rattle.rules.specs.Term.{Term, var, leaf, one, two, abs, both, branch}
 use Rattle.rules.specs.Free.{insert, union, without, free}
 use Rattle.laws.specs.free.Same.{same-itself, same-equal}
-use Rattle.laws.specs.free.Occurrences.{among}
 use Rattle.laws.specs.order.Compare.{never, before-trans, before-apart, Trichotomy, is, below, above, compare}
 
 -- x is before each of them

@@ -5,11 +5,10 @@ use mathlib.Core.Bool.{true, false}
 use mathlib.Core.List.{List, _∷_, _++_}
 use lib.ListN.{length, getD, take, drop}
 use Rattle.rules.specs.Basic.{Bytes}
-use Rattle.rules.specs.Name.{Name, encodeNames}
+use Rattle.rules.specs.Name.{Name, encodeNames, among}
 use Rattle.rules.specs.Limits.{limits}
 use Rattle.rules.specs.Free.{insert}
 use Rattle.term.specs.Place.{NameAt}
-use Rattle.laws.specs.free.Occurrences.{among}
 use Rattle.free.specs.Ordered.{Ordered}
 use Rattle.free.specs.Search.{at}
 use Rattle.free.specs.declared.slot.Slot.{Slot}

@@ -8,10 +8,10 @@ use mathlib.Core.Logic.{⊎-elim}
 use native.Mathlib.Nat.{le-of-suc-le-suc, not-suc-le-zero, eq-or-lt-of-le}
 use native.Mathlib.Omega.{arith}
 use lib.ListN.{length, getD, take, drop}
-use Rattle.rules.specs.Name.{Name, same, before}
+use Rattle.rules.specs.Name.{Name, same, before, among}
 use Rattle.rules.specs.Free.{insert}
 use Rattle.laws.specs.free.Same.{same-equal, same-turned}
-use Rattle.laws.specs.free.Occurrences.{among, among-insert}
+use Rattle.laws.specs.free.Occurrences.{among-insert}
 use Rattle.laws.specs.order.Compare.{never, before-trans, before-apart, before-one-way, Trichotomy, is, below, above, compare}
 use Rattle.free.specs.Ordered.{Below, Ordered, by-members, ordered-insert}
 

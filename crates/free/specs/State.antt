@@ -6,10 +6,9 @@ use mathlib.Core.Logic.{_⊎_}
 use mathlib.Core.List.{List}
 use lib.ListN.{length}
 use Rattle.rules.specs.Basic.{Bytes, if_then_else_}
-use Rattle.rules.specs.Name.{Name}
+use Rattle.rules.specs.Name.{Name, among}
 use Rattle.rules.specs.Free.{insert}
 use Rattle.term.specs.Place.{NameAt}
-use Rattle.laws.specs.free.Occurrences.{among}
 use Rattle.free.specs.Ordered.{Ordered}
 use Rattle.free.specs.Rows.{binders, rowEnd, Held, Passed}
 

@@ -11,6 +11,7 @@ pub mod Written
 pub mod WrittenTerm
 pub mod WrittenFormula
 pub mod Names
+pub mod Words
 pub mod Sound
 pub mod Complete
 pub mod Decoding

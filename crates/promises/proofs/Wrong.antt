@@ -1,16 +1,16 @@
--- No wrong version of a public call that document 01 names meets the call's contract: one table, each row computed at the document's own limits.
+-- No wrong version of a public call that document 01 or request (i) names meets the call's contract: one table, each row computed at the document's own limits.
 use mathlib.Core.Path.{_≡_, refl}
 use mathlib.Core.List.{List, [], _∷_, map}
 use Rattle.rules.specs.Basic.{say, _‥_}
 use Rattle.rules.specs.Formula.{encodeFormula}
 use Rattle.rules.specs.Term.{Term, encode}
 use Rattle.rules.specs.Proof.{Proof, encodeProof, encodeRule, encodeFormulas}
-use Rattle.rules.proofs.Notation.{v, ƛ_⇒_, wrong}
+use Rattle.rules.proofs.Notation.{v, ƛ_⇒_, hex, wrong}
 use Rattle.rules.specs.Straight.{Each}
 use Rattle.promises.specs.PublicCalls.{Call, Input, checkTerm, checkFormula, checkProof, isNormal, isStraight, locate, child, childFault, termText, formulaText, freeNames, store, load, substitute, step, reduce, extract, extractor, printed}
-use Rattle.promises.specs.Wrong.{Wrong, refuses-with-1, refuses-with-3, answers-unit, answers-normal, says-yes, copies-input, repeats-first-step, counts-next-rule, counts-all-as-app, counts-one-more, puts-in-together, renames-on-capture, enters-branches, enters-abort, enters-copy-body, skips-half-way, leaves-output-on-8, seeks-newest, takes-names-early, raises-counter-on-refusal, leaves-scratch, leaves-entries, clears-scratch-on-refusal, clears-entries-on-refusal, leaves-byte-behind, writes-on-refusal}
+use Rattle.promises.specs.Wrong.{Wrong, refuses-with-1, refuses-with-3, answers-unit, answers-normal, says-yes, copies-input, repeats-first-step, counts-next-rule, counts-all-as-app, counts-one-more, puts-in-together, renames-on-capture, enters-branches, enters-abort, enters-copy-body, skips-half-way, leaves-output-on-8, seeks-newest, takes-names-early, raises-counter-on-refusal, leaves-scratch, leaves-entries, clears-scratch-on-refusal, clears-entries-on-refusal, leaves-byte-behind, writes-on-refusal, takes-words}
 use Rattle.promises.proofs.Wrong.Refuting.{Row, _∶_on_, Refuted, differs, all-refuted}
-use Rattle.promises.proofs.Wrong.Inputs.{accepted, faulty, output, scratch, entries}
+use Rattle.promises.proofs.Wrong.Inputs.{accepted, faulty, aWord, wordy, output, scratch, entries}
 use Rattle.promises.proofs.Wrong.Patches.{caught, crossed, copiesCrossed, inAbort, inBody, inLeft, inRight, halfWay, copiesHalfWay, grows, twoEntries, plusOfNames}
 pub mod Refuting
 pub mod Inputs
@@ -73,6 +73,14 @@ table =
     ‥ (clears-entries-on-refusal for extractor ∷ [] on faulty)
     ‥ (leaves-byte-behind for printed ∷ writing on accepted)
     ‥ (writes-on-refusal for writing on faulty)
+    -- words: taken for names, in each input of substitute too; told as the other refusals of reading
+    ‥ (takes-words for calls on wordy)
+    ‥ (substitute ∶ takes-words on (hex "02", say "in", hex "02", output, scratch))
+    ∷ (substitute ∶ takes-words on (hex "02", say "x", aWord, output, scratch))
+    ∷ (clears-scratch-on-refusal for working on wordy)
+    ‥ (clears-entries-on-refusal for extractor ∷ [] on wordy)
+    ‥ (raises-counter-on-refusal for extractor ∷ [] on wordy)
+    ‥ (writes-on-refusal for writing on wordy)
 
 all-differ : wrong differs table ≡ []
 unfolding differs encodeFormula encodeRule encodeFormulas encodeProof encode

@@ -1,4 +1,4 @@
--- The wrong versions of the public calls that document 01 names ("What the promises have to say", "Easy ways to go wrong").
+-- The wrong versions of the public calls that document 01 names ("What the promises have to say", "Easy ways to go wrong"), and the one of request (i).
 -- Assumes nothing: these are definitions.
 use Prim.Native.Nat.{ℕ}
 use mathlib.Core.Bool.{Bool}
@@ -8,6 +8,7 @@ pub mod Step
 pub mod Reduction
 pub mod Extraction
 pub mod Buffers
+pub mod Words
 pub mod Version
 
 -- A version has one thing wrong with it, or nothing.
@@ -45,12 +46,14 @@ pub data Wrong : Type 0 where
   raises-counter-on-refusal : Wrong
   -- success leaves the scratch, or the cut entries, as they were lent
   leaves-scratch leaves-entries : Wrong
-  -- a refusal 2 to 7 clears them
+  -- a refusal 2 to 7 or 15 clears them
   clears-scratch-on-refusal clears-entries-on-refusal : Wrong
   -- the byte behind the answer is as it was lent
   leaves-byte-behind : Wrong
   -- a refusal clears the output
   writes-on-refusal : Wrong
+  -- takes a word for a name
+  takes-words : Wrong
 
 abbrev pub ordinal : Wrong → ℕ
 ordinal nothing = 0
@@ -80,6 +83,7 @@ ordinal clears-scratch-on-refusal = 23
 ordinal clears-entries-on-refusal = 24
 ordinal leaves-byte-behind = 25
 ordinal writes-on-refusal = 26
+ordinal takes-words = 27
 
 infix 55 _is_
 -- asked of a version wherever one may go wrong

@@ -18,7 +18,7 @@ use reader::class::Read;
 use reader::node::read_row;
 
 // n formulas, one after the other.
-fn read_formulas(s: &[u8], t: &[u8; 256], most: Most, from: Reached, n: usize) -> Reading
+fn read_formulas(s: &[u8], t: &[u32; 256], most: Most, from: Reached, n: usize) -> Reading
     requires { ⌜ Classes formulaLayout (now t) ⌝ }
     requires { ⌜ (most .formulas ≤ 65536) × (n ≤ 65536) ⌝ }
     ensures { λ r. ⌜ r ≡ seen (found (rowOf (within most) n) (now (s .entry)) from) ⌝ }
@@ -65,7 +65,7 @@ fn read_index(s: &[u8], from: Reached) -> Reading
 }
 
 // A rule's tag, and what it carries.
-fn read_own(s: &[u8], t: &[u8; 256], most: Most, from: Reached) -> Reading
+fn read_own(s: &[u8], t: &[u32; 256], most: Most, from: Reached) -> Reading
     requires { ⌜ Classes formulaLayout (now t) ⌝ }
     requires { ⌜ (most .formulas ≤ 65536) × (from .next ≤ length (now s)) ⌝ }
     ensures { λ r. ⌜ r ≡ seen (found (ownOf (within most)) (now (s .entry)) from) ⌝ }
@@ -79,7 +79,7 @@ fn read_own(s: &[u8], t: &[u8; 256], most: Most, from: Reached) -> Reading
 }
 
 // The formulas of `linear`, after a byte that counts them.
-fn read_linear(s: &[u8], t: &[u8; 256], most: Most, from: Reached) -> Reading
+fn read_linear(s: &[u8], t: &[u32; 256], most: Most, from: Reached) -> Reading
     requires { ⌜ Classes formulaLayout (now t) ⌝ }
     requires { ⌜ most .formulas ≤ 65536 ⌝ }
     ensures { λ r. ⌜ r ≡ seen (found (linearOf (within most)) (now (s .entry)) from) ⌝ }
@@ -123,7 +123,7 @@ fn read_count(s: &[u8], from: Reached) -> Conclusion
 }
 
 // All that stands before the premises.
-pub fn read_conclusion(s: &[u8], t: &[u8; 256], most: Most, from: Reached) -> Conclusion
+pub fn read_conclusion(s: &[u8], t: &[u32; 256], most: Most, from: Reached) -> Conclusion
     requires { ⌜ Classes formulaLayout (now t) ⌝ }
     requires { ⌜ (most .formulas ≤ 65536) × (from .next ≤ length (now s)) ⌝ }
     ensures { λ r. ⌜ r ≡ countSeen (λ x. x .premises) (found (topOf (within most)) (now (s .entry)) from) ⌝ }

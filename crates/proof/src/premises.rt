@@ -20,7 +20,7 @@ use rules::MOST_FORMULA_NODES;
 use rules::MOST_RULES;
 
 // A rule and all its premises, where so many rules and formula nodes were met before it.
-pub fn read_rule(s: &&[u8], t: &[u8; 256], next: usize, rules: usize, formulas: usize) -> usize
+pub fn read_rule(s: &&[u8], t: &[u32; 256], next: usize, rules: usize, formulas: usize) -> usize
     requires { ⌜ Classes formulaLayout (now t) ⌝ }
     requires { ⌜ Far (now (now s)) (reachedAt next rules formulas) ⌝ }
     ensures { λ r. ⌜ ((depth : ℕ) → limits .rules ≤ rules + depth → toldBy r ≡ seen (found (proofAt limits depth) (now (now (s .entry))) (reachedAt next rules formulas))) ⌝ }
@@ -41,7 +41,7 @@ pub fn read_rule(s: &&[u8], t: &[u8; 256], next: usize, rules: usize, formulas: 
 }
 
 // The premises of a rule, n of them, each by a call of the other reader.
-fn read_premises(s: &&[u8], t: &[u8; 256], from: Reached, n: usize) -> usize
+fn read_premises(s: &&[u8], t: &[u32; 256], from: Reached, n: usize) -> usize
     requires { ⌜ Classes formulaLayout (now t) ⌝ }
     requires { ⌜ Far (now (now s)) from ⌝ }
     ensures { λ r. ⌜ ((depth : ℕ) → limits .rules ≤ from .rules + depth → toldBy r ≡ seen (found (many (proofAt limits depth) n) (now (now (s .entry))) from)) ⌝ }

@@ -10,12 +10,12 @@ use lib.ListN.{length, length-append}
 use borrow.Author.Tests.{le-leb, lt-leb}
 use Rattle.rules.specs.Basic.{Bytes, if_then_else_}
 use Rattle.rules.specs.Refusal.{refuse, mapped, answered}
-use Rattle.rules.specs.Name.{nameMost, leads, follows}
-use Rattle.rules.specs.Reading.{Got, got, bad, Reader, andThen, many, byte, byteFor, letters, ended, readName}
+use Rattle.rules.specs.Name.{Name, nameMost, leads, follows, Spelling, nameSpelling}
+use Rattle.rules.specs.Reading.{Got, got, bad, Reader, andThen, many, byte, byteFor, letters, spelled, ended, readName}
 use Rattle.rules.specs.declared.Answer.{Answer}
 use Rattle.rules.specs.declared.Answer.the-variants.{Good}
 use Rattle.laws.specs.reading.Holds.{told}
-use Rattle.laws.specs.reading.Names.{Item, letters-sound}
+use Rattle.laws.specs.reading.Names.{Item, spelled-sound}
 use Rattle.reader.specs.declared.class.Read.{Read}
 use Rattle.reader.specs.declared.class.Read.the-variants.{Whole, Bad}
 use Rattle.reader.specs.View.{view}
@@ -54,6 +54,14 @@ strip-letters n u at r =
     strip-then (byteFor leads 5 u at r) _ _ _ (strip-byteFor leads 5 u at r) (λ b v p q.
     strip-then (many (byteFor follows 5) (n - 1) v p q) _ _ _ (strip-many follows 5 (n - 1) v p q) (λ bs w p q. refl))
 
+strip-spelled : (P : Spelling) (n u at : ℕ) (r : Bytes) → strip (spelled P n u at r) ≡ spelled P n tt at r
+unfolding spelled
+strip-spelled P n u at r = strip-then (letters n u at r) _ _ _ (strip-letters n u at r) (λ x v p q. go x v p q (P .allowed x))
+  where
+    go : (x : Name) (v p : ℕ) (q : Bytes) (t : Bool) → strip (if t then got x v p q else bad 15 at) ≡ (if t then got x tt p q else bad 15 at)
+    go x v p q true = refl
+    go x v p q false = refl
+
 none-left : (r : Bytes) → length r ≡ 0 → r ≡ []
 none-left [] e = refl
 none-left (b ∷ r) e = absurd (omega arith)
@@ -71,20 +79,20 @@ module _ (i : ℕ) (s : Bytes) where
   bare-long h = rw (le-leb 1 (length s) (omega arith), lt-leb (length s) nameMost h)
 
   module _ (one : 1 ≤ length s) (few : length s ≤ nameMost) where
-    ends : answer ≡ answered (mapped length (ended i (letters (length s) (tt {0}) 0 s)))
+    ends : answer ≡ answered (mapped length (ended i (spelled nameSpelling (length s) (tt {0}) 0 s)))
     unfolding readName
     ends = rw (le-leb 1 (length s) one, le-leb (length s) nameMost few)
 
     -- from the place 0 on
-    all-read : (r : Read) → view (letters (length s - 0) 0 0 s) ≡ r → view (letters (length s) 0 0 s) ≡ r
-    all-read r e = ap (λ n. view (letters n 0 0 s)) (sym (sub-zero (length s))) ∙ e
+    all-read : (r : Read) → view (spelled nameSpelling (length s - 0) 0 0 s) ≡ r → view (spelled nameSpelling (length s) 0 0 s) ≡ r
+    all-read r e = ap (λ n. view (spelled nameSpelling n 0 0 s)) (sym (sub-zero (length s))) ∙ e
 
-    pub bare-bad : {n p : ℕ} → view (letters (length s - 0) 0 0 s) ≡ Bad n p → answer ≡ answered (refuse n p i)
-    bare-bad e = ends ∙ rw (sym (strip-letters (length s) 0 0 s) ∙ ap strip (view-bad (letters (length s) 0 0 s) (all-read _ e)))
+    pub bare-bad : {n p : ℕ} → view (spelled nameSpelling (length s - 0) 0 0 s) ≡ Bad n p → answer ≡ answered (refuse n p i)
+    bare-bad e = ends ∙ rw (sym (strip-spelled nameSpelling (length s) 0 0 s) ∙ ap strip (view-bad (spelled nameSpelling (length s) 0 0 s) (all-read _ e)))
 
-    pub bare-good : {p v : ℕ} → view (letters (length s - 0) 0 0 s) ≡ Whole p v → answer ≡ Good p
+    pub bare-good : {p v : ℕ} → view (spelled nameSpelling (length s - 0) 0 0 s) ≡ Whole p v → answer ≡ Good p
     bare-good {p} {v} e =
-        let w = view-got (letters (length s) 0 0 s) (all-read _ e) in
-        let t : Item (λ x. x) (λ u x. u) _ 0 0 s (w .0) v p (w .1) = told _ (letters (length s) 0 0 s) (letters-sound (length s) one 0 0 s) (w .2) in
-        let z : w .1 ≡ [] = none-left (w .1) (omega (arith, t .legal .0, ap length (t .bytes), length-append (w .0) (w .1))) in
-        ends ∙ rw (sym (strip-letters (length s) 0 0 s) ∙ ap strip (w .2), z) (ap Good (omega (arith, t .next)))
+        let w = view-got (spelled nameSpelling (length s) 0 0 s) (all-read _ e) in
+        let t : Item (λ x. x) (λ u x. u) _ 0 0 s (w .0) v p (w .1) = told _ (spelled nameSpelling (length s) 0 0 s) (spelled-sound nameSpelling (length s) one 0 0 s) (w .2) in
+        let z : w .1 ≡ [] = none-left (w .1) (omega (arith, t .legal .0 .0, ap length (t .bytes), length-append (w .0) (w .1))) in
+        ends ∙ rw (sym (strip-spelled nameSpelling (length s) 0 0 s) ∙ ap strip (w .2), z) (ap Good (omega (arith, t .next)))

@@ -1,4 +1,5 @@
 pub mod Form
+pub mod Words
 pub mod View
 pub mod Viewed
 pub mod Classes

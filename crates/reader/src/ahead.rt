@@ -1,16 +1,16 @@
 // Reads terms and formulas: first ahead over what is good, by few tests, and from where that ends exactly.
-// Going ahead tests tags, lengths and the first byte of each name, and stops before a node where one is not good or where the bytes end soon.
-// The other bytes of names are not looked at there: they are counted afterwards, and where as many of all bytes are letters as were taken for letters,
+// Going ahead tests tags, lengths and the first byte of each name, and stops before a node where one is not good, where a name is a word or
+// where the bytes end soon. The other bytes of names are not looked at there: they are counted afterwards, and where as many of all bytes are letters as were taken for letters,
 // those are the letters, since no tag and no length is one.
 ghost use mathlib.Core.Path.{_≡_};
 ghost use mathlib.Core.Bool.{true};
 ghost use Prim.Native.Nat.{ℕ, _+_, _-_, _≤_, _<_};
 ghost use lib.ListN.{length, drop};
-ghost use Rattle.rules.specs.Name.{nameMost};
 ghost use Rattle.rules.specs.Reading.{times, node};
 ghost use Rattle.reader.specs.Form.{layoutOf};
-ghost use Rattle.reader.specs.Classes.{Classes, Letters};
+ghost use Rattle.reader.specs.Classes.{Classes, Alphabet};
 ghost use Rattle.reader.specs.View.{view};
+ghost use Rattle.reader.specs.Words.{spellingOf};
 ghost use Rattle.reader.specs.Passed.{OnePassed};
 ghost use Rattle.reader.specs.Letters.{lettersFrom};
 ghost use Rattle.reader.specs.Count.{NameTo, NamesTo, Gone};
@@ -19,11 +19,13 @@ use crate::class::Read;
 use crate::class::code_of;
 use crate::class::is_one;
 use crate::class::leads;
+use crate::class::longest_name;
+use crate::class::starts;
 use crate::letters::count_letters;
 use crate::node;
 use crate::node::bad;
-use crate::node::longest_name;
 use crate::node::room_for;
+use crate::word::is_word;
 
 // Where it stopped; the nodes met, those known, which are the ones to be read and the parts of those met, and the names of those met.
 pub struct Ahead {
@@ -44,18 +46,28 @@ pub fn stopped(next: usize, met: usize, known: usize, names: usize) -> Ahead
     }
 }
 
-// Where the name at `at` ends, or 0 where its length or its first letter is not good.
-fn name_end(s: &[u8], t: &[u8; 256], longest: usize, at: usize) -> usize
-    requires { ⌜ Letters (now t) ⌝ }
-    requires { ⌜ (at + 1 < length (now s)) × (longest ≤ nameMost) ⌝ }
-    ensures { λ r. ⌜ (0 < r → NameTo (now (s .entry)) longest at r) ⌝ }
+// Where the name at `at` ends, or 0 where its length or its first letter is not good or where it is a word. Quickly that is said of one that may be a
+// word too, and is no call.
+fn name_end(s: &[u8], form: Form, t: &[u32; 256], at: usize, quickly: bool) -> usize
+    requires { ⌜ Alphabet (spellingOf form) (now t) ⌝ }
+    requires { ⌜ at + 1 < length (now s) ⌝ }
+    ensures { λ r. ⌜ (0 < r → NameTo (now (s .entry)) (spellingOf form) at r) ⌝ }
 {
     let n = s[at] as usize;
     let first = at + 1;
+    if longest_name(form) < n {
+        return 0;
+    }
+    if starts(t, s[first], n) {
+        return first + n;
+    }
+    if quickly {
+        return 0;
+    }
     if n < 1 {
         return 0;
     }
-    if longest < n {
+    if is_word(s, form, first, n) {
         return 0;
     }
     if leads(t, s[first]) {
@@ -67,20 +79,21 @@ fn name_end(s: &[u8], t: &[u8; 256], longest: usize, at: usize) -> usize
 // Where that many names end, or 0. Two bytes can be read at every place up to `stop`.
 pub fn names_end(
     s: &[u8],
-    t: &[u8; 256],
-    longest: usize,
+    form: Form,
+    t: &[u32; 256],
     at: usize,
     names: usize,
     stop: usize,
+    quickly: bool,
 ) -> usize
-    requires { ⌜ Letters (now t) ⌝ }
-    requires { ⌜ (0 < at) × (at ≤ stop) × (stop + 1 < length (now s)) × (longest ≤ nameMost) ⌝ }
-    ensures { λ r. ⌜ (0 < r → NamesTo (now (s .entry)) longest at names r) ⌝ }
+    requires { ⌜ Alphabet (spellingOf form) (now t) ⌝ }
+    requires { ⌜ (0 < at) × (at ≤ stop) × (stop + 1 < length (now s)) ⌝ }
+    ensures { λ r. ⌜ (0 < r → NamesTo (now (s .entry)) (spellingOf form) at names r) ⌝ }
 {
     if names == 0 {
         return at;
     }
-    let second = name_end(s, t, longest, at);
+    let second = name_end(s, form, t, at, quickly);
     if second == 0 {
         return 0;
     }
@@ -89,7 +102,7 @@ pub fn names_end(
     }
     if names == 2 {
         if second <= stop {
-            return name_end(s, t, longest, second);
+            return name_end(s, form, t, second, quickly);
         }
     }
     0
@@ -106,12 +119,11 @@ pub fn last_pair(end: usize) -> usize
 }
 
 // From `at` on, where n nodes are to be read.
-pub fn go_ahead(s: &[u8], form: Form, t: &[u8; 256], at: usize, end: usize, n: usize) -> Ahead
+pub fn go_ahead(s: &[u8], form: Form, t: &[u32; 256], at: usize, end: usize, n: usize) -> Ahead
     requires { ⌜ Classes (layoutOf form) (now t) ⌝ }
     requires { ⌜ (at ≤ end) × (end ≤ length (now s)) × (end - at ≤ 65536) × (n ≤ 65536) ⌝ }
     ensures { λ r. ⌜ Gone (layoutOf form) (now (s .entry)) at n (r .next) (r .met) (r .known) (r .names) × (r .met ≤ 65600) ⌝ }
 {
-    let longest = longest_name(form);
     let stop = last_pair(end);
     let mut next = at;
     let mut met = 0;
@@ -127,9 +139,12 @@ pub fn go_ahead(s: &[u8], form: Form, t: &[u8; 256], at: usize, end: usize, n: u
         }
         let first = next + 1;
         let few = code / 2 % 4;
-        let past = names_end(s, t, longest, first, few, stop);
+        let mut past = names_end(s, form, t, first, few, stop, true);
         if past == 0 {
-            return stopped(next, met, known, names);
+            past = names_end(s, form, t, first, few, stop, false);
+            if past == 0 {
+                return stopped(next, met, known, names);
+            }
         }
         next = past;
         met += 1;
@@ -171,7 +186,7 @@ fn end_within(s: &[u8], at: usize, room: usize) -> usize
 pub fn read_row(
     s: &[u8],
     form: Form,
-    t: &[u8; 256],
+    t: &[u32; 256],
     at: usize,
     used: usize,
     most: usize,
@@ -201,7 +216,7 @@ pub fn read_row(
 }
 
 // Passes nodes with one part and no names, up to `end`: after each there is still one node to be read.
-fn pass_ones(s: &[u8], form: Form, t: &[u8; 256], at: usize, end: usize) -> usize
+fn pass_ones(s: &[u8], form: Form, t: &[u32; 256], at: usize, end: usize) -> usize
     requires { ⌜ Classes (layoutOf form) (now t) ⌝ }
     requires { ⌜ end ≤ length (now s) ⌝ }
     ensures { λ r. ⌜ (at ≤ r) × (r - at ≤ end - at) × ((most : ℕ) → (used : ℕ) → (at < r → used + (r - at) ≤ most) → OnePassed (layoutOf form) most (now (s .entry)) used at r) ⌝ }
@@ -218,7 +233,7 @@ fn pass_ones(s: &[u8], form: Form, t: &[u8; 256], at: usize, end: usize) -> usiz
 }
 
 // Reads one node from `at` on, where `used` were met before.
-pub fn read_from(s: &[u8], form: Form, t: &[u8; 256], at: usize, used: usize, most: usize) -> Read
+pub fn read_from(s: &[u8], form: Form, t: &[u32; 256], at: usize, used: usize, most: usize) -> Read
     requires { ⌜ Classes (layoutOf form) (now t) ⌝ }
     requires { ⌜ most ≤ 65536 ⌝ }
     ensures { λ r. ⌜ ((depth : ℕ) → most ≤ used + depth → r ≡ view (node (layoutOf form) most depth used at (drop at (now (s .entry))))) ⌝ }

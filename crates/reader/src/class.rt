@@ -5,10 +5,12 @@ ghost use Prim.Native.Nat.{_-_, _≤_};
 ghost use lib.ListN.{length, replicate};
 ghost use lib.Seq.{sets};
 ghost use Rattle.rules.specs.Layout.{headAt};
-ghost use Rattle.rules.specs.Name.{leads as leadsName, follows as followsName};
+ghost use Rattle.rules.specs.Name.{leads as leadsName, follows as followsName, nameMost};
 ghost use Rattle.reader.specs.Form.{layoutOf};
-ghost use Rattle.reader.specs.Classes.{Letters, Classes, codeAt};
-ghost use Rattle.reader.specs.Tables.{lettersIn, letterTable};
+ghost use Rattle.reader.specs.Classes.{Letters, startsOf, Classes, codeAt};
+ghost use Rattle.reader.specs.Tables.{lettersIn, beginningsIn, letterTable};
+use rules::LONGEST_ATOM;
+use rules::LONGEST_NAME;
 
 // The two forms: a tag, then names, then parts.
 pub enum Form {
@@ -22,20 +24,44 @@ pub enum Read {
     Bad { number: u8, place: usize },
 }
 
-// What a byte may be, by a table: 1 that it follows in a name, 2 that it leads one, 4 that it is a tag, 8 for each of its names, 32 for each of its parts.
+// How many bytes a name may have.
+pub fn longest_name(form: Form) -> usize
+    ensures { λ r. ⌜ r ≡ layoutOf form .spelling .longest ⌝ }
+{
+    match form {
+        Form::Term => LONGEST_NAME,
+        Form::Formula => LONGEST_ATOM,
+    }
+}
 
-const DIGIT: u8 = 1;
+// What a byte may be, by a table: 1 that it is a tag, 2 for each of its names, 8 for each of its parts, 32 that it follows in a name, and 64 times
+// 2^n that it leads names of n letters and no word of n letters.
 
-const LETTER: u8 = 3;
+const TAG: u32 = 1;
 
-const TAG: u8 = 4;
+const NAME: u32 = 2;
 
-const NAME: u8 = 8;
+const PART: u32 = 8;
 
-const PART: u8 = 32;
+const DIGIT: u32 = 32;
+
+// It leads names of 1 to 24 letters.
+const LETTER: u32 = DIGIT + 2147483520;
+
+const OF_TWO: u32 = 256;
+
+const OF_THREE: u32 = 512;
+
+const OF_FOUR: u32 = 1024;
+
+const OF_SIX: u32 = 4096;
+
+const OF_SEVEN: u32 = 8192;
+
+const OF_EIGHT: u32 = 16384;
 
 // In the order of the tags, from 0 on.
-const TERM_TAGS: [u8; 18] = [
+const TERM_TAGS: [u32; 18] = [
     0,
     TAG + NAME, // Var
     TAG, // Unit
@@ -56,7 +82,7 @@ const TERM_TAGS: [u8; 18] = [
     TAG + 2 * NAME + 2 * PART, // Copy
 ];
 
-const FORMULA_TAGS: [u8; 14] = [
+const FORMULA_TAGS: [u32; 14] = [
     0,
     TAG + NAME, // Atom
     TAG + NAME, // NegAtom
@@ -74,7 +100,7 @@ const FORMULA_TAGS: [u8; 14] = [
 ];
 
 // The bytes from `from` to before `to` are of that class.
-fn mark(t: &mut [u8; 256], from: usize, to: usize, class: u8)
+fn mark(t: &mut [u32; 256], from: usize, to: usize, class: u32)
     requires { ⌜ to ≤ 256 ⌝ }
     ensures { λ _. ⌜ now (t .exit) ≡ sets (now (t .entry)) from (replicate (to - from) class) ⌝ }
 {
@@ -85,7 +111,7 @@ fn mark(t: &mut [u8; 256], from: usize, to: usize, class: u8)
     }
 }
 
-fn put_tags(t: &mut [u8; 256], tags: &[u8])
+fn put_tags(t: &mut [u32; 256], tags: &[u32])
     requires { ⌜ length (now tags) ≤ 256 ⌝ }
     ensures { λ _. ⌜ now (t .exit) ≡ sets (now (t .entry)) 0 (now (tags .entry)) ⌝ }
 {
@@ -97,7 +123,7 @@ fn put_tags(t: &mut [u8; 256], tags: &[u8])
 }
 
 // The bytes of names: digits, letters and `_`.
-fn put_letters(t: &mut [u8; 256])
+fn put_letters(t: &mut [u32; 256])
     ensures { λ _. ⌜ now (t .exit) ≡ lettersIn (now (t .entry)) ⌝ }
 {
     mark(t, 48, 58, DIGIT);
@@ -106,54 +132,79 @@ fn put_letters(t: &mut [u8; 256])
     mark(t, 97, 123, LETTER);
 }
 
-pub fn letter_table() -> [u8; 256]
+// The letters that begin a word, counted from a small or a capital `a` on.
+fn put_beginnings(t: &mut [u32; 256], a: usize)
+    requires { ⌜ a ≤ 97 ⌝ }
+    ensures { λ _. ⌜ now (t .exit) ≡ beginningsIn (now (t .entry)) a ⌝ }
+{
+    t[a] = LETTER - OF_TWO - OF_SIX; // as absurd
+    t[a + 2] = LETTER - OF_FOUR; // case copy
+    t[a + 3] = LETTER - OF_SEVEN - OF_EIGHT; // discard derelict
+    t[a + 5] = LETTER - OF_THREE; // fst
+    t[a + 8] = LETTER - OF_TWO - OF_THREE; // in inl inr
+    t[a + 11] = LETTER - OF_THREE; // let
+    t[a + 14] = LETTER - OF_TWO; // of
+    t[a + 18] = LETTER - OF_THREE; // snd
+}
+
+pub fn letter_table() -> [u32; 256]
     ensures { λ r. ⌜ r ≡ letterTable ⌝ }
 {
-    let mut t = [0u8; 256];
+    let mut t = [0u32; 256];
     put_letters(&mut t);
+    put_beginnings(&mut t, 97);
     t
 }
 
-pub fn table_of(form: Form) -> [u8; 256]
+pub fn table_of(form: Form) -> [u32; 256]
     ensures { λ r. ⌜ Classes (layoutOf form) r ⌝ }
 {
-    let mut t = [0u8; 256];
-    put_letters(&mut t);
+    let mut t = letter_table();
     match form {
         Form::Term => {
             put_tags(&mut t, &TERM_TAGS);
         }
         Form::Formula => {
+            put_beginnings(&mut t, 65);
             put_tags(&mut t, &FORMULA_TAGS);
         }
     }
     t
 }
 
-pub fn leads(t: &[u8; 256], b: u8) -> bool
+pub fn leads(t: &[u32; 256], b: u8) -> bool
     requires { ⌜ Letters (now t) ⌝ }
     ensures { λ r. ⌜ r ≡ leadsName b ⌝ }
 {
-    t[b as usize] / 2 % 2 == 1
+    t[b as usize] / 128 % 2 == 1
 }
 
-pub fn follows(t: &[u8; 256], b: u8) -> bool
+pub fn follows(t: &[u32; 256], b: u8) -> bool
     requires { ⌜ Letters (now t) ⌝ }
     ensures { λ r. ⌜ r ≡ followsName b ⌝ }
 {
-    t[b as usize] % 2 == 1
+    t[b as usize] / 32 % 2 == 1
+}
+
+// Whether b leads names of n letters and no word of n letters.
+pub fn starts(t: &[u32; 256], b: u8, n: usize) -> bool
+    requires { ⌜ Letters (now t) ⌝ }
+    requires { ⌜ n ≤ nameMost ⌝ }
+    ensures { λ r. ⌜ r ≡ startsOf (now (t .entry)) b n ⌝ }
+{
+    (t[b as usize] as usize >> n) / 64 % 2 == 1
 }
 
 // What a tag has: 0 for none, else 1, 2 for each name, 8 for each part.
-pub fn code_of(form: Form, t: &[u8; 256], b: u8) -> usize
+pub fn code_of(form: Form, t: &[u32; 256], b: u8) -> usize
     requires { ⌜ Classes (layoutOf form) (now t) ⌝ }
     ensures { λ r. ⌜ r ≡ codeAt (layoutOf form) (headAt (layoutOf form .heads) b) ⌝ }
 {
-    (t[b as usize] / 4) as usize
+    (t[b as usize] % 32) as usize
 }
 
 // Whether a tag has one part and no names.
-pub fn is_one(form: Form, t: &[u8; 256], b: u8) -> bool
+pub fn is_one(form: Form, t: &[u32; 256], b: u8) -> bool
     requires { ⌜ Classes (layoutOf form) (now t) ⌝ }
     ensures { λ r. ⌜ (r ≡ true → codeAt (layoutOf form) (headAt (layoutOf form .heads) b) ≡ 9) ⌝ }
 {

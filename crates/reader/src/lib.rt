@@ -13,10 +13,10 @@ use ahead::read_from;
 use class::Form;
 use class::Read;
 use class::letter_table;
+use class::longest_name;
 use class::table_of;
 use name::Skip;
-use name::skip_letters;
-use node::longest_name;
+use name::skip_spelled;
 use rules::Answer;
 use rules::MOST_BYTES;
 use rules::MOST_FORMULA_NODES;
@@ -28,6 +28,7 @@ pub mod class;
 pub mod letters;
 pub mod name;
 pub mod node;
+pub mod word;
 
 pub fn refused(number: u8, place: usize, input: u8) -> Answer
     ensures { λ r. ⌜ r ≡ answered (refuse number place input) ⌝ }
@@ -96,7 +97,7 @@ pub fn name_input(s: &[u8], input: u8) -> Answer
         return refused(5, 0, input);
     }
     let t = letter_table();
-    match skip_letters(s, &t, 0, s.len()) {
+    match skip_spelled(s, Form::Term, &t, 0, s.len()) {
         Skip::To(next) => Answer::Good(next),
         Skip::Fault { number, place } => refused(number, place, input),
     }

@@ -1,13 +1,18 @@
-// Skips names: a length byte, then letters.
+// Skips names: a length byte, then letters that are no word.
 ghost use mathlib.Core.Path.{_≡_};
 ghost use Prim.Native.Nat.{ℕ, _+_, _-_, _≤_, _<_};
 ghost use lib.ListN.{length, drop};
-ghost use Rattle.rules.specs.Name.{follows as followsName};
-ghost use Rattle.rules.specs.Reading.{byteFor, many, letters, times, name};
-ghost use Rattle.reader.specs.Classes.{Letters};
+ghost use Rattle.rules.specs.Name.{follows as followsName, nameMost};
+ghost use Rattle.rules.specs.Reading.{byteFor, many, letters, spelled, times, name};
+ghost use Rattle.reader.specs.Classes.{Letters, Alphabet};
 ghost use Rattle.reader.specs.View.{view, skipped};
+ghost use Rattle.reader.specs.Words.{spellingOf};
+use crate::class::Form;
 use crate::class::follows;
 use crate::class::leads;
+use crate::class::longest_name;
+use crate::class::starts;
+use crate::word::is_word;
 
 // The place after what was skipped, or a fault.
 pub enum Skip {
@@ -22,7 +27,7 @@ fn fault(number: u8, place: usize) -> Skip
 }
 
 // The letters of a name after its first, up to `end`.
-fn skip_following(s: &[u8], t: &[u8; 256], at: usize, end: usize) -> Skip
+fn skip_following(s: &[u8], t: &[u32; 256], at: usize, end: usize) -> Skip
     requires { ⌜ Letters (now t) ⌝ }
     requires { ⌜ end ≤ length (now s) ⌝ }
     ensures { λ r. ⌜ ((u : ℕ) → skipped u r ≡ view (many (byteFor followsName 5) (end - at) u at (drop at (now (s .entry))))) ⌝ }
@@ -39,7 +44,7 @@ fn skip_following(s: &[u8], t: &[u8; 256], at: usize, end: usize) -> Skip
 }
 
 // The letters of a name, up to `end`.
-pub fn skip_letters(s: &[u8], t: &[u8; 256], at: usize, end: usize) -> Skip
+fn skip_letters(s: &[u8], t: &[u32; 256], at: usize, end: usize) -> Skip
     requires { ⌜ Letters (now t) ⌝ }
     requires { ⌜ (at < end) × (end ≤ length (now s)) ⌝ }
     ensures { λ r. ⌜ ((u : ℕ) → skipped u r ≡ view (letters (end - at) u at (drop at (now (s .entry))))) ⌝ }
@@ -52,9 +57,34 @@ pub fn skip_letters(s: &[u8], t: &[u8; 256], at: usize, end: usize) -> Skip
     }
 }
 
-pub fn skip_name(s: &[u8], t: &[u8; 256], longest: usize, at: usize) -> Skip
-    requires { ⌜ Letters (now t) ⌝ }
-    ensures { λ r. ⌜ ((u : ℕ) → skipped u r ≡ view (name longest u at (drop at (now (s .entry))))) ⌝ }
+// The letters of a name, up to `end`, which are no word.
+pub fn skip_spelled(s: &[u8], form: Form, t: &[u32; 256], at: usize, end: usize) -> Skip
+    requires { ⌜ Alphabet (spellingOf form) (now t) ⌝ }
+    requires { ⌜ (at < end) × (end ≤ at + nameMost) × (end ≤ length (now s)) ⌝ }
+    ensures { λ r. ⌜ ((u : ℕ) → skipped u r ≡ view (spelled (spellingOf form) (end - at) u at (drop at (now (s .entry))))) ⌝ }
+{
+    match skip_letters(s, t, at, end) {
+        Skip::To(next) => {
+            let n = end - at;
+            if starts(t, s[at], n) {
+                return Skip::To(next);
+            }
+            // no word ends in a digit
+            if s[end - 1] < 65 {
+                return Skip::To(next);
+            }
+            if is_word(s, form, at, n) {
+                return fault(15, at);
+            }
+            Skip::To(next)
+        }
+        Skip::Fault { number, place } => fault(number, place),
+    }
+}
+
+pub fn skip_name(s: &[u8], form: Form, t: &[u32; 256], at: usize) -> Skip
+    requires { ⌜ Alphabet (spellingOf form) (now t) ⌝ }
+    ensures { λ r. ⌜ ((u : ℕ) → skipped u r ≡ view (name (spellingOf form) u at (drop at (now (s .entry))))) ⌝ }
 {
     if s.len() <= at {
         return fault(3, at);
@@ -65,24 +95,24 @@ pub fn skip_name(s: &[u8], t: &[u8; 256], longest: usize, at: usize) -> Skip
     if n < 1 {
         return fault(5, at);
     }
-    if longest < n {
+    if longest_name(form) < n {
         return fault(5, at);
     }
     if left < n {
         return fault(3, s.len());
     }
-    skip_letters(s, t, first, first + n)
+    skip_spelled(s, form, t, first, first + n)
 }
 
-pub fn skip_names(s: &[u8], t: &[u8; 256], longest: usize, at: usize, n: usize) -> Skip
-    requires { ⌜ Letters (now t) ⌝ }
+pub fn skip_names(s: &[u8], form: Form, t: &[u32; 256], at: usize, n: usize) -> Skip
+    requires { ⌜ Alphabet (spellingOf form) (now t) ⌝ }
     requires { ⌜ at ≤ length (now s) ⌝ }
-    ensures { λ r. ⌜ ((u : ℕ) → skipped u r ≡ view (times (name longest) n u at (drop at (now (s .entry))))) ⌝ }
+    ensures { λ r. ⌜ ((u : ℕ) → skipped u r ≡ view (times (name (spellingOf form)) n u at (drop at (now (s .entry))))) ⌝ }
 {
     let mut p = at;
     let mut left = n;
     while 0 < left {
-        match skip_name(s, t, longest, p) {
+        match skip_name(s, form, t, p) {
             Skip::To(next) => {
                 p = next;
             }

@@ -11,23 +11,11 @@ use crate::class::Read;
 use crate::class::code_of;
 use crate::name::Skip;
 use crate::name::skip_names;
-use rules::LONGEST_ATOM;
-use rules::LONGEST_NAME;
 
 pub fn bad(number: u8, place: usize) -> Read
     ensures { λ r. ⌜ r ≡ Read.Bad number place ⌝ }
 {
     Read::Bad { number, place }
-}
-
-// How many bytes a name may have.
-pub fn longest_name(form: Form) -> usize
-    ensures { λ r. ⌜ r ≡ layoutOf form .longest ⌝ }
-{
-    match form {
-        Form::Term => LONGEST_NAME,
-        Form::Formula => LONGEST_ATOM,
-    }
 }
 
 // How many nodes may still be met.
@@ -45,7 +33,7 @@ pub fn room_for(most: usize, used: usize) -> usize
 pub fn read_row(
     s: &[u8],
     form: Form,
-    t: &[u8; 256],
+    t: &[u32; 256],
     at: usize,
     used: usize,
     most: usize,
@@ -55,7 +43,6 @@ pub fn read_row(
     requires { ⌜ (most ≤ 65536) × (n ≤ 524288) ⌝ }
     ensures { λ r. ⌜ r ≡ view (times (node (layoutOf form) most most) n used at (drop at (now (s .entry)))) ⌝ }
 {
-    let longest = longest_name(form);
     let room = room_for(most, used);
     let mut next = at;
     let mut met = 0;
@@ -72,7 +59,7 @@ pub fn read_row(
         if code == 0 {
             return bad(4, next);
         }
-        match skip_names(s, t, longest, after, code / 2 % 4) {
+        match skip_names(s, form, t, after, code / 2 % 4) {
             Skip::To(past) => {
                 next = past;
             }

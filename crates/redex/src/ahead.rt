@@ -17,7 +17,6 @@ use reader::ahead::names_end;
 use reader::ahead::stopped;
 use reader::class::Form;
 use reader::class::code_of;
-use reader::node::longest_name;
 
 // What was gone over, and whether no node of it is a redex.
 pub struct Calmly {
@@ -57,12 +56,11 @@ fn calm_with(s: &[u8], calm: bool, tag: usize, names: usize, past: usize) -> boo
 }
 
 // From the beginning of s on, where one node is to be read.
-pub fn go_calmly(s: &[u8], t: &[u8; 256]) -> Calmly
+pub fn go_calmly(s: &[u8], t: &[u32; 256]) -> Calmly
     requires { ⌜ Classes (layoutOf Term) (now t) ⌝ }
     requires { ⌜ length (now s) ≤ 65536 ⌝ }
     ensures { λ r. ⌜ Gone (layoutOf Term) (now (s .entry)) 0 1 (r .gone .next) (r .gone .met) (r .gone .known) (r .gone .names) × (r .gone .met ≤ 65600) × (r .calm ≡ true → Swept (now (s .entry)) (r .gone .next) 0) ⌝ }
 {
-    let longest = longest_name(Form::Term);
     let stop = last_pair(s.len());
     let mut next = 0;
     let mut met = 0;
@@ -80,9 +78,12 @@ pub fn go_calmly(s: &[u8], t: &[u8; 256]) -> Calmly
         }
         let first = next + 1;
         let few = code / 2 % 4;
-        let past = names_end(s, t, longest, first, few, stop);
+        let mut past = names_end(s, Form::Term, t, first, few, stop, true);
         if past == 0 {
-            return ended(next, met, known, names, calm);
+            past = names_end(s, Form::Term, t, first, few, stop, false);
+            if past == 0 {
+                return ended(next, met, known, names, calm);
+            }
         }
         calm = calm_with(s, calm, tag as usize, few, past);
         next = past;

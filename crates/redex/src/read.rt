@@ -61,7 +61,7 @@ fn accepted(s: &[u8], nodes: usize, calm: bool, from: usize) -> Resting
 }
 
 // What reading one node finds, where some were gone over. reader::ahead does the same in its read_row: said once for both, it would be a call in every reader.
-fn read_on(s: &[u8], t: &[u8; 256], gone: Ahead) -> Read
+fn read_on(s: &[u8], t: &[u32; 256], gone: Ahead) -> Read
     requires { ⌜ Classes (layoutOf Term) (now t) ⌝ }
     requires { ⌜ Gone (layoutOf Term) (now s) 0 1 (gone .next) (gone .met) (gone .known) (gone .names) × (gone .met ≤ 65600) ⌝ }
     ensures { λ r. ⌜ r ≡ view (times (node (layoutOf Term) (limits .nodes) (limits .nodes)) 1 0 0 (drop 0 (now (s .entry)))) ⌝ }

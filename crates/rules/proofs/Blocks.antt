@@ -7,9 +7,9 @@ use mathlib.Core.List.{List, [], _∷_}
 use lib.ListN.{length, replicate}
 use Rattle.rules.specs.Basic.{Bytes, say, digits, low-high, _‥_}
 use Rattle.rules.specs.Limits.{limits}
-use Rattle.rules.specs.Name.{leads, follows}
+use Rattle.rules.specs.Name.{leads, follows, isWord}
 use Rattle.rules.specs.Term.{Term, one, two, inl, fst, snd, promote, derelict, discard, nodes, encode, fits}
-use Rattle.rules.specs.Reading.{times, many, byte, byteFor, room, letters, name, tag, tooMany, node, proofAt, whole, readTerm, readProof}
+use Rattle.rules.specs.Reading.{times, many, byte, byteFor, room, letters, spelled, name, tag, tooMany, node, proofAt, whole, readTerm, readProof}
 use Rattle.rules.specs.Text.{text}
 use Rattle.rules.specs.Substitution.{subst}
 use Rattle.rules.specs.Step.{step, contract}
@@ -54,7 +54,7 @@ abbrev pub file : Term → Bytes
 file t = stored aTerm (encode t)
 
 unfoldable pub right : Row → Bool
-unfolding times many byte byteFor room letters name tag tooMany node proofAt whole readTerm readProof leads follows encode nodes fits text subst step contract reduceFrom digits weighed blocks stored openBlock openBlocks opened countsLine refusalLine patchrun
+unfolding times many byte byteFor room letters spelled name tag tooMany node proofAt whole readTerm readProof leads follows isWord encode nodes fits text subst step contract reduceFrom digits weighed blocks stored openBlock openBlocks opened countsLine refusalLine patchrun
 right (s stored-is f) = equal (stored aTerm s) f
 right (k opens f ⟹ a) = equal (numbers (λ s. s) (opened limits k f)) a
 right (program f ⟹ w) = equal (patchrun limits f) (say w)
@@ -109,6 +109,7 @@ table =
     ⟹ "(λx. (x x) λx. (x x))\nsteps 1000 app 1000 let 0 case 0 fst 0 snd 0 derelict 0 copy 0 discard 0 normal no\n")
     ∷ (program [] ⟹ "refused 10 at 0\n")
     ∷ (program sealed (hex "01 00 0c00 0e0e0e0e0e0e0e0e0e0e0212") ⟹ "refused 7 at 11\n")
+    ∷ (program sealed (hex "01 00 0500 0e0102696e") ⟹ "refused 15 at 3\n")
     ∷ []
 
 pub blocks-hold : wrong right table ≡ []

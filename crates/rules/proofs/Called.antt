@@ -8,11 +8,11 @@ use lib.ListN.{length, replicate}
 use Rattle.rules.specs.Basic.{Bytes, _‥_, digits}
 use Rattle.rules.specs.Limits.{Limits}
 use Rattle.rules.specs.Refusal.{Refusal, Outcome, good, refused}
-use Rattle.rules.specs.Name.{leads, follows, before}
+use Rattle.rules.specs.Name.{leads, follows, before, isWord}
 use Rattle.rules.specs.Formula.{formulaNodes}
 use Rattle.rules.specs.Term.{nodes, encode, fits}
 use Rattle.rules.specs.Proof.{rules}
-use Rattle.rules.specs.Reading.{times, many, byte, byteFor, room, letters, name, tag, tooMany, node, proofAt, whole, readTerm, readFormula, readProof, readName}
+use Rattle.rules.specs.Reading.{times, many, byte, byteFor, room, letters, spelled, name, tag, tooMany, node, proofAt, whole, readTerm, readFormula, readProof, readName}
 use Rattle.rules.specs.Text.{text, formulaText}
 use Rattle.rules.specs.Free.{insert, union, without, free}
 use Rattle.rules.specs.Substitution.{subst}
@@ -127,7 +127,7 @@ abbrev pub extractedNumbers : Extracted → List ℕ
 extractedNumbers w = numbers single (w .answer) ‥ w .counter ∷ (w .output ‥ w .scratch ‥ entryNumbers (w .entries))
 
 unfoldable pub after : Call → List ℕ
-unfolding times many byte byteFor room letters name tag tooMany node proofAt whole readTerm readFormula readProof readName leads follows before insert union without free subst step contract text formulaText nodes formulaNodes rules encode fits reduceFrom binders variables count plain once straight extractFrom extract oldest axiomName digits weighed blocks stored openBlock openBlocks opened checkTermCall checkFormulaCall checkProofCall freeVarsCall textCall formulaTextCall substituted substituteCall stepCall reduceCall isNormalCall isStraightCall locateCall childCall childStart childFaultCall storeCall loadCall extractCall
+unfolding times many byte byteFor room letters spelled name tag tooMany node proofAt whole readTerm readFormula readProof readName leads follows isWord before insert union without free subst step contract text formulaText nodes formulaNodes rules encode fits reduceFrom binders variables count plain once straight extractFrom extract oldest axiomName digits weighed blocks stored openBlock openBlocks opened checkTermCall checkFormulaCall checkProofCall freeVarsCall textCall formulaTextCall substituted substituteCall stepCall reduceCall isNormalCall isStraightCall locateCall childCall childStart childFaultCall storeCall loadCall extractCall
 after (checkTerm t) = numbers single (checkTermCall tiny t)
 after (checkFormula f) = numbers single (checkFormulaCall tiny f)
 after (checkProof p) = numbers single (checkProofCall tiny p)

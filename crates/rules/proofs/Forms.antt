@@ -9,11 +9,11 @@ use lib.Dec.{eqb}
 use Rattle.rules.specs.Basic.{Bytes, say, digits, if_then_else_}
 use Rattle.rules.specs.Limits.{limits}
 use Rattle.rules.specs.Refusal.{Outcome, good, refused}
-use Rattle.rules.specs.Name.{leads, follows}
+use Rattle.rules.specs.Name.{leads, follows, isWord}
 use Rattle.rules.specs.Formula.{encodeFormula, formulaNodes}
 use Rattle.rules.specs.Term.{nodes, encode, parts}
 use Rattle.rules.specs.Proof.{encodeRule, encodeFormulas, encodeProof, proofFormulaNodes}
-use Rattle.rules.specs.Reading.{times, many, byte, byteFor, room, letters, name, tag, tooMany, node, proofAt, whole, readTerm, readFormula, readProof}
+use Rattle.rules.specs.Reading.{times, many, byte, byteFor, room, letters, spelled, name, tag, tooMany, node, proofAt, whole, readTerm, readFormula, readProof}
 use Rattle.rules.specs.Text.{text, formulaText}
 use Rattle.rules.specs.Extraction.{extractFrom, extract, oldest, axiomName}
 use Rattle.rules.proofs.Notation.{equal, hex, wrong}
@@ -38,7 +38,7 @@ allEqual (x ∷ xs) [] = false
 allEqual (x ∷ xs) (y ∷ ys) = equal x y && allEqual xs ys
 
 unfoldable pub right : Row → Bool
-unfolding times many byte byteFor room letters name tag tooMany node proofAt whole readTerm readFormula readProof leads follows encode nodes text encodeFormula formulaText encodeRule encodeFormulas encodeProof extractFrom extract oldest axiomName digits
+unfolding times many byte byteFor room letters spelled name tag tooMany node proofAt whole readTerm readFormula readProof leads follows isWord encode nodes text encodeFormula formulaText encodeRule encodeFormulas encodeProof extractFrom extract oldest axiomName digits
 right (s prints w of ws) =
     goodAnd (readTerm limits 1 (hex s))
     (λ t. equal (encode t) (hex s) && (equal (text t) (say w) && (allEqual (map text (parts t)) (map say ws) && eqb (nodes t) (suc (length ws)))))
@@ -104,7 +104,7 @@ forms-hold = refl
 
 -- The formula nodes of a proof: 3 in Cut's formula, 3 in `linear`, 1 and 2 in the premises.
 pub formula-nodes : goodAnd (readProof limits 1 (hex "02 030505 02 0b05 05 02 03010500 040001 0302090500")) (λ p. eqb (proofFormulaNodes p) 9) ≡ true
-unfolding times many byte byteFor room letters name tag tooMany node proofAt whole readProof leads follows formulaNodes proofFormulaNodes
+unfolding times many byte byteFor room letters spelled name tag tooMany node proofAt whole readProof leads follows isWord formulaNodes proofFormulaNodes
 formula-nodes = refl
 
 -- Of all 256 bytes, those that may stand first in a name, and those that may stand later.
@@ -113,14 +113,14 @@ those ok n zero = []
 those ok n (suc m) = if ok n then n ∷ those ok (suc n) m else those ok (suc n) m
 
 unfoldable pub readable : Bytes → Bool
-unfolding times many byte byteFor room letters name tag tooMany node whole readTerm leads follows
+unfolding times many byte byteFor room letters spelled name tag tooMany node whole readTerm leads follows isWord
 readable s = goodAnd (readTerm limits 1 s) (λ t. true)
 
 pub first-bytes : those (λ b. readable (1 ∷ 1 ∷ b ∷ [])) 0 256 ≡ say "ABCDEFGHIJKLMNOPQRSTUVWXYZ_abcdefghijklmnopqrstuvwxyz"
 unfolding readable
 first-bytes = refl
 
-pub later-bytes : those (λ b. readable (1 ∷ 2 ∷ 97 ∷ b ∷ [])) 0 256 ≡ say "0123456789ABCDEFGHIJKLMNOPQRSTUVWXYZ_abcdefghijklmnopqrstuvwxyz"
+pub later-bytes : those (λ b. readable (1 ∷ 2 ∷ 120 ∷ b ∷ [])) 0 256 ≡ say "0123456789ABCDEFGHIJKLMNOPQRSTUVWXYZ_abcdefghijklmnopqrstuvwxyz"
 unfolding readable
 later-bytes = refl
 

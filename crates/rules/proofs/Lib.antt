@@ -6,6 +6,7 @@ mod Steps
 mod Straights
 pub mod Called
 mod Faults
+mod Words
 mod Lent
 mod Extractions
 mod Blocks

@@ -6,11 +6,11 @@ use mathlib.Core.List.{List, [], _∷_, map}
 use lib.ListN.{replicate}
 use Rattle.rules.specs.Basic.{Bytes, _‥_}
 use Rattle.rules.specs.Limits.{Limits, limits, wideLimits, outputRoom, textRoom, formulaTextRoom, storedRoom, scratchRoom, entryRoom}
-use Rattle.rules.specs.Name.{leads, follows}
+use Rattle.rules.specs.Name.{leads, follows, isWord}
 use Rattle.rules.specs.Formula.{formulaNodes}
 use Rattle.rules.specs.Term.{nodes}
 use Rattle.rules.specs.Proof.{rules}
-use Rattle.rules.specs.Reading.{times, many, byte, byteFor, room, letters, name, tag, tooMany, node, proofAt, whole, readTerm, readFormula, readProof}
+use Rattle.rules.specs.Reading.{times, many, byte, byteFor, room, letters, spelled, name, tag, tooMany, node, proofAt, whole, readTerm, readFormula, readProof}
 use Rattle.rules.specs.Calls.{checkTermCall, checkFormulaCall, checkProofCall}
 use Rattle.rules.proofs.Notation.{equal, hex, repeat, wrong}
 use Rattle.rules.proofs.Called.{numbers, single, refuses_at_of_}
@@ -22,7 +22,7 @@ pub data Row : Type 0 where
   term_⟹_ formula_⟹_ proof_⟹_ : Bytes → List ℕ → Row
 
 unfoldable pub right : Row → Bool
-unfolding times many byte byteFor room letters name tag tooMany node proofAt whole readTerm readFormula readProof leads follows nodes formulaNodes rules checkTermCall checkFormulaCall checkProofCall
+unfolding times many byte byteFor room letters spelled name tag tooMany node proofAt whole readTerm readFormula readProof leads follows isWord nodes formulaNodes rules checkTermCall checkFormulaCall checkProofCall
 right (term s ⟹ a) = equal (numbers single (checkTermCall limits s)) a
 right (formula s ⟹ a) = equal (numbers single (checkFormulaCall limits s)) a
 right (proof s ⟹ a) = equal (numbers single (checkProofCall limits s)) a

@@ -38,7 +38,7 @@ abbrev pub written : Option Bytes → ℕ
 written none = 0
 written (some s) = length s
 
--- Scratch is untouched by 1 to 7 and 9 and all zeros otherwise; so are the cut entries.
+-- Scratch is untouched by 1 to 7, 9 and 15 and all zeros otherwise; so are the cut entries.
 abbrev pub cleared : {A B : Type 0} → (zero : B) → List B → Outcome A → List B
 cleared z b (good a) = replicate (length b) z
 cleared z b (refused r) = if sparesScratch (r .number) then b else replicate (length b) z

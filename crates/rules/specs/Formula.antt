@@ -3,7 +3,7 @@
 use Prim.Native.Nat.{ℕ, _+_}
 use mathlib.Core.List.{List, [], _∷_}
 use Rattle.rules.specs.Basic.{Bytes, _‥_}
-use Rattle.rules.specs.Name.{Name, atomMost, encodeName}
+use Rattle.rules.specs.Name.{Name, atomSpelling, encodeName}
 use Rattle.rules.specs.Layout.{Layout, Tuple}
 
 -- Atom, NegAtom
@@ -56,7 +56,7 @@ buildFormula (anExponential k) xs fs = exponential k (fs .0)
 buildFormula (aConnective k) xs fs = connective k (fs .0) (fs .1 .0)
 
 abbrev pub formulas : Layout FormulaHead Formula
-formulas = record { heads = formulaHeads; longest = atomMost; names = formulaNames; parts = formulaParts; build = buildFormula }
+formulas = record { heads = formulaHeads; spelling = atomSpelling; names = formulaNames; parts = formulaParts; build = buildFormula }
 
 abbrev pub signTag : Sign → ℕ
 signTag plain = 1

@@ -4,7 +4,7 @@ use Prim.Native.Nat.{ℕ, zero, suc}
 use mathlib.Core.List.{List}
 use mathlib.Core.Option.{Option, none}
 use lib.ListN.{getElem?}
-use Rattle.rules.specs.Name.{Name}
+use Rattle.rules.specs.Name.{Name, Spelling}
 
 -- n things in a row
 abbrev pub Tuple : Type 0 → ℕ → Type 0
@@ -15,8 +15,8 @@ Tuple A (suc n) = A × Tuple A n
 pub record Layout (H A : Type 0) : Type 0 where
   -- in the order of their tags, the first at tag 1
   pub heads : List H
-  -- how many bytes a name may have
-  pub longest : ℕ
+  -- how its names may be spelled
+  pub spelling : Spelling
   -- how many names and parts follow a head, and what they make
   pub names : H → ℕ
   pub parts : H → ℕ

@@ -1,11 +1,11 @@
 -- Which names, formulas, terms and proofs are legal: those whose bytes can be read, but for their size.
 -- Assumes nothing: these are definitions.
-use Prim.Native.Nat.{ℕ, suc, _≤_, _<_}
+use Prim.Native.Nat.{ℕ, _≤_, _<_}
 use mathlib.Core.Path.{_≡_}
 use mathlib.Core.Bool.{Bool, true}
 use mathlib.Core.List.{List, [], _∷_}
 use lib.ListN.{length}
-use Rattle.rules.specs.Name.{Name, nameMost, atomMost, leads, follows}
+use Rattle.rules.specs.Name.{Name, leads, follows, Spelling, nameSpelling, atomSpelling}
 use Rattle.rules.specs.Formula.{Formula, atom, constant, exponential, connective}
 use Rattle.rules.specs.Proof.{Proof, proof, Premises, done, _then_, premiseCount, Rule, plain, cut, focus}
 use Rattle.rules.specs.Term.{Term, var, leaf, one, two, abs, both, branch}
@@ -14,25 +14,30 @@ abbrev pub All : (ℕ → Bool) → List ℕ → Type 0
 All ok [] = Unit {0}
 All ok (b ∷ bs) = (ok b ≡ true) × All ok bs
 
--- a name of at most so many bytes
-abbrev pub LegalName : (most : ℕ) → Name → Type 0
-LegalName most [] = ⊥
-LegalName most (b ∷ bs) = (leads b ≡ true) × All follows bs × (suc (length bs) ≤ most)
+-- a byte that may lead, then bytes that may follow
+abbrev pub Lettered : Name → Type 0
+Lettered [] = ⊥
+Lettered (b ∷ bs) = (leads b ≡ true) × All follows bs
+
+pub record LegalName (P : Spelling) (x : Name) : Type 0 where
+  pub lettered : Lettered x
+  pub short : length x ≤ P .longest
+  pub allowed : P .allowed x ≡ true
 
 abbrev pub LegalFormula : Formula → Type 0
-LegalFormula (atom k x) = LegalName atomMost x
+LegalFormula (atom k x) = LegalName atomSpelling x
 LegalFormula (constant k) = Unit {0}
 LegalFormula (exponential k a) = LegalFormula a
 LegalFormula (connective k a b) = LegalFormula a × LegalFormula b
 
 abbrev pub Legal : Term → Type 0
-Legal (var x) = LegalName nameMost x
+Legal (var x) = LegalName nameSpelling x
 Legal (leaf k) = Unit {0}
 Legal (one k e) = Legal e
 Legal (two k a b) = Legal a × Legal b
-Legal (abs x e) = LegalName nameMost x × Legal e
-Legal (both k x y e b) = LegalName nameMost x × LegalName nameMost y × Legal e × Legal b
-Legal (branch x y e l r) = LegalName nameMost x × LegalName nameMost y × Legal e × Legal l × Legal r
+Legal (abs x e) = LegalName nameSpelling x × Legal e
+Legal (both k x y e b) = LegalName nameSpelling x × LegalName nameSpelling y × Legal e × Legal b
+Legal (branch x y e l r) = LegalName nameSpelling x × LegalName nameSpelling y × Legal e × Legal l × Legal r
 
 abbrev pub LegalFormulas : List Formula → Type 0
 LegalFormulas [] = Unit {0}

@@ -9,7 +9,7 @@ use lib.ListN.{length}
 use Rattle.rules.specs.Basic.{Bytes, if_then_else_, _<?_, _≤?_, between}
 use Rattle.rules.specs.Limits.{Limits}
 use Rattle.rules.specs.Refusal.{Outcome, good, refuse}
-use Rattle.rules.specs.Name.{Name, leads, follows, nameMost}
+use Rattle.rules.specs.Name.{Name, leads, follows, nameMost, Spelling, nameSpelling}
 use Rattle.rules.specs.Layout.{Layout, Tuple, headAt}
 use Rattle.rules.specs.Formula.{Formula, formulas}
 use Rattle.rules.specs.Term.{Term, terms}
@@ -53,9 +53,13 @@ unfoldable pub byte : {S : Type 0} → Reader S ℕ
 byte u at [] = bad 3 at
 byte u at (b ∷ r) = got b u (at + 1) r
 
--- A byte that is allowed, or else a fault at that byte: 4 for a premise count, 5 in a name.
+-- What is allowed of what is read, or else a fault where that begins.
+abbrev pub only : {S A : Type 0} → (allowed : A → Bool) (number : ℕ) → Reader S A → Reader S A
+only ok n m u at r = andThen (m u at r) (λ x u′ p r′. if ok x then got x u′ p r′ else bad n at)
+
+-- 4 for a premise count, 5 in a name
 unfoldable pub byteFor : {S : Type 0} → (allowed : ℕ → Bool) (number : ℕ) → Reader S ℕ
-byteFor ok n u at r = andThen (byte u at r) (λ b u′ p r′. if ok b then got b u′ p r′ else bad n at)
+byteFor ok n = only ok n byte
 
 -- n bytes are there, or else 3.
 unfoldable pub room : {S : Type 0} → ℕ → Reader S (Unit {0})
@@ -67,12 +71,16 @@ letters n = do
   bs ← many (byteFor follows 5) (n - 1)
   pure (b ∷ bs)
 
--- In a name: 3 for a missing length, 5 for a bad length, 3 for missing bytes, 5 for a bad byte.
-unfoldable pub name : {S : Type 0} → (most : ℕ) → Reader S Name
-name most = do
-  n ← byteFor (between 1 most) 5
+-- 15: a word, at its first letter.
+unfoldable pub spelled : {S : Type 0} → Spelling → ℕ → Reader S Name
+spelled P n = only (P .allowed) 15 (letters n)
+
+-- In a name: 3 for a missing length, 5 for a bad length, 3 for missing bytes, 5 for a bad byte, 15 for a word.
+unfoldable pub name : {S : Type 0} → Spelling → Reader S Name
+name P = do
+  n ← byteFor (between 1 (P .longest)) 5
   _ ← room n
-  letters n
+  spelled P n
 
 abbrev pub listed : {H : Type 0} → (met at next : ℕ) → Bytes → Option H → Got ℕ H
 listed u at p r none = bad 4 at
@@ -91,7 +99,7 @@ unfoldable pub node : {H A : Type 0} → Layout H A → (most depth : ℕ) → R
 node F most zero = tooMany
 node F most (suc depth) = do
   h ← tag most (headAt (F .heads))
-  xs ← times (name (F .longest)) (F .names h)
+  xs ← times (name (F .spelling)) (F .names h)
   ts ← times (node F most depth) (F .parts h)
   pure (F .build h xs ts)
 
@@ -158,4 +166,4 @@ readProof L i s = whole L i s (proofAt L (L .rules)) (record { rules = 0; formul
 
 -- A bare name argument has no length byte; empty or over 24 bytes is 5 at 0.
 unfoldable pub readName : (input : ℕ) → Bytes → Outcome Name
-readName i s = if between 1 nameMost (length s) then ended i (letters (length s) (tt {0}) 0 s) else refuse 5 0 i
+readName i s = if between 1 nameMost (length s) then ended i (spelled nameSpelling (length s) (tt {0}) 0 s) else refuse 5 0 i

@@ -11,7 +11,7 @@ pub data Outcome (A : Type 0) : Type 0 where
   good : A → Outcome A
   refused : Refusal → Outcome A
 
--- The input is 1, 2 or 3 for 2 to 7, in the order of the arguments, 1 for 10 to 13, and 0 for a refusal that is about no one input.
+-- The input is 1, 2 or 3 for 2 to 7 and 15, in the order of the arguments, 1 for 10 to 13, and 0 for a refusal that is about no one input.
 abbrev pub refuse : {A : Type 0} → (number place input : ℕ) → Outcome A
 refuse n p i = refused (record { number = n; place = p; input = i })
 
@@ -38,6 +38,6 @@ outgrows = 8
 abbrev pub counterOver : ℕ
 counterOver = 9
 
--- Scratch is untouched by 1 to 7 and 9 and all zeros otherwise.
+-- Scratch is untouched by 1 to 7, 9 and 15 and all zeros otherwise: 2 to 7 and 15 come of reading, before any work.
 abbrev pub sparesScratch : ℕ → Bool
-sparesScratch n = (n ≤? 7) || (n == 9)
+sparesScratch n = (n ≤? 7) || ((n == 9) || (n == 15))

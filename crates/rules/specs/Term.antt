@@ -7,7 +7,7 @@ use mathlib.Core.Bool.{Bool, _&&_}
 use lib.ListN.{length}
 use Rattle.rules.specs.Basic.{Bytes, _‥_, _≤?_}
 use Rattle.rules.specs.Limits.{Limits}
-use Rattle.rules.specs.Name.{Name, nameMost, encodeName}
+use Rattle.rules.specs.Name.{Name, nameSpelling, encodeName}
 use Rattle.rules.specs.Layout.{Layout, Tuple}
 
 pub data Leaf : Type 0 where
@@ -97,7 +97,7 @@ build (aBoth k) xs ts = both k (xs .0) (xs .1 .0) (ts .0) (ts .1 .0)
 build aBranch xs ts = branch (xs .0) (xs .1 .0) (ts .0) (ts .1 .0) (ts .1 .1 .0)
 
 abbrev pub terms : Layout Head Term
-terms = record { heads = heads; longest = nameMost; names = nameCount; parts = partCount; build = build }
+terms = record { heads = heads; spelling = nameSpelling; names = nameCount; parts = partCount; build = build }
 
 unfoldable pub encode : Term → Bytes
 encode (var x) = 1 ∷ encodeName x

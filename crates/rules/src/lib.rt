@@ -1,5 +1,6 @@
-// What every room shares: the types in which public calls answer, and the limits by name. The rules themselves are definitions, in specs/.
+// What every room shares: the types in which public calls answer, the limits by name, and lower case. The rules themselves are definitions, in specs/.
 ghost use mathlib.Core.Path.{_≡_};
+ghost use Rattle.rules.specs.Name.{lowerByte};
 ghost use Rattle.rules.specs.Stored.{kindByte};
 
 // The limits. specs/Limits.antt has the same numbers, and the contracts hold the code to those.
@@ -33,6 +34,19 @@ pub const ENTRY_ROOM: usize = MOST_RULES;
 pub const LONGEST_NAME: usize = 24;
 
 pub const LONGEST_ATOM: usize = 16;
+
+// A byte in lower case.
+pub fn lower_byte(b: u8) -> u8
+    ensures { λ r. ⌜ r ≡ lowerByte b ⌝ }
+{
+    if b < 65 {
+        return b;
+    }
+    if 90 < b {
+        return b;
+    }
+    b + 32
+}
 
 // An extraction may not leave the counter over this.
 pub const MOST_COUNTER: usize = 100_000_000;

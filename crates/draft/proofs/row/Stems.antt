@@ -8,20 +8,9 @@ use native.Mathlib.Omega.{arith}
 use lib.ListN.{length, getD, take, drop, set, length-take, length-drop, length-map, length-append, take-append-drop}
 use Rattle.buffer.specs.Writing.{slice-is}
 use lib.Seq.{sets, slice, slice-cons, slice-empty}
-use borrow.Author.Tests.{lt-leb, le-leb}
 use Rattle.rules.specs.Basic.{Bytes}
 use Rattle.rules.specs.Name.{lower, lowerByte}
 use Rattle.draft.specs.Draft.{stemAt, numbered, nameOf}
-
--- a byte that is no capital, and one that is
-pub lower-low : (b : ℕ) → b < 65 → b ≡ lowerByte b
-lower-low b h = rw (lt-leb 65 b h)
-
-pub lower-high : (b : ℕ) → 90 < b → b ≡ lowerByte b
-lower-high b h = rw (le-leb 65 b (omega arith), lt-leb b 90 h)
-
-pub lower-capital : (b : ℕ) → 65 ≤ b → b ≤ 90 → b + 32 ≡ lowerByte b
-lower-capital b h k = rw (le-leb 65 b h, le-leb b 90 k)
 
 -- a turn of the loop that copies in lower case
 pub lower-more : (src out all : List ℕ) (i end o : ℕ) → i < end → end ≤ length src → sets out o (lower (slice i end src)) ≡ all

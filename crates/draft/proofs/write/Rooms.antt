@@ -7,7 +7,7 @@ use lib.ListN.{length}
 use Rattle.rules.specs.Basic.{Bytes}
 use Rattle.rules.specs.Name.{Name, nameMost}
 use Rattle.rules.specs.Term.{Term, var, leaf, one, two, abs, both, branch, encode, size}
-use Rattle.rules.specs.Legal.{Legal, LegalName}
+use Rattle.rules.specs.Legal.{Legal}
 use Rattle.buffer.specs.Wrote.{Wrote}
 use Rattle.buffer.specs.Writing.{wrote-length}
 use Rattle.draft.specs.Draft.{Row, rowAt, nameOf, Shape, shapeOf, named, identity, discarding, letting, branching, copying, wrapping, joining, shaped}
@@ -63,14 +63,10 @@ legal-second s r part copying x y l = absurd (y refl)
 legal-second s r part (wrapping k) x y l = absurd (y refl)
 legal-second s r part (joining k) x y l = l .1
 
-legal-short : (most : ℕ) (x : Name) → LegalName most x → length x ≤ most
-legal-short most [] l = absurd l
-legal-short most (b ∷ x) l = l .2
-
 legal-name : (s : Bytes) (r : Row) (part : ℕ → Term) → r .kind ≡ 0 → Legal (shaped s r part (shapeOf (r .kind))) → length (nameOf s (r .stem) (r .number)) ≤ 255
 legal-name s r part e l =
     let m : Legal (shaped s r part named) = rw e at l in
-    omega (arith, legal-short nameMost (nameOf s (r .stem) (r .number)) m)
+    omega (arith, m .short)
 
 -- the room that is left for each part
 module _ {s : Bytes} {ws : List ℕ} {n p : ℕ} {out : Bytes} {at : ℕ} {t : Term} (w : Writable s ws n p out at t) (a : p ≡ 0 → ⊥) (b : p ≡ 1 → ⊥) where

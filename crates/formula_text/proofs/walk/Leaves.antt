@@ -9,7 +9,6 @@ use Rattle.rules.specs.Basic.{say}
 use Rattle.rules.specs.Name.{Name, atomMost}
 use Rattle.rules.specs.Formula.{Formula, atom, constant, exponential, connective, Sign, Constant, signTag, encodeFormula}
 use Rattle.rules.specs.Text.{signText, constantText, formulaText}
-use Rattle.laws.specs.reading.Names.{name-long}
 use Rattle.words.specs.Prints.{Prints}
 use Rattle.words.specs.Task.{places}
 use Rattle.words.specs.Steps.{chain, finish, passed, no-more, Named, named}
@@ -39,7 +38,7 @@ module _ {s : List ℕ} {at : ℕ} {out : List ℕ} {to : ℕ} where
         name = x;
         word = say (signText k);
         long = z;
-        few = omega (arith, z, name-long atomMost x (t .legal) .1);
+        few = omega (arith, z, t .legal .short);
         fits = omega (arith, z, n .fits);
         is = rw z (n .is);
         sign = ap (λ (i : ℕ). signOf i) (tag-at (atom k x) t) ∙ sign-word k;

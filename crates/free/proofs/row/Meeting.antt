@@ -7,11 +7,10 @@ use mathlib.Core.List.{List}
 use native.Mathlib.Omega.{arith}
 use lib.ListN.{length, getD, set}
 use Rattle.rules.specs.Basic.{Bytes, if_then_else_}
-use Rattle.rules.specs.Name.{Name, same}
+use Rattle.rules.specs.Name.{Name, same, among}
 use Rattle.rules.specs.Free.{insert}
 use Rattle.term.specs.Place.{NameAt}
 use Rattle.free.specs.declared.slot.Slot.{Slot}
-use Rattle.laws.specs.free.Occurrences.{among}
 use Rattle.free.specs.Ordered.{ordered-insert}
 use Rattle.free.specs.Search.{at, among-at, insert-there}
 use Rattle.free.specs.Rows.{binders, rowEnd, Scanned, Sought, Goes, Opened}

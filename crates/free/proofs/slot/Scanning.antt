@@ -7,9 +7,8 @@ use native.Mathlib.Omega.{arith}
 use lib.ListN.{getD, drop, drop-of-length-le}
 use lib.Seq.{drop-cons}
 use Rattle.rules.specs.Basic.{Bytes}
-use Rattle.rules.specs.Name.{Name, same}
+use Rattle.rules.specs.Name.{Name, same, among}
 use Rattle.term.specs.Place.{NameAt}
-use Rattle.laws.specs.free.Occurrences.{among}
 use Rattle.free.specs.Search.{at}
 use Rattle.free.specs.Rows.{binders, Passed, Scanned}
 

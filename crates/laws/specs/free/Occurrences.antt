@@ -8,15 +8,10 @@ use native.Mathlib.Nat.{zero-add}
 use native.Mathlib.Omega.{arith}
 use borrow.Author.Tests.{lt-ltb}
 use Rattle.rules.specs.Basic.{if_then_else_, _<?_}
-use Rattle.rules.specs.Name.{Name, same, before}
+use Rattle.rules.specs.Name.{Name, same, among, before}
 use Rattle.rules.specs.Term.{Term, var, leaf, one, two, abs, both, branch}
 use Rattle.rules.specs.Free.{insert, union, without, free, occurrences}
 use Rattle.laws.specs.free.Same.{same-equal}
-
--- whether a name is in a list
-abbrev pub among : Name → List Name → Bool
-among z [] = false
-among z (y ∷ ys) = same z y || among z ys
 
 swap : (a b c : Bool) → (a || (b || c)) ≡ (b || (a || c))
 swap true b c = sym (or-true b)

@@ -7,7 +7,7 @@ use native.Mathlib.Omega.{arith}
 use lib.ListN.{length, length-append}
 use borrow.Author.Tests.{lt-ltb}
 use Rattle.rules.specs.Basic.{Bytes, _‥_}
-use Rattle.rules.specs.Name.{Name, encodeName}
+use Rattle.rules.specs.Name.{Name, encodeName, Spelling}
 use Rattle.rules.specs.Layout.{Layout, Tuple, headAt}
 use Rattle.rules.specs.Legal.{LegalName}
 use Rattle.rules.specs.Reading.{got, Reader, times, byte, name, tag, node}
@@ -26,10 +26,10 @@ none-all : (n : ℕ) (xs : Tuple Name n) → sumOf none n xs ≡ 0
 none-all zero xs = refl
 none-all (suc n) xs = omega (arith, none-all n (xs .1))
 
-names-found : (most longest n : ℕ) (xs : Tuple Name n) → Each (LegalName longest) n xs → Each (Finds most encodeName none (name longest)) n xs
-names-found most longest zero xs l = tt
-names-found most longest (suc n) xs l =
-    (λ u at r h. name-found longest (xs .0) (l .0) u at r ∙ same-got (xs .0) u (u + 0) _ _ r (omega arith) refl, names-found most longest n (xs .1) (l .1))
+names-found : (most : ℕ) (P : Spelling) (n : ℕ) (xs : Tuple Name n) → Each (LegalName P) n xs → Each (Finds most encodeName none (name P)) n xs
+names-found most P zero xs l = tt
+names-found most P (suc n) xs l =
+    (λ u at r h. name-found P (xs .0) (l .0) u at r ∙ same-got (xs .0) u (u + 0) _ _ r (omega arith) refl, names-found most P n (xs .1) (l .1))
 
 module _ {A : Type 0} (most : ℕ) (enc : A → Bytes) (count : A → ℕ) (m : Reader ℕ A) where
   times-found : (n : ℕ) (xs : Tuple A n) → Each (Finds most enc count m) n xs → Finds most (bytesOf enc n) (sumOf count n) (times m n) xs
@@ -53,7 +53,7 @@ module _ {H A : Type 0} (F : Layout H A) (encode : A → Bytes) (nodes : A → �
   all-deep depth (suc n) ts h d = (d .0 depth (omega arith), all-deep depth n (ts .1) (omega arith) (d .1))
 
   module _ (h : H) (xs : Tuple Name (F .names h)) (ts : Tuple A (F .parts h)) where
-    build-found : (depth : ℕ) → Each (LegalName (F .longest)) (F .names h) xs → Each (Finds most encode nodes (node F most depth)) (F .parts h) ts
+    build-found : (depth : ℕ) → Each (LegalName (F .spelling)) (F .names h) xs → Each (Finds most encode nodes (node F most depth)) (F .parts h) ts
         → Finds most encode nodes (node F most (suc depth)) (F .build h xs ts)
     unfolding node
     build-found depth l f u at r k =
@@ -66,12 +66,12 @@ module _ {H A : Type 0} (F : Layout H A) (encode : A → Bytes) (nodes : A → �
           W .bytes h xs ts,
           append-assoc ns ps r,
           tag-found h u at (ns ++ (ps ++ r)) (omega arith),
-          times-found most encodeName none (name (F .longest)) (F .names h) xs (names-found most (F .longest) (F .names h) xs l) (u + 1) (at + 1) (ps ++ r) (omega arith),
+          times-found most encodeName none (name (F .spelling)) (F .names h) xs (names-found most (F .spelling) (F .names h) xs l) (u + 1) (at + 1) (ps ++ r) (omega arith),
           times-found most encode nodes (node F most depth) (F .parts h) ts f v (at + 1 + length ns) r (omega arith),
         )
         (same-got (F .build h xs ts) _ _ _ _ r (omega arith) (omega (arith, length-append ns ps)))
 
-    build-deep : Each (LegalName (F .longest)) (F .names h) xs → Each Deep (F .parts h) ts → Deep (F .build h xs ts)
+    build-deep : Each (LegalName (F .spelling)) (F .names h) xs → Each Deep (F .parts h) ts → Deep (F .build h xs ts)
     build-deep l d zero k = absurd (omega (arith, W .count h xs ts))
     build-deep l d (suc depth) k = build-found depth l (all-deep depth (F .parts h) ts (omega (arith, W .count h xs ts)) d)
 

@@ -10,18 +10,18 @@ use borrow.Author.Tests.{ltb-false, leb-true, le-ltb, le-leb}
 use Rattle.rules.specs.Basic.{Bytes, if_then_else_, _‥_, _<?_, _≤?_}
 use Rattle.rules.specs.Limits.{Limits}
 use Rattle.rules.specs.Refusal.{good, refuse}
-use Rattle.rules.specs.Name.{Name, nameMost}
+use Rattle.rules.specs.Name.{Name, nameMost, nameSpelling}
 use Rattle.rules.specs.Layout.{Layout}
 use Rattle.rules.specs.Legal.{LegalName, Legal, LegalFormula}
 use Rattle.rules.specs.Term.{Term, terms, encode, nodes}
 use Rattle.rules.specs.Formula.{Formula, formulas, encodeFormula, formulaNodes}
-use Rattle.rules.specs.Reading.{Got, got, bad, node, letters, ended, whole, readTerm, readFormula, readName}
+use Rattle.rules.specs.Reading.{Got, got, bad, node, spelled, ended, whole, readTerm, readFormula, readName}
 use Rattle.laws.specs.reading.Holds.{Holds}
 use Rattle.laws.specs.reading.Steady.{node-below}
 use Rattle.laws.specs.reading.Written.{Written}
 use Rattle.laws.specs.reading.WrittenTerm.{written-terms}
 use Rattle.laws.specs.reading.WrittenFormula.{written-formulas}
-use Rattle.laws.specs.reading.Names.{Item, still, Lettered, letters-sound, letters-found, longer, name-long}
+use Rattle.laws.specs.reading.Names.{Item, still, Spelled, spelled-sound, spelled-found, name-some}
 use Rattle.laws.specs.reading.Sound.{node-sound}
 use Rattle.laws.specs.reading.Complete.{node-found}
 
@@ -104,22 +104,23 @@ pub formula-unique : (f g : Formula) → LegalFormula f → LegalFormula g → (
 formula-unique = unique formulas encodeFormula formulaNodes LegalFormula written-formulas
 
 -- Bare names.
-pub bare-name-sound : (i : ℕ) (s : Bytes) (x : Name) → readName i s ≡ good x → (s ≡ x) × LegalName nameMost x
+pub bare-name-sound : (i : ℕ) (s : Bytes) (x : Name) → readName i s ≡ good x → (s ≡ x) × LegalName nameSpelling x
 unfolding readName
 bare-name-sound i s x e = go (1 ≤? length s) (length s ≤? nameMost) refl refl e
   where
-    go : (a b : Bool) → (1 ≤? length s) ≡ a → (length s ≤? nameMost) ≡ b → (if a && b then ended i (letters (length s) (tt {0}) 0 s) else refuse 5 0 i) ≡ good x
-        → (s ≡ x) × LegalName nameMost x
+    go : (a b : Bool) → (1 ≤? length s) ≡ a → (length s ≤? nameMost) ≡ b → (if a && b then ended i (spelled nameSpelling (length s) (tt {0}) 0 s) else refuse 5 0 i) ≡ good x
+        → (s ≡ x) × LegalName nameSpelling x
     go true true h k q =
-        let g = ended-good i (letters (length s) (tt {0}) 0 s) _ x (letters-sound (length s) (leb-true _ _ h) (tt {0}) 0 s) q in
-        let t : Item (λ y. y) still (Lettered (length s)) (tt {0}) 0 s x (g .0) (g .1) [] = g .2 in
-        (t .bytes ∙ append-nil x, longer (length s) nameMost (leb-true _ _ k) x (t .legal .1))
+        let g = ended-good i (spelled nameSpelling (length s) (tt {0}) 0 s) _ x (spelled-sound nameSpelling (length s) (leb-true _ _ h) (tt {0}) 0 s) q in
+        let t : Item (λ y. y) still (Spelled nameSpelling (length s)) (tt {0}) 0 s x (g .0) (g .1) [] = g .2 in (
+          t .bytes ∙ append-nil x,
+          record { lettered = t .legal .0 .1; short = omega (arith, t .legal .0 .0, leb-true (length s) nameMost k); allowed = t .legal .1 },
+        )
     go true false h k q = absurd (let z : _≡_ {A = ℕ} 0 1 = cc in omega arith)
     go false b h k q = absurd (let z : _≡_ {A = ℕ} 0 1 = cc in omega arith)
 
-pub bare-name-complete : (i : ℕ) (x : Name) → LegalName nameMost x → readName i x ≡ good x
+pub bare-name-complete : (i : ℕ) (x : Name) → LegalName nameSpelling x → readName i x ≡ good x
 unfolding readName
 bare-name-complete i x l =
-    let n = name-long nameMost x l in
-    let g : letters (length x) (tt {0}) 0 x ≡ got x tt (0 + length x) [] = rw (append-nil x) at (letters-found nameMost x l (tt {0}) 0 []) in
-    rw (le-leb 1 (length x) (n .0), le-leb (length x) nameMost (n .1), g)
+    let g : spelled nameSpelling (length x) (tt {0}) 0 x ≡ got x tt (0 + length x) [] = rw (append-nil x) at (spelled-found nameSpelling x l (tt {0}) 0 []) in
+    rw (le-leb 1 (length x) (name-some x (l .lettered)), le-leb (length x) nameMost (l .short), g)

@@ -7,9 +7,9 @@ use mathlib.Core.Option.{Option, none, some}
 use lib.ListN.{length}
 use borrow.Author.Tests.{ltb-true}
 use Rattle.rules.specs.Basic.{Bytes, _<?_, _≤?_, between}
-use Rattle.rules.specs.Name.{leads, follows}
+use Rattle.rules.specs.Name.{leads, follows, Spelling}
 use Rattle.rules.specs.Layout.{Layout, headAt}
-use Rattle.rules.specs.Reading.{Reader, andThen, times, many, byte, byteFor, room, letters, name, tag, listed, node}
+use Rattle.rules.specs.Reading.{Reader, andThen, only, times, many, byte, byteFor, room, letters, spelled, name, tag, listed, node}
 use Rattle.laws.specs.reading.Holds.{Holds, and-then, chosen, weaker, none-read}
 
 -- A relation of where a reader stands (what was met, the position, the rest) and where it stood before, that a byte which is passed keeps.
@@ -27,10 +27,12 @@ module _ {S : Type 0} (R : S → ℕ → Bytes → S → ℕ → Bytes → Type 
   keeps-byte u at [] = tt
   keeps-byte u at (b ∷ r) = k .passed u at b r
 
+  keeps-only : {A : Type 0} (ok : A → Bool) (n : ℕ) (m : Reader S A) → Keeps R m → Keeps R (only ok n m)
+  keeps-only ok n m h u at r = and-then (λ x v p r′. R u at r v p r′) _ (m u at r) _ (h u at r) (λ x v p r′ i. chosen _ (ok x) _ _ (λ e. i) (λ e. tt))
+
   pub keeps-byteFor : (ok : ℕ → Bool) (n : ℕ) → Keeps R (byteFor ok n)
   unfolding byteFor
-  keeps-byteFor ok n u at r =
-      and-then (λ b v p r′. R u at r v p r′) _ (byte u at r) _ (keeps-byte u at r) (λ b v p r′ h. chosen _ (ok b) _ _ (λ e. h) (λ e. tt))
+  keeps-byteFor ok n = keeps-only ok n byte keeps-byte
 
   pub keeps-room : (n : ℕ) → Keeps R (room n)
   unfolding room
@@ -57,9 +59,15 @@ module _ {S : Type 0} (R : S → ℕ → Bytes → S → ℕ → Bytes → Type 
       keeps-then (byteFor leads 5) _ (keeps-byteFor leads 5) (λ b.
       keeps-then (many (byteFor follows 5) (n - 1)) _ (keeps-many (byteFor follows 5) (keeps-byteFor follows 5) (n - 1)) (λ bs. k .still))
 
-  pub keeps-name : (most : ℕ) → Keeps R (name most)
+  pub keeps-spelled : (P : Spelling) (n : ℕ) → Keeps R (spelled P n)
+  unfolding spelled
+  keeps-spelled P n = keeps-only (P .allowed) 15 (letters n) (keeps-letters n)
+
+  pub keeps-name : (P : Spelling) → Keeps R (name P)
   unfolding name
-  keeps-name most = keeps-then (byteFor (between 1 most) 5) _ (keeps-byteFor (between 1 most) 5) (λ n. keeps-then (room n) _ (keeps-room n) (λ _. keeps-letters n))
+  keeps-name P =
+      keeps-then (byteFor (between 1 (P .longest)) 5) _ (keeps-byteFor (between 1 (P .longest)) 5) (λ n.
+      keeps-then (room n) _ (keeps-room n) (λ _. keeps-spelled P n))
 
 -- Where nodes are counted, a tag that is passed counts one, if that is not one too many.
 module _ (R : ℕ → ℕ → Bytes → ℕ → ℕ → Bytes → Type 0) (k : Kept R) (most : ℕ) (counted : (u at b : ℕ) (r : Bytes) → u < most → R u at (b ∷ r) (u + 1) (at + 1) r) where
@@ -77,6 +85,6 @@ module _ (R : ℕ → ℕ → Bytes → ℕ → ℕ → Bytes → Type 0) (k : K
   keeps-node F zero = λ u at r. none-read _ u at r
   keeps-node F (suc depth) =
       keeps-then R k (tag most (headAt (F .heads))) _ (keeps-tag (headAt (F .heads))) (λ h.
-      keeps-then R k (times (name (F .longest)) (F .names h)) _ (keeps-times R k (name (F .longest)) (keeps-name R k (F .longest)) (F .names h)) (λ xs.
+      keeps-then R k (times (name (F .spelling)) (F .names h)) _ (keeps-times R k (name (F .spelling)) (keeps-name R k (F .spelling)) (F .names h)) (λ xs.
       keeps-then R k (times (node F most depth) (F .parts h)) _ (keeps-times R k (node F most depth) (keeps-node F depth) (F .parts h)) (λ ts.
       k .still)))

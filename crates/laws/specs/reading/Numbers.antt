@@ -1,167 +1,173 @@
--- A reading is refused by no number over 7, so that the scratch is spared: by one walk through the ways in which readings are put together.
+-- A reading is refused by 2 to 7 or 15, which spare the scratch: by one walk through the ways in which readings are put together.
 -- Assumes nothing.
-use Prim.Native.Nat.{ℕ, zero, suc, _-_, _≤_}
-use mathlib.Core.Path.{_≡_}
+use Prim.Native.Nat.{ℕ, zero, suc, _-_}
+use mathlib.Core.Path.{_≡_, refl}
 use mathlib.Core.Bool.{Bool, true, false}
 use mathlib.Core.List.{[], _∷_}
 use mathlib.Core.Option.{Option, none, some}
 use native.Mathlib.Omega.{arith}
 use lib.ListN.{length}
-use borrow.Author.Tests.{le-leb}
 use Rattle.rules.specs.Basic.{Bytes, if_then_else_, _<?_, _≤?_, between}
 use Rattle.rules.specs.Limits.{Limits}
 use Rattle.rules.specs.declared.Refusal.{Refusal}
 use Rattle.rules.specs.Refusal.{Outcome, good, refused, sparesScratch}
-use Rattle.rules.specs.Name.{nameMost, leads, follows}
+use Rattle.rules.specs.Name.{nameMost, leads, follows, Spelling, nameSpelling}
 use Rattle.rules.specs.Layout.{Layout, headAt}
 use Rattle.rules.specs.Formula.{Formula, formulas}
 use Rattle.rules.specs.Term.{terms}
 use Rattle.rules.specs.Proof.{Proof, RuleHead, aPlain, aCut, aFocus, ruleHeads}
-use Rattle.rules.specs.Reading.{Got, got, bad, Reader, andThen, times, many, byte, byteFor, room, letters, name, tag, listed, tooMany, node, Met, ruleGot, formulaGot, countingRules, countingFormulas, ruleOf, proofAt, ended, whole, readTerm, readFormula, readProof, readName}
+use Rattle.rules.specs.Reading.{Got, got, bad, Reader, andThen, only, times, many, byte, byteFor, room, letters, spelled, name, tag, listed, tooMany, node, Met, ruleGot, formulaGot, countingRules, countingFormulas, ruleOf, proofAt, ended, whole, readTerm, readFormula, readProof, readName}
 
--- a fault's number is at most 7
-abbrev pub Low : {S A : Type 0} → Got S A → Type 0
-Low (got x u p r) = Unit {0}
-Low (bad n p) = n ≤ 7
+-- a fault's number is one that spares the scratch
+abbrev Spares : {S A : Type 0} → Got S A → Type 0
+Spares (got x u p r) = Unit {0}
+Spares (bad n p) = sparesScratch n ≡ true
 
-abbrev pub Lows : {S A : Type 0} → Reader S A → Type 0
-Lows {S = S} {A} m = (u : S) (at : ℕ) (r : Bytes) → Low (m u at r)
+abbrev Sparing : {S A : Type 0} → Reader S A → Type 0
+Sparing {S = S} {A} m = (u : S) (at : ℕ) (r : Bytes) → Spares (m u at r)
 
 module _ {S : Type 0} where
-  low-then : {A B : Type 0} (g : Got S A) (k : A → Reader S B) → Low g → ((x : A) → Lows (k x)) → Low (andThen g k)
-  low-then (got x u p r) k h f = f x u p r
-  low-then (bad n p) k h f = h
+  spares-then : {A B : Type 0} (g : Got S A) (k : A → Reader S B) → Spares g → ((x : A) → Sparing (k x)) → Spares (andThen g k)
+  spares-then (got x u p r) k h f = f x u p r
+  spares-then (bad n p) k h f = h
 
-  low-choice : {A : Type 0} (b : Bool) (x y : Got S A) → Low x → Low y → Low (if b then x else y)
-  low-choice true x y h k = h
-  low-choice false x y h k = k
+  spares-choice : {A : Type 0} (b : Bool) (x y : Got S A) → Spares x → Spares y → Spares (if b then x else y)
+  spares-choice true x y h k = h
+  spares-choice false x y h k = k
 
-  low-byte : Lows {S = S} byte
+  spares-byte : Sparing {S = S} byte
   unfolding byte
-  low-byte u at [] = omega arith
-  low-byte u at (b ∷ r) = tt
+  spares-byte u at [] = refl
+  spares-byte u at (b ∷ r) = tt
 
-  low-byteFor : (ok : ℕ → Bool) (n : ℕ) → n ≤ 7 → Lows {S = S} (byteFor ok n)
+  spares-only : {A : Type 0} (ok : A → Bool) (n : ℕ) (m : Reader S A) → sparesScratch n ≡ true → Sparing m → Sparing (only ok n m)
+  spares-only ok n m h k u at r = spares-then (m u at r) _ (k u at r) (λ x u′ p r′. spares-choice (ok x) _ _ tt h)
+
+  spares-byteFor : (ok : ℕ → Bool) (n : ℕ) → sparesScratch n ≡ true → Sparing {S = S} (byteFor ok n)
   unfolding byteFor
-  low-byteFor ok n h u at r = low-then (byte u at r) _ (low-byte u at r) (λ b u′ p r′. low-choice (ok b) _ _ tt h)
+  spares-byteFor ok n h = spares-only ok n byte h spares-byte
 
-  low-room : (n : ℕ) → Lows {S = S} (room n)
+  spares-room : (n : ℕ) → Sparing {S = S} (room n)
   unfolding room
-  low-room n u at r = low-choice (n ≤? length r) _ _ tt (omega arith)
+  spares-room n u at r = spares-choice (n ≤? length r) _ _ tt refl
 
-  low-times : {A : Type 0} (m : Reader S A) → Lows m → (n : ℕ) → Lows (times m n)
+  spares-times : {A : Type 0} (m : Reader S A) → Sparing m → (n : ℕ) → Sparing (times m n)
   unfolding times
-  low-times m h zero u at r = tt
-  low-times m h (suc n) u at r = low-then (m u at r) _ (h u at r) (λ x u′ p r′. low-then (times m n u′ p r′) _ (low-times m h n u′ p r′) (λ xs v q r″. tt))
+  spares-times m h zero u at r = tt
+  spares-times m h (suc n) u at r = spares-then (m u at r) _ (h u at r) (λ x u′ p r′. spares-then (times m n u′ p r′) _ (spares-times m h n u′ p r′) (λ xs v q r″. tt))
 
-  low-many : {A : Type 0} (m : Reader S A) → Lows m → (n : ℕ) → Lows (many m n)
+  spares-many : {A : Type 0} (m : Reader S A) → Sparing m → (n : ℕ) → Sparing (many m n)
   unfolding many
-  low-many m h zero u at r = tt
-  low-many m h (suc n) u at r = low-then (m u at r) _ (h u at r) (λ x u′ p r′. low-then (many m n u′ p r′) _ (low-many m h n u′ p r′) (λ xs v q r″. tt))
+  spares-many m h zero u at r = tt
+  spares-many m h (suc n) u at r = spares-then (m u at r) _ (h u at r) (λ x u′ p r′. spares-then (many m n u′ p r′) _ (spares-many m h n u′ p r′) (λ xs v q r″. tt))
 
-  low-letters : (n : ℕ) → Lows {S = S} (letters n)
+  spares-letters : (n : ℕ) → Sparing {S = S} (letters n)
   unfolding letters
-  low-letters n u at r =
-      low-then (byteFor leads 5 u at r) _ (low-byteFor leads 5 (omega arith) u at r) (λ b u′ p r′.
-      low-then (many (byteFor follows 5) (n - 1) u′ p r′) _ (low-many (byteFor follows 5) (low-byteFor follows 5 (omega arith)) (n - 1) u′ p r′) (λ bs v q r″. tt))
+  spares-letters n u at r =
+      spares-then (byteFor leads 5 u at r) _ (spares-byteFor leads 5 refl u at r) (λ b u′ p r′.
+      spares-then (many (byteFor follows 5) (n - 1) u′ p r′) _ (spares-many (byteFor follows 5) (spares-byteFor follows 5 refl) (n - 1) u′ p r′) (λ bs v q r″. tt))
 
-  low-name : (most : ℕ) → Lows {S = S} (name most)
+  spares-spelled : (P : Spelling) (n : ℕ) → Sparing {S = S} (spelled P n)
+  unfolding spelled
+  spares-spelled P n = spares-only (P .allowed) 15 (letters n) refl (spares-letters n)
+
+  spares-name : (P : Spelling) → Sparing {S = S} (name P)
   unfolding name
-  low-name most u at r =
-      low-then (byteFor (between 1 most) 5 u at r) _ (low-byteFor (between 1 most) 5 (omega arith) u at r) (λ n u′ p r′.
-      low-then (room n u′ p r′) _ (low-room n u′ p r′) (λ _. low-letters n))
+  spares-name P u at r =
+      spares-then (byteFor (between 1 (P .longest)) 5 u at r) _ (spares-byteFor (between 1 (P .longest)) 5 refl u at r) (λ n u′ p r′.
+      spares-then (room n u′ p r′) _ (spares-room n u′ p r′) (λ _. spares-spelled P n))
 
-low-listed : {H : Type 0} (u at p : ℕ) (r : Bytes) (o : Option H) → Low (listed u at p r o)
-low-listed u at p r none = omega arith
-low-listed u at p r (some h) = tt
+spares-listed : {H : Type 0} (u at p : ℕ) (r : Bytes) (o : Option H) → Spares (listed u at p r o)
+spares-listed u at p r none = refl
+spares-listed u at p r (some h) = tt
 
-low-tag : {H : Type 0} (most : ℕ) (heads : ℕ → Option H) → Lows (tag most heads)
+spares-tag : {H : Type 0} (most : ℕ) (heads : ℕ → Option H) → Sparing (tag most heads)
 unfolding tag
-low-tag most heads u at r = low-then (byte u at r) _ (low-byte u at r) (λ k u′ p r′. low-choice (u <? most) _ _ (low-listed u at p r′ (heads k)) (omega arith))
+spares-tag most heads u at r = spares-then (byte u at r) _ (spares-byte u at r) (λ k u′ p r′. spares-choice (u <? most) _ _ (spares-listed u at p r′ (heads k)) refl)
 
-low-tooMany : (A : Type 0) → Lows (tooMany {A = A})
+spares-tooMany : (A : Type 0) → Sparing (tooMany {A = A})
 unfolding tooMany
-low-tooMany A u at r = low-then (byte u at r) _ (low-byte u at r) (λ k u′ p r′. omega arith)
+spares-tooMany A u at r = spares-then (byte u at r) _ (spares-byte u at r) (λ k u′ p r′. refl)
 
-low-node : {H A : Type 0} (F : Layout H A) (most depth : ℕ) → Lows (node F most depth)
+spares-node : {H A : Type 0} (F : Layout H A) (most depth : ℕ) → Sparing (node F most depth)
 unfolding node
-low-node {H} {A} F most zero u at r = low-tooMany A u at r
-low-node {H} {A} F most (suc depth) u at r =
-    low-then (tag most (headAt (F .heads)) u at r) _ (low-tag most (headAt (F .heads)) u at r) (λ h u′ p r′.
-    low-then (times (name (F .longest)) (F .names h) u′ p r′) _ (low-times (name (F .longest)) (low-name (F .longest)) (F .names h) u′ p r′) (λ xs v q r″.
-    low-then (times (node F most depth) (F .parts h) v q r″) _ (low-times (node F most depth) (low-node F most depth) (F .parts h) v q r″) (λ ts w s r‴. tt)))
+spares-node {H} {A} F most zero u at r = spares-tooMany A u at r
+spares-node {H} {A} F most (suc depth) u at r =
+    spares-then (tag most (headAt (F .heads)) u at r) _ (spares-tag most (headAt (F .heads)) u at r) (λ h u′ p r′.
+    spares-then (times (name (F .spelling)) (F .names h) u′ p r′) _ (spares-times (name (F .spelling)) (spares-name (F .spelling)) (F .names h) u′ p r′) (λ xs v q r″.
+    spares-then (times (node F most depth) (F .parts h) v q r″) _ (spares-times (node F most depth) (spares-node F most depth) (F .parts h) v q r″) (λ ts w s r‴. tt)))
 
 -- In a proof rules and formula nodes are counted apart.
-low-rules : {A : Type 0} (m : Reader ℕ A) → Lows m → Lows (countingRules m)
-low-rules {A} m h u at r = go (m (u .rules) at r) (h (u .rules) at r)
+spares-rules : {A : Type 0} (m : Reader ℕ A) → Sparing m → Sparing (countingRules m)
+spares-rules {A} m h u at r = go (m (u .rules) at r) (h (u .rules) at r)
   where
-    go : (g : Got ℕ A) → Low g → Low (ruleGot (u .formulas) g)
+    go : (g : Got ℕ A) → Spares g → Spares (ruleGot (u .formulas) g)
     go (got x v p q) k = tt
     go (bad n p) k = k
 
-low-formulas : {A : Type 0} (m : Reader ℕ A) → Lows m → Lows (countingFormulas m)
-low-formulas {A} m h u at r = go (m (u .formulas) at r) (h (u .formulas) at r)
+spares-formulas : {A : Type 0} (m : Reader ℕ A) → Sparing m → Sparing (countingFormulas m)
+spares-formulas {A} m h u at r = go (m (u .formulas) at r) (h (u .formulas) at r)
   where
-    go : (g : Got ℕ A) → Low g → Low (formulaGot (u .rules) g)
+    go : (g : Got ℕ A) → Spares g → Spares (formulaGot (u .rules) g)
     go (got x v p q) k = tt
     go (bad n p) k = k
 
-low-rule : (part : Reader Met Formula) → Lows part → (h : RuleHead) → Lows (ruleOf part h)
-low-rule part l (aPlain k) u at r = tt
-low-rule part l aCut u at r = low-then (part u at r) _ (l u at r) (λ a u′ p r′. tt)
-low-rule part l (aFocus k) u at r = low-then (byte u at r) _ (low-byte u at r) (λ b u′ p r′. low-then (byte u′ p r′) _ (low-byte u′ p r′) (λ c v q r″. tt))
+spares-rule : (part : Reader Met Formula) → Sparing part → (h : RuleHead) → Sparing (ruleOf part h)
+spares-rule part l (aPlain k) u at r = tt
+spares-rule part l aCut u at r = spares-then (part u at r) _ (l u at r) (λ a u′ p r′. tt)
+spares-rule part l (aFocus k) u at r = spares-then (byte u at r) _ (spares-byte u at r) (λ b u′ p r′. spares-then (byte u′ p r′) _ (spares-byte u′ p r′) (λ c v q r″. tt))
 
-low-proof : (L : Limits) (depth : ℕ) → Lows (proofAt L depth)
+spares-proof : (L : Limits) (depth : ℕ) → Sparing (proofAt L depth)
 unfolding proofAt
-low-proof L zero u at r = low-rules tooMany (low-tooMany Proof) u at r
-low-proof L (suc depth) u at r =
+spares-proof L zero u at r = spares-rules tooMany (spares-tooMany Proof) u at r
+spares-proof L (suc depth) u at r =
     let part = countingFormulas (node formulas (L .formulas) (L .formulas)) in
-    let l : Lows part = low-formulas (node formulas (L .formulas) (L .formulas)) (low-node formulas (L .formulas) (L .formulas)) in
-    low-then (countingRules (tag (L .rules) (headAt ruleHeads)) u at r) _ (low-rules (tag (L .rules) (headAt ruleHeads)) (low-tag (L .rules) (headAt ruleHeads)) u at r) (λ h u₁ p₁ r₁.
-    low-then (ruleOf part h u₁ p₁ r₁) _ (low-rule part l h u₁ p₁ r₁) (λ k u₂ p₂ r₂.
-    low-then (byte u₂ p₂ r₂) _ (low-byte u₂ p₂ r₂) (λ n u₃ p₃ r₃.
-    low-then (many part n u₃ p₃ r₃) _ (low-many part l n u₃ p₃ r₃) (λ fs u₄ p₄ r₄.
-    low-then (byteFor (_≤? 3) 4 u₄ p₄ r₄) _ (low-byteFor (_≤? 3) 4 (omega arith) u₄ p₄ r₄) (λ m u₅ p₅ r₅.
-    low-then (many (proofAt L depth) m u₅ p₅ r₅) _ (low-many (proofAt L depth) (low-proof L depth) m u₅ p₅ r₅) (λ ps u₆ p₆ r₆. tt))))))
+    let l : Sparing part = spares-formulas (node formulas (L .formulas) (L .formulas)) (spares-node formulas (L .formulas) (L .formulas)) in
+    spares-then (countingRules (tag (L .rules) (headAt ruleHeads)) u at r) _ (spares-rules (tag (L .rules) (headAt ruleHeads)) (spares-tag (L .rules) (headAt ruleHeads)) u at r) (λ h u₁ p₁ r₁.
+    spares-then (ruleOf part h u₁ p₁ r₁) _ (spares-rule part l h u₁ p₁ r₁) (λ k u₂ p₂ r₂.
+    spares-then (byte u₂ p₂ r₂) _ (spares-byte u₂ p₂ r₂) (λ n u₃ p₃ r₃.
+    spares-then (many part n u₃ p₃ r₃) _ (spares-many part l n u₃ p₃ r₃) (λ fs u₄ p₄ r₄.
+    spares-then (byteFor (_≤? 3) 4 u₄ p₄ r₄) _ (spares-byteFor (_≤? 3) 4 refl u₄ p₄ r₄) (λ m u₅ p₅ r₅.
+    spares-then (many (proofAt L depth) m u₅ p₅ r₅) _ (spares-many (proofAt L depth) (spares-proof L depth) m u₅ p₅ r₅) (λ ps u₆ p₆ r₆. tt))))))
 
 -- ---- whole inputs
 
-abbrev pub LowOutcome : {A : Type 0} → Outcome A → Type 0
-LowOutcome (good x) = Unit {0}
-LowOutcome (refused q) = q .number ≤ 7
+abbrev SparesOutcome : {A : Type 0} → Outcome A → Type 0
+SparesOutcome (good x) = Unit {0}
+SparesOutcome (refused q) = sparesScratch (q .number) ≡ true
 
-low-ended : {S A : Type 0} (i : ℕ) (g : Got S A) → Low g → LowOutcome (ended i g)
-low-ended i (got x u at []) h = tt
-low-ended i (got x u at (b ∷ r)) h = omega arith
-low-ended i (bad n p) h = h
+spares-ended : {S A : Type 0} (i : ℕ) (g : Got S A) → Spares g → SparesOutcome (ended i g)
+spares-ended i (got x u at []) h = tt
+spares-ended i (got x u at (b ∷ r)) h = refl
+spares-ended i (bad n p) h = h
 
-low-outcome : {A : Type 0} (b : Bool) (x y : Outcome A) → LowOutcome x → LowOutcome y → LowOutcome (if b then x else y)
-low-outcome true x y h k = h
-low-outcome false x y h k = k
+spares-outcome : {A : Type 0} (b : Bool) (x y : Outcome A) → SparesOutcome x → SparesOutcome y → SparesOutcome (if b then x else y)
+spares-outcome true x y h k = h
+spares-outcome false x y h k = k
 
-low-whole : {S A : Type 0} (L : Limits) (i : ℕ) (s : Bytes) (m : Reader S A) (u : S) → Lows m → LowOutcome (whole L i s m u)
+spares-whole : {S A : Type 0} (L : Limits) (i : ℕ) (s : Bytes) (m : Reader S A) (u : S) → Sparing m → SparesOutcome (whole L i s m u)
 unfolding whole
-low-whole L i s m u h = low-outcome (L .bytes <? length s) _ _ (omega arith) (low-ended i (m u 0 s) (h u 0 s))
+spares-whole L i s m u h = spares-outcome (L .bytes <? length s) _ _ refl (spares-ended i (m u 0 s) (h u 0 s))
 
 -- Such a refusal leaves the scratch as it was.
-spared : {A : Type 0} (o : Outcome A) (q : Refusal) → LowOutcome o → o ≡ refused q → sparesScratch (q .number) ≡ true
+spared : {A : Type 0} (o : Outcome A) (q : Refusal) → SparesOutcome o → o ≡ refused q → sparesScratch (q .number) ≡ true
 spared (good x) q h e = absurd (let z : _≡_ {A = ℕ} 0 1 = cc in omega arith)
-spared (refused r) q h e = let d : r .number ≡ q .number = cc in rw (le-leb (q .number) 7 (omega arith))
+spared (refused r) q h e = let d : q ≡ r = cc in rw d h
 
 pub term-spares : (L : Limits) (i : ℕ) (s : Bytes) (q : Refusal) → readTerm L i s ≡ refused q → sparesScratch (q .number) ≡ true
 unfolding readTerm
-term-spares L i s q e = spared (readTerm L i s) q (low-whole L i s (node terms (L .nodes) (L .nodes)) 0 (low-node terms (L .nodes) (L .nodes))) e
+term-spares L i s q e = spared (readTerm L i s) q (spares-whole L i s (node terms (L .nodes) (L .nodes)) 0 (spares-node terms (L .nodes) (L .nodes))) e
 
 pub formula-spares : (L : Limits) (i : ℕ) (s : Bytes) (q : Refusal) → readFormula L i s ≡ refused q → sparesScratch (q .number) ≡ true
 unfolding readFormula
-formula-spares L i s q e = spared (readFormula L i s) q (low-whole L i s (node formulas (L .formulas) (L .formulas)) 0 (low-node formulas (L .formulas) (L .formulas))) e
+formula-spares L i s q e = spared (readFormula L i s) q (spares-whole L i s (node formulas (L .formulas) (L .formulas)) 0 (spares-node formulas (L .formulas) (L .formulas))) e
 
 pub proof-spares : (L : Limits) (i : ℕ) (s : Bytes) (q : Refusal) → readProof L i s ≡ refused q → sparesScratch (q .number) ≡ true
 unfolding readProof
-proof-spares L i s q e = spared (readProof L i s) q (low-whole L i s (proofAt L (L .rules)) _ (low-proof L (L .rules))) e
+proof-spares L i s q e = spared (readProof L i s) q (spares-whole L i s (proofAt L (L .rules)) _ (spares-proof L (L .rules))) e
 
 pub name-spares : (i : ℕ) (s : Bytes) (q : Refusal) → readName i s ≡ refused q → sparesScratch (q .number) ≡ true
 unfolding readName
 name-spares i s q e =
     spared (readName i s) q
-    (low-outcome (between 1 nameMost (length s)) _ _ (low-ended i (letters (length s) (tt {0}) 0 s) (low-letters (length s) (tt {0}) 0 s)) (omega arith)) e
+    (spares-outcome (between 1 nameMost (length s)) _ _ (spares-ended i (spelled nameSpelling (length s) (tt {0}) 0 s) (spares-spelled nameSpelling (length s) (tt {0}) 0 s)) refl) e

@@ -60,8 +60,8 @@ module _ {H A : Type 0} (F : Layout H A) (encode : A → Bytes) (nodes : A → �
   node-sound zero u at r = none-read _ u at r
   node-sound (suc depth) u at r =
       and-then (Tagged u at r) _ (tag most (headAt (F .heads)) u at r) _ (tag-sound u at r) (λ h v q r′ i.
-      and-then (Item (bytesOf encodeName (F .names h)) (addAll still (F .names h)) (Each (LegalName (F .longest)) (F .names h)) v q r′) _ (times (name (F .longest)) (F .names h) v q r′) _
-      (times-sound encodeName still (LegalName (F .longest)) (name (F .longest)) (name-sound (F .longest)) (F .names h) v q r′) (λ xs w q′ r″ j.
+      and-then (Item (bytesOf encodeName (F .names h)) (addAll still (F .names h)) (Each (LegalName (F .spelling)) (F .names h)) v q r′) _ (times (name (F .spelling)) (F .names h) v q r′) _
+      (times-sound encodeName still (LegalName (F .spelling)) (name (F .spelling)) (name-sound (F .spelling)) (F .names h) v q r′) (λ xs w q′ r″ j.
       and-then (Item (bytesOf encode (F .parts h)) (addAll (λ u x. u + nodes x) (F .parts h)) (Each Ok (F .parts h)) w q′ r″) _ (times (node F most depth) (F .parts h) w q′ r″) _
       (times-sound encode (λ u x. u + nodes x) Ok (node F most depth) (node-sound depth) (F .parts h) w q′ r″) (λ ts w′ p r‴ l.
       let ns = bytesOf encodeName (F .names h) xs in

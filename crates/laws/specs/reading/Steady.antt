@@ -12,10 +12,10 @@ use lib.ListN.{length, drop, length-drop}
 use lib.Seq.{drop-drop}
 use Rattle.rules.specs.Basic.{Bytes}
 use Rattle.rules.specs.Layout.{Layout, Tuple}
-use Rattle.rules.specs.Name.{Name}
-use Rattle.rules.specs.Reading.{Got, got, bad, Reader, times, many, byte, byteFor, room, letters, name, tag, tooMany, node}
+use Rattle.rules.specs.Name.{Name, Spelling}
+use Rattle.rules.specs.Reading.{Got, got, bad, Reader, times, many, byte, byteFor, room, letters, spelled, name, tag, tooMany, node}
 use Rattle.laws.specs.reading.Holds.{Holds, told, none-read}
-use Rattle.laws.specs.reading.Keeps.{Kept, Keeps, keeps-byte, keeps-byteFor, keeps-room, keeps-times, keeps-many, keeps-letters, keeps-name, keeps-tag, keeps-node}
+use Rattle.laws.specs.reading.Keeps.{Kept, Keeps, keeps-byte, keeps-byteFor, keeps-room, keeps-times, keeps-many, keeps-letters, keeps-spelled, keeps-name, keeps-tag, keeps-node}
 
 -- a place of s, and what is left of s there
 pub record Stands (s : Bytes) (p : ℕ) (r : Bytes) : Type 0 where
@@ -81,8 +81,11 @@ module _ {S : Type 0} where
   pub steady-letters : (n : ℕ) → Steady {S = S} (letters n)
   steady-letters n = to-steady (letters n) (λ s. keeps-letters (Along s) (along s) n)
 
-  pub steady-name : (most : ℕ) → Steady {S = S} (name most)
-  steady-name most = to-steady (name most) (λ s. keeps-name (Along s) (along s) most)
+  pub steady-spelled : (P : Spelling) (n : ℕ) → Steady {S = S} (spelled P n)
+  steady-spelled P n = to-steady (spelled P n) (λ s. keeps-spelled (Along s) (along s) P n)
+
+  pub steady-name : (P : Spelling) → Steady {S = S} (name P)
+  steady-name P = to-steady (name P) (λ s. keeps-name (Along s) (along s) P)
 
 pub steady-tag : {H : Type 0} (most : ℕ) (heads : ℕ → Option H) → Steady (tag most heads)
 steady-tag most heads = to-steady (tag most heads) (λ s. keeps-tag (Along s) (along s) most (λ u at b r l h. stands-next s at b r h) heads)
@@ -117,11 +120,11 @@ up : {most : ℕ} (u at b : ℕ) (r : Bytes) → u < most → Upward u at (b ∷
 up u at b r l = omega arith
 
 module _ {S : Type 0} (u : S) (at : ℕ) (r : Bytes) {v : S} {p : ℕ} {r′ : Bytes} where
-  pub name-level : (most : ℕ) {x : Name} → name most u at r ≡ got x v p r′ → v ≡ u
-  name-level most e = told _ (name most u at r) (keeps-name Level level most u at r) e
+  pub name-level : (P : Spelling) {x : Name} → name P u at r ≡ got x v p r′ → v ≡ u
+  name-level P e = told _ (name P u at r) (keeps-name Level level P u at r) e
 
-  pub names-level : (most n : ℕ) {xs : Tuple Name n} → times (name most) n u at r ≡ got xs v p r′ → v ≡ u
-  names-level most n e = told _ (times (name most) n u at r) (keeps-times Level level (name most) (keeps-name Level level most) n u at r) e
+  pub names-level : (P : Spelling) (n : ℕ) {xs : Tuple Name n} → times (name P) n u at r ≡ got xs v p r′ → v ≡ u
+  names-level P n e = told _ (times (name P) n u at r) (keeps-times Level level (name P) (keeps-name Level level P) n u at r) e
 
 module _ {H A : Type 0} (F : Layout H A) (most depth u at : ℕ) (r : Bytes) {v p : ℕ} {r′ : Bytes} where
   pub node-upward : {x : A} → node F most depth u at r ≡ got x v p r′ → u ≤ v

@@ -33,10 +33,10 @@ pub record Written {H A : Type 0} (F : Layout H A) (encode : A → Bytes) (nodes
       → encode (F .build h xs ts) ≡ tagOf h ∷ (bytesOf encodeName (F .names h) xs ‥ bytesOf encode (F .parts h) ts)
   pub count : (h : H) (xs : Tuple Name (F .names h)) (ts : Tuple A (F .parts h)) → nodes (F .build h xs ts) ≡ 1 + sumOf nodes (F .parts h) ts
   pub legal : (h : H) (xs : Tuple Name (F .names h)) (ts : Tuple A (F .parts h))
-      → Each (LegalName (F .longest)) (F .names h) xs → Each Ok (F .parts h) ts → Ok (F .build h xs ts)
+      → Each (LegalName (F .spelling)) (F .names h) xs → Each Ok (F .parts h) ts → Ok (F .build h xs ts)
   -- induction: what passes from the parts to what is built of them holds of all that is legal
   pub every : (P : A → Type 0)
-      → ((h : H) (xs : Tuple Name (F .names h)) (ts : Tuple A (F .parts h)) → Each (LegalName (F .longest)) (F .names h) xs → Each P (F .parts h) ts → P (F .build h xs ts))
+      → ((h : H) (xs : Tuple Name (F .names h)) (ts : Tuple A (F .parts h)) → Each (LegalName (F .spelling)) (F .names h) xs → Each P (F .parts h) ts → P (F .build h xs ts))
       → (x : A) → Ok x → P x
 
 -- Heads whose tags are their places in the list.

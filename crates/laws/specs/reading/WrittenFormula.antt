@@ -6,7 +6,7 @@ use mathlib.Core.List.{_∷_, append-nil}
 use mathlib.Core.Option.{some}
 use native.Mathlib.Omega.{arith}
 use Rattle.rules.specs.Basic.{_‥_}
-use Rattle.rules.specs.Name.{Name, atomMost, encodeName}
+use Rattle.rules.specs.Name.{Name, atomSpelling, encodeName}
 use Rattle.rules.specs.Legal.{LegalName, LegalFormula}
 use Rattle.rules.specs.Layout.{Tuple, headAt}
 use Rattle.rules.specs.Formula.{Formula, atom, constant, exponential, connective, FormulaHead, anAtom, aConstant, anExponential, aConnective, formulaHeads, formulaNames, formulaParts, buildFormula, formulas}
@@ -51,7 +51,7 @@ count-build (anExponential k) xs fs = omega arith
 count-build (aConnective k) xs fs = omega arith
 
 legal-build : (h : FormulaHead) (xs : Tuple Name (formulaNames h)) (fs : Tuple Formula (formulaParts h))
-    → Each (LegalName atomMost) (formulaNames h) xs → Each LegalFormula (formulaParts h) fs → LegalFormula (buildFormula h xs fs)
+    → Each (LegalName atomSpelling) (formulaNames h) xs → Each LegalFormula (formulaParts h) fs → LegalFormula (buildFormula h xs fs)
 legal-build (anAtom k) xs fs p q = p .0
 legal-build (aConstant k) xs fs p q = tt
 legal-build (anExponential k) xs fs p q = q .0
@@ -59,7 +59,7 @@ legal-build (aConnective k) xs fs p q = (q .0, q .1 .0)
 
 module _ (P : Formula → Type 0)
     (b : (h : FormulaHead) (xs : Tuple Name (formulaNames h)) (fs : Tuple Formula (formulaParts h))
-    → Each (LegalName atomMost) (formulaNames h) xs → Each P (formulaParts h) fs → P (buildFormula h xs fs)) where
+    → Each (LegalName atomSpelling) (formulaNames h) xs → Each P (formulaParts h) fs → P (buildFormula h xs fs)) where
   every : (f : Formula) → LegalFormula f → P f
   every (atom k x) p = b (anAtom k) (x, tt) tt (p, tt) tt
   every (constant k) p = b (aConstant k) tt tt tt tt

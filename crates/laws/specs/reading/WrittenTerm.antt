@@ -7,7 +7,7 @@ use mathlib.Core.Option.{some}
 use native.Mathlib.Omega.{arith}
 use lib.ListN.{length}
 use Rattle.rules.specs.Basic.{Bytes, _‥_}
-use Rattle.rules.specs.Name.{Name, nameMost, encodeName}
+use Rattle.rules.specs.Name.{Name, nameSpelling, encodeName}
 use Rattle.rules.specs.Legal.{LegalName, Legal}
 use Rattle.rules.specs.Layout.{Tuple, headAt}
 use Rattle.rules.specs.Term.{Term, var, leaf, one, two, abs, both, branch, Head, aVar, aLeaf, aOne, aTwo, anAbs, aBoth, aBranch, heads, leafTag, oneTag, twoTag, bothTag, nameCount, partCount, build, terms, encode, nodes}
@@ -74,7 +74,7 @@ count-build (aBoth k) xs ts = omega arith
 count-build aBranch xs ts = omega arith
 
 legal-build : (h : Head) (xs : Tuple Name (nameCount h)) (ts : Tuple Term (partCount h))
-    → Each (LegalName nameMost) (nameCount h) xs → Each Legal (partCount h) ts → Legal (build h xs ts)
+    → Each (LegalName nameSpelling) (nameCount h) xs → Each Legal (partCount h) ts → Legal (build h xs ts)
 legal-build aVar xs ts p q = p .0
 legal-build (aLeaf k) xs ts p q = tt
 legal-build (aOne k) xs ts p q = q .0
@@ -84,7 +84,7 @@ legal-build (aBoth k) xs ts p q = (p .0, p .1 .0, q .0, q .1 .0)
 legal-build aBranch xs ts p q = (p .0, p .1 .0, q .0, q .1 .0, q .1 .1 .0)
 
 module _ (P : Term → Type 0)
-    (b : (h : Head) (xs : Tuple Name (nameCount h)) (ts : Tuple Term (partCount h)) → Each (LegalName nameMost) (nameCount h) xs → Each P (partCount h) ts → P (build h xs ts)) where
+    (b : (h : Head) (xs : Tuple Name (nameCount h)) (ts : Tuple Term (partCount h)) → Each (LegalName nameSpelling) (nameCount h) xs → Each P (partCount h) ts → P (build h xs ts)) where
   every : (t : Term) → Legal t → P t
   every (var x) p = b aVar (x, tt) tt (p, tt) tt
   every (leaf k) p = b (aLeaf k) tt tt tt tt

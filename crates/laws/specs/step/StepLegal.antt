@@ -1,12 +1,21 @@
--- A step of a legal term gives a legal term, and so does the first of its two substitutions: by induction on the term.
+-- A step of a legal term gives a legal term, which is read as what it is if it fits, and so does the first of its two substitutions: by induction on the term.
 -- Assumes nothing.
 use Prim.Native.Nat.{ℕ, _+_}
+use mathlib.Core.Path.{_≡_}
+use mathlib.Core.Bool.{true}
 use mathlib.Core.Option.{Option, none, some}
+use Rattle.rules.specs.Basic.{Bytes}
+use Rattle.rules.specs.Limits.{Limits}
+use Rattle.rules.specs.Refusal.{good}
 use Rattle.rules.specs.Name.{Name}
 use Rattle.rules.specs.Legal.{Legal}
-use Rattle.rules.specs.Term.{Term, var, leaf, one, two, abs, both, branch, One, inl, inr, fst, snd, abort, promote, derelict, pair, app, discard, letPair, copy, size}
+use Rattle.rules.specs.Term.{Term, var, leaf, one, two, abs, both, branch, One, inl, inr, fst, snd, abort, promote, derelict, pair, app, discard, letPair, copy, size, encode, fits}
 use Rattle.rules.specs.Substitution.{subst}
+use Rattle.rules.specs.Reading.{readTerm}
+use Rattle.rules.specs.declared.Rule.{Rule}
 use Rattle.rules.specs.Step.{Contraction, no, by, applied, ofPair, ofOne, ofPromote, ofInjection, contract, Stepped, normal, found, here, orElse, inPart, nameBytes, step}
+use Rattle.laws.specs.reading.Decoding.{term-sound, term-complete}
+use Rattle.laws.specs.reading.Fits.{fits-accepted}
 use Rattle.laws.specs.substitution.SubstLegal.{subst-legal}
 
 abbrev pub LegalHalf : Option Term → Type 0
@@ -132,3 +141,7 @@ step-legal (both copy x y e b) l =
 step-legal (branch x y e a b) l =
     here-legal (contract (branch x y e a b)) _ (contract-legal (branch x y e a b) l)
     (part-legal (1 + nameBytes x + nameBytes y) (λ p. branch x y p a b) (step e) (step-legal e (l .2)) (λ u m. (l .0, l .1, m, l .3, l .4)))
+
+-- WHAT A STEP MAKES WITHIN THE LIMITS IS READ AS WHAT IT IS
+pub step-again : (L : Limits) (s : Bytes) (t : Term) → readTerm L 1 s ≡ good t → (r : Rule) (p : ℕ) (h : Option Term) (u : Term) → step t ≡ found r p h u → fits L u ≡ true → readTerm L 1 (encode u) ≡ good u
+step-again L s t e r p h u f k = term-complete L 1 (encode u) u (fits-accepted L u ((rw f at (step-legal t (term-sound L 1 s t e .legal))) .1) k)

@@ -10,9 +10,9 @@ use lib.ListN.{length, take, replicate}
 use Rattle.rules.specs.Basic.{Bytes, say}
 use Rattle.rules.specs.Limits.{Limits, limits, outputRoom, scratchRoom}
 use Rattle.rules.specs.Refusal.{Outcome, good, refuse, outgrows, mapped}
-use Rattle.rules.specs.Name.{Name, same, leads, follows, nameMost}
+use Rattle.rules.specs.Name.{Name, same, leads, follows, isWord}
 use Rattle.rules.specs.Term.{Term, var, leaf, one, two, abs, unit, trivial, promote, pair, app, encode, nodes, fits}
-use Rattle.rules.specs.Reading.{times, many, byte, byteFor, room, letters, name, tag, tooMany, node, whole, readTerm, readName}
+use Rattle.rules.specs.Reading.{times, many, byte, byteFor, room, letters, spelled, name, tag, tooMany, node, whole, readTerm, readName}
 use Rattle.rules.specs.Free.{occurrences}
 use Rattle.rules.specs.Substitution.{subst}
 use Rattle.rules.specs.Straight.{Each}
@@ -20,7 +20,7 @@ use Rattle.rules.specs.Calls.{substituted, substituteCall}
 use Rattle.laws.specs.Outcome.{good-mapped}
 use Rattle.laws.specs.free.Same.{same-itself}
 use Rattle.laws.specs.size.SubstSize.{occurrences-bytes}
-use Rattle.laws.specs.reading.Names.{name-long}
+use Rattle.laws.specs.reading.Names.{name-some}
 use Rattle.laws.specs.reading.Decoding.{bare-name-sound}
 use Rattle.laws.specs.substitution.NotFree.{NotFree, notFree, given-back}
 use Rattle.laws.specs.substitution.Granted.{granted}
@@ -79,7 +79,7 @@ abbrev pub Found : Type 0
 Found = List Bool × Outcome Bytes × Outcome Bytes
 
 unfoldable pub found : Limits → (f g : Feed) → (template : Bytes) → Found
-unfolding times many byte byteFor room letters name tag tooMany node whole readTerm readName leads follows occurrences subst nodes encode fits substituted substituteCall
+unfolding times many byte byteFor room letters spelled name tag tooMany node whole readTerm readName leads follows isWord occurrences subst nodes encode fits substituted substituteCall
 found L f g t =
     let conditions = not (same (f .name) (g .name)) ∷ notFree L (f .name) (g .value) ∷ notFree L (g .name) (f .value) ∷ [] in
     (conditions, leaves L f g t, leaves L g f t)
@@ -150,7 +150,7 @@ no-variable : (L : Limits) (x v t r : Bytes) → length t < 3 → substituted L 
 no-variable L x v t r h e u a = go (occurrences x u) (occurrences-bytes x u)
   where
     named : 1 ≤ length x
-    named = name-long nameMost x (bare-name-sound 2 x x (granted L t x v r e .names) .1) .0
+    named = name-some x (bare-name-sound 2 x x (granted L t x v r e .names) .1 .lettered)
 
     go : (n : ℕ) → n * (2 + length x) ≤ length (encode u) → n ≡ 0
     go zero k = refl

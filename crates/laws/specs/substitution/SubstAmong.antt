@@ -7,11 +7,11 @@ use native.Mathlib.Nat.{zero-mul, mul-zero}
 use native.Mathlib.Omega.{arith}
 use borrow.Author.Tests.{lt-ltb, ltb-true}
 use Rattle.rules.specs.Basic.{if_then_else_, _<?_}
-use Rattle.rules.specs.Name.{Name, same}
+use Rattle.rules.specs.Name.{Name, same, among}
 use Rattle.rules.specs.Term.{Term}
 use Rattle.rules.specs.Free.{free, occurrences}
 use Rattle.rules.specs.Substitution.{subst}
-use Rattle.laws.specs.free.Occurrences.{among, among-free, some-of, some-left}
+use Rattle.laws.specs.free.Occurrences.{among-free, some-of, some-left}
 use Rattle.laws.specs.substitution.SubstFree.{reach, subst-occurrences}
 use Rattle.laws.specs.substitution.SubstReach.{binds, reach-most, reach-all}
 

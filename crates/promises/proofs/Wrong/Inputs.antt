@@ -1,4 +1,4 @@
--- Inputs for the tables: of each call one that is accepted and gives it something to do, and one that is refused. What is lent is full of sevens.
+-- Inputs for the tables: of each call one that is accepted and gives it something to do, one that is refused, and one with a word. What is lent is full of sevens.
 -- Assumes nothing: these are definitions.
 use mathlib.Core.List.{List, []}
 use lib.ListN.{replicate}
@@ -86,3 +86,34 @@ faulty reduce = (hex "02 02", 9, output, scratch)
 faulty extract = (5, hex "03 00 00 00", output, scratch)
 faulty extractor = (5, hex "03 00 00 00", output, scratch, entries)
 faulty printed = ([], output, scratch, printedOutput)
+
+-- the variable `in`, the atom `in`, and an Axiom of that; their stored form
+abbrev pub aWord : Bytes
+aWord = hex "01 02 696e"
+
+abbrev pub wordyProof : Bytes
+wordyProof = hex "01 01 01 02 696e 00"
+
+abbrev pub wordyFile : Bytes
+wordyFile = hex "01 00 0400" ‥ aWord ‥ repeat 502 (hex "00") ‥ hex "6d06"
+
+abbrev pub wordy : (c : Call) → Input c
+wordy checkTerm = aWord
+wordy checkFormula = aWord
+wordy checkProof = wordyProof
+wordy isNormal = aWord
+wordy isStraight = aWord
+wordy locate = (aWord, 0)
+wordy child = (hex "0e" ‥ aWord, 0)
+wordy childFault = (hex "0e" ‥ aWord, 0)
+wordy termText = (aWord, textOutput)
+wordy formulaText = (aWord, formulaTextOutput)
+wordy freeNames = (aWord, output)
+wordy store = (aTerm, aWord, storedOutput)
+wordy load = (aTerm, wordyFile, output)
+wordy substitute = (aWord, say "x", hex "02", output, scratch)
+wordy step = (aWord, output, scratch)
+wordy reduce = (aWord, 9, output, scratch)
+wordy extract = (5, wordyProof, output, scratch)
+wordy extractor = (5, wordyProof, output, scratch, entries)
+wordy printed = (wordyFile, output, scratch, printedOutput)

@@ -29,7 +29,7 @@ use Rattle.promises.specs.Wrong.{nothing}
 use Rattle.promises.specs.Wrong.Step.{contractBy, stepBy, insteadFound, stepped}
 use Rattle.promises.specs.Wrong.Reduction.{reduceFromBy, told, reduced, reduceEndingBy}
 use Rattle.promises.specs.Wrong.Extraction.{byRuleBy, extractBy, extractsBy, extracted}
-use Rattle.promises.specs.Wrong.Version.{version, reduceCallBy, extractCallBy, patchrunBy}
+use Rattle.promises.specs.Wrong.Version.{version, answeredBy, reduceCallBy, extractCallBy, patchrunBy}
 use Rattle.promises.specs.PublicCalls.{Call, Meets, definition, ownRow, withoutRow, checkTerm, checkFormula, checkProof, isNormal, isStraight, locate, child, childFault, termText, formulaText, freeNames, store, load, substitute, step, reduce, extract, extractor, printed}
 
 contracts : (t : Term) → contractBy nothing t ≡ contract t
@@ -153,7 +153,7 @@ unfolding reduceCall
 reduce-so t n o s = λ i. reduceWith o s (lent (workRoom limits o s) (readEnding (readTerm limits 1 t) (λ u. ending-so n u i)))
 
 printed-so : (f t s o : Bytes) → version nothing printed (f, t, s, o) ≡ definition printed (f, t, s, o)
-unfolding version definition termAfter scratchAfter
+unfolding version answeredBy definition termAfter scratchAfter
 printed-so f t s o =
     λ i.
     record {
@@ -164,7 +164,7 @@ printed-so f t s o =
     }
 
 pub nothing-wrong : (c : Call) → Meets c (version nothing c)
-unfolding version definition isNormalCall textCall formulaTextCall freeVarsCall storeCall loadCall substituteCall substituted stepCall
+unfolding version answeredBy definition isNormalCall textCall formulaTextCall freeVarsCall storeCall loadCall substituteCall substituted stepCall
 nothing-wrong checkTerm = λ t. refl
 nothing-wrong checkFormula = λ f. refl
 nothing-wrong checkProof = λ p. refl

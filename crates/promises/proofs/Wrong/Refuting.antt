@@ -7,11 +7,11 @@ use lib.Dec.{eqb}
 use borrow.Author.Tests.{eq-eqb}
 use native.Mathlib.Omega.{arith}
 use Rattle.rules.specs.Basic.{digits, _‥_}
-use Rattle.rules.specs.Name.{leads, follows, before}
+use Rattle.rules.specs.Name.{leads, follows, isWord, before}
 use Rattle.rules.specs.Formula.{formulaNodes}
 use Rattle.rules.specs.Term.{nodes, encode, fits}
 use Rattle.rules.specs.Proof.{rules}
-use Rattle.rules.specs.Reading.{times, many, byte, byteFor, room, letters, name, tag, tooMany, node, proofAt, whole, readTerm, readFormula, readProof, readName}
+use Rattle.rules.specs.Reading.{times, many, byte, byteFor, room, letters, spelled, name, tag, tooMany, node, proofAt, whole, readTerm, readFormula, readProof, readName}
 use Rattle.rules.specs.Text.{text, formulaText as textOf}
 use Rattle.rules.specs.Free.{insert, union, without, free}
 use Rattle.rules.specs.Substitution.{subst}
@@ -31,7 +31,7 @@ use Rattle.promises.specs.Wrong.Put.{firstFree, putIn}
 use Rattle.promises.specs.Wrong.Step.{contractBy, stepBy, stepped}
 use Rattle.promises.specs.Wrong.Reduction.{reduceFromBy, reduced}
 use Rattle.promises.specs.Wrong.Extraction.{extractBy, extracted}
-use Rattle.promises.specs.Wrong.Version.{version}
+use Rattle.promises.specs.Wrong.Version.{version, answeredBy}
 
 infix 50 _∶_on_
 -- A row: a call, what is wrong with a version of it, and the input that refutes it.
@@ -71,7 +71,7 @@ alike (a ∷ x) [] = false
 alike (a ∷ x) (b ∷ y) = elim (eqb a b) [ true ↦ alike x y | false ↦ false ]
 
 unfoldable pub differs : Row → Bool
-unfolding definition version times many byte byteFor room letters name tag tooMany node proofAt whole readTerm readFormula readProof readName leads follows before insert union without free subst Step.step Step.contract text textOf nodes formulaNodes rules encode fits reduceFrom Extraction.extractFrom Extraction.extract Extraction.oldest Extraction.axiomName digits weighed blocks stored openBlock openBlocks opened checkTermCall checkFormulaCall checkProofCall freeVarsCall textCall formulaTextCall substituted substituteCall stepCall reduceCall isNormalCall locateCall childCall childFaultCall storeCall loadCall extractCall isStraightCall straight once plain binders variables count Program.patchrun termAfter scratchAfter Program.countsLine Program.refusalLine firstFree putIn contractBy stepBy stepped reduceFromBy reduced extractBy extracted
+unfolding definition version answeredBy times many byte byteFor room letters spelled name tag tooMany node proofAt whole readTerm readFormula readProof readName leads follows isWord before insert union without free subst Step.step Step.contract text textOf nodes formulaNodes rules encode fits reduceFrom Extraction.extractFrom Extraction.extract Extraction.oldest Extraction.axiomName digits weighed blocks stored openBlock openBlocks opened checkTermCall checkFormulaCall checkProofCall freeVarsCall textCall formulaTextCall substituted substituteCall stepCall reduceCall isNormalCall locateCall childCall childFaultCall storeCall loadCall extractCall isStraightCall straight once plain binders variables count Program.patchrun termAfter scratchAfter Program.countsLine Program.refusalLine firstFree putIn contractBy stepBy stepped reduceFromBy reduced extractBy extracted
 differs (c ∶ w on x) = not (alike (shown c (version w c x)) (shown c (definition c x)))
 
 alike-self : (s : List ℕ) → alike s s ≡ true

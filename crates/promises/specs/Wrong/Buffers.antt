@@ -5,7 +5,7 @@ use mathlib.Core.Bool.{Bool, true, false, not, _&&_, _||_}
 use mathlib.Core.List.{List}
 use mathlib.Core.Option.{Option, none, some}
 use lib.ListN.{length, replicate, take, drop}
-use Rattle.rules.specs.Basic.{Bytes, if_then_else_, between, _‥_}
+use Rattle.rules.specs.Basic.{Bytes, if_then_else_, between, _==_, _‥_}
 use Rattle.rules.specs.Refusal.{Outcome, good, refused, refuse, mapped}
 use Rattle.rules.specs.Term.{Term}
 use Rattle.rules.specs.Buffers.{Ending, writesNothing, lent, filled, written, cleared, Wrote, Worked}
@@ -40,10 +40,10 @@ filledBy w b e =
     if w is writes-on-refusal && wasRefused (e .says) then replicate (length b) 0
     else (if w is leaves-byte-behind then filledBut b (e .writes) else filled b (e .writes))
 
--- no refusal 2 to 7
+-- no refusal 2 to 7 or 15
 abbrev pub wasRead : {A : Type 0} → Outcome A → Bool
 wasRead (good a) = true
-wasRead (refused r) = not (between 2 7 (r .number))
+wasRead (refused r) = not (between 2 7 (r .number) || (r .number == 15))
 
 abbrev pub clearedBy : {A B : Type 0} → (leaves clears : Bool) → (zero : B) → List B → Outcome A → List B
 clearedBy leaves clears z b o =

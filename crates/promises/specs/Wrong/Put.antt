@@ -5,7 +5,7 @@ use mathlib.Core.Bool.{Bool, true, false, _&&_, _||_}
 use mathlib.Core.List.{List, [], _∷_}
 use lib.ListN.{length}
 use Rattle.rules.specs.Basic.{if_then_else_, say, decimal, _‥_}
-use Rattle.rules.specs.Name.{Name, same}
+use Rattle.rules.specs.Name.{Name, same, among}
 use Rattle.rules.specs.Term.{Term, var, leaf, one, two, abs, both, branch}
 use Rattle.rules.specs.Free.{without, free}
 
@@ -22,21 +22,17 @@ abbrev pub freeAfter : Values → List Name → List Name
 freeAfter vs [] = []
 freeAfter vs (x ∷ xs) = free (valueOf vs x) ‥ freeAfter vs xs
 
-abbrev pub isIn : Name → List Name → Bool
-isIn x [] = false
-isIn x (y ∷ ys) = same x y || isIn x ys
-
 -- the first of x0, x1, .. that is not taken: there are more of them than names that are
 abbrev pub candidate : ℕ → Name
 candidate k = say "x" ‥ decimal k
 
 unfoldable pub firstFree : (tries first : ℕ) → (taken : List Name) → Name
 firstFree zero k taken = candidate k
-firstFree (suc n) k taken = elim (isIn (candidate k) taken) [ true ↦ firstFree n (suc k) taken | false ↦ candidate k ]
+firstFree (suc n) k taken = elim (among (candidate k) taken) [ true ↦ firstFree n (suc k) taken | false ↦ candidate k ]
 
 -- a binder's name: its own, or a new one if it would catch a name
 abbrev pub binder : (renames : Bool) → (caught others : List Name) → Name → Name
-binder renames caught others y = if renames && isIn y caught then firstFree (length (others ‥ caught)) 0 (others ‥ caught) else y
+binder renames caught others y = if renames && among y caught then firstFree (length (others ‥ caught)) 0 (others ‥ caught) else y
 
 unfoldable pub putIn : (renames : Bool) → Values → Term → Term
 putIn r vs (var y) = valueOf vs y

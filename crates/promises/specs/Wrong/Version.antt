@@ -25,6 +25,7 @@ use Rattle.promises.specs.Wrong.{Wrong, _is_, copies-input}
 use Rattle.promises.specs.Wrong.Step.{put, instead, stepped}
 use Rattle.promises.specs.Wrong.Reduction.{reduced, reduceEndingBy}
 use Rattle.promises.specs.Wrong.Extraction.{extracted}
+use Rattle.promises.specs.Wrong.Words.{readBy}
 use Rattle.promises.specs.Wrong.Buffers.{says, lentBy, copied, agreed, filledBy, wroteBy, workedBy, reducedBy, extractedBy}
 
 abbrev pub substitutedBy : Wrong → (term name value : Bytes) → Outcome Bytes
@@ -69,23 +70,26 @@ printedBy w f t s o =
       scratch = elim (opened limits aTerm f) [ good c ↦ reduceCallBy w c programSteps t s .scratch | refused r ↦ s ];
     }
 
+unfoldable pub answeredBy : Wrong → (c : Call) → Version c
+answeredBy w checkTerm = λ t. says w (checkTermCall limits t)
+answeredBy w checkFormula = λ f. says w (checkFormulaCall limits f)
+answeredBy w checkProof = λ p. says w (checkProofCall limits p)
+answeredBy w isNormal = λ t. says w (agreed w (mapped (λ u. Step.isNormal (stepped w u)) (readTerm limits 1 t)))
+answeredBy w isStraight = λ t. says w (agreed w (isStraightCall limits t))
+answeredBy w locate = λ (t, k). says w (locateCall limits t k)
+answeredBy w child = λ (t, k). partOr w (if w is copies-input then t else childCall limits t k)
+answeredBy w childFault = λ (t, k). faultOr w (childFaultCall limits t k)
+answeredBy w termText = λ (t, o). wroteBy w o (lentBy w (roomFor (textRoom limits) o) (bytesOr (copied w t (mapped Text.text (readTerm limits 1 t)))))
+answeredBy w formulaText = λ (f, o). wroteBy w o (lentBy w (roomFor (formulaTextRoom limits) o) (bytesOr (copied w f (mapped Text.formulaText (readFormula limits 1 f)))))
+answeredBy w freeNames = λ (t, o). wroteBy w o (lentBy w (roomFor (outputRoom limits) o) (bytesOr (copied w t (mapped (λ u. encodeNames (free u)) (readTerm limits 1 t)))))
+answeredBy w store = λ (k, s, o). wroteBy w o (lentBy w (roomFor (storedRoom limits) o) (bytesOr (copied w s (mapped (λ _. stored k s) (readKind limits k 1 s)))))
+answeredBy w load = λ (k, f, o). wroteBy w o (lentBy w (roomFor (outputRoom limits) o) (bytesOr (copied w f (opened limits k f))))
+answeredBy w substitute = λ (t, x, v, o, s). workedBy w o s (lentBy w (workRoom limits o s) (bytesOr (substitutedBy w t x v)))
+answeredBy w step = λ (t, o, s). workedBy w o s (lentBy w (workRoom limits o s) (readEnding (readTerm limits 1 t) (λ u. stepEnding limits (stepped w u))))
+answeredBy w reduce = λ (t, n, o, s). reduceCallBy w t n o s
+answeredBy w extract = λ (n, p, o, s). withoutRow (extractCallBy w n p o s ownRow)
+answeredBy w extractor = λ (n, p, o, s, es). extractCallBy w n p o s es
+answeredBy w printed = λ (f, t, s, o). printedBy w f t s o
+
 unfoldable pub version : Wrong → (c : Call) → Version c
-version w checkTerm = λ t. says w (checkTermCall limits t)
-version w checkFormula = λ f. says w (checkFormulaCall limits f)
-version w checkProof = λ p. says w (checkProofCall limits p)
-version w isNormal = λ t. says w (agreed w (mapped (λ u. Step.isNormal (stepped w u)) (readTerm limits 1 t)))
-version w isStraight = λ t. says w (agreed w (isStraightCall limits t))
-version w locate = λ (t, k). says w (locateCall limits t k)
-version w child = λ (t, k). partOr w (if w is copies-input then t else childCall limits t k)
-version w childFault = λ (t, k). faultOr w (childFaultCall limits t k)
-version w termText = λ (t, o). wroteBy w o (lentBy w (roomFor (textRoom limits) o) (bytesOr (copied w t (mapped Text.text (readTerm limits 1 t)))))
-version w formulaText = λ (f, o). wroteBy w o (lentBy w (roomFor (formulaTextRoom limits) o) (bytesOr (copied w f (mapped Text.formulaText (readFormula limits 1 f)))))
-version w freeNames = λ (t, o). wroteBy w o (lentBy w (roomFor (outputRoom limits) o) (bytesOr (copied w t (mapped (λ u. encodeNames (free u)) (readTerm limits 1 t)))))
-version w store = λ (k, s, o). wroteBy w o (lentBy w (roomFor (storedRoom limits) o) (bytesOr (copied w s (mapped (λ _. stored k s) (readKind limits k 1 s)))))
-version w load = λ (k, f, o). wroteBy w o (lentBy w (roomFor (outputRoom limits) o) (bytesOr (copied w f (opened limits k f))))
-version w substitute = λ (t, x, v, o, s). workedBy w o s (lentBy w (workRoom limits o s) (bytesOr (substitutedBy w t x v)))
-version w step = λ (t, o, s). workedBy w o s (lentBy w (workRoom limits o s) (readEnding (readTerm limits 1 t) (λ u. stepEnding limits (stepped w u))))
-version w reduce = λ (t, n, o, s). reduceCallBy w t n o s
-version w extract = λ (n, p, o, s). withoutRow (extractCallBy w n p o s ownRow)
-version w extractor = λ (n, p, o, s, es). extractCallBy w n p o s es
-version w printed = λ (f, t, s, o). printedBy w f t s o
+version w c x = answeredBy w c (readBy w c x)

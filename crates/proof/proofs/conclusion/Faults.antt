@@ -8,12 +8,12 @@ use mathlib.Core.List.{[], _∷_}
 use mathlib.Core.Option.{Option, none, some}
 use lib.ListN.{length, length-drop}
 use Rattle.rules.specs.Basic.{Bytes, if_then_else_, _<?_, _≤?_, between}
-use Rattle.rules.specs.Name.{leads, follows}
+use Rattle.rules.specs.Name.{leads, follows, Spelling}
 use Rattle.rules.specs.Limits.{Limits}
 use Rattle.rules.specs.Layout.{Layout, headAt}
 use Rattle.rules.specs.Formula.{formulas}
 use Rattle.rules.specs.Proof.{RuleHead, aPlain, aCut, aFocus, ruleHeads}
-use Rattle.rules.specs.Reading.{Got, got, bad, Reader, andThen, times, many, byte, byteFor, room, letters, name, listed, tag, tooMany, node, ruleGot, formulaGot, ruleOf}
+use Rattle.rules.specs.Reading.{Got, got, bad, Reader, andThen, only, times, many, byte, byteFor, room, letters, spelled, name, listed, tag, tooMany, node, ruleGot, formulaGot, ruleOf}
 use Rattle.laws.specs.reading.Steady.{Stands, stands, stands-next}
 use Rattle.proof.specs.Seen.{Reached, NoCount, found, countSeen}
 use Rattle.proof.specs.Stages.{formulaOf, rowOf, tagOf, ownOf, linearOf, countOf, topOf}
@@ -44,10 +44,16 @@ module _ {S : Type 0} where
   in-byte s u at [] h = h .within
   in-byte s u at (b ∷ r) h = stands-next s at b r h
 
+  in-only : {A : Type 0} (ok : A → Bool) (n : ℕ) (m : Reader S A) → Inside m → Inside (only ok n m)
+  in-only {A} ok n m k s u at r h = go (m u at r) (k s u at r h)
+    where
+      go : (g : Got S A) → Lies s g → Lies s (andThen g (λ x v p r′. if ok x then got x v p r′ else bad n at))
+      go (got x v p r′) i = chosen s (ok x) (got x v p r′) (bad n at) i (h .within)
+      go (bad k p) i = i
+
   in-byteFor : (ok : ℕ → Bool) (n : ℕ) → Inside {S = S} (byteFor ok n)
-  unfolding byteFor byte
-  in-byteFor ok n s u at [] h = h .within
-  in-byteFor ok n s u at (b ∷ r) h = chosen s (ok b) (got b u (at + 1) r) (bad n at) (stands-next s at b r h) (h .within)
+  unfolding byteFor
+  in-byteFor ok n = in-only ok n byte in-byte
 
   in-room : (n : ℕ) → Inside {S = S} (room n)
   unfolding room
@@ -70,9 +76,11 @@ module _ {S : Type 0} where
       in-then (byteFor leads 5) _ (in-byteFor leads 5) (λ b.
       in-then (many (byteFor follows 5) (n - 1)) _ (in-many (byteFor follows 5) (in-byteFor follows 5) (n - 1)) (λ bs s u at r h. h))
 
-  in-name : (most : ℕ) → Inside {S = S} (name most)
-  unfolding name
-  in-name most = in-then (byteFor (between 1 most) 5) _ (in-byteFor (between 1 most) 5) (λ n. in-then (room n) _ (in-room n) (λ _. in-letters n))
+  in-name : (P : Spelling) → Inside {S = S} (name P)
+  unfolding name spelled
+  in-name P =
+      in-then (byteFor (between 1 (P .longest)) 5) _ (in-byteFor (between 1 (P .longest)) 5) (λ n.
+      in-then (room n) _ (in-room n) (λ _. in-only (P .allowed) 15 (letters n) (in-letters n)))
 
 in-tag : {H : Type 0} (most : ℕ) (heads : ℕ → Option H) → Inside (tag most heads)
 unfolding tag byte
@@ -94,7 +102,7 @@ unfolding node
 in-node {A = A} F most zero = in-tooMany A
 in-node F most (suc depth) =
     in-then (tag most (headAt (F .heads))) _ (in-tag most (headAt (F .heads))) (λ h.
-    in-then (times (name (F .longest)) (F .names h)) _ (in-times (name (F .longest)) (in-name (F .longest)) (F .names h)) (λ xs.
+    in-then (times (name (F .spelling)) (F .names h)) _ (in-times (name (F .spelling)) (in-name (F .spelling)) (F .names h)) (λ xs.
     in-then (times (node F most depth) (F .parts h)) _ (in-times (node F most depth) (in-node F most depth) (F .parts h)) (λ ts s u at r h. h)))
 
 module _ (L : Limits) where

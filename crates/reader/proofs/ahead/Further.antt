@@ -112,7 +112,7 @@ module _ (f : Form) (s : Bytes) (at n p met known names : ℕ) (w : Gone (layout
   tag-low : follows (getD s p 0) ≡ false
   tag-low = low (getD s p 0) (omega (arith, tag-small))
 
-  module _ (longest : ℕ) (long : longest ≡ layoutOf f .longest) (k : ℕ) (ek : k ≡ code / 2 % 4) (parts : ℕ) (ep : parts ≡ code / 8) (q : ℕ) (t : NamesTo s longest (p + 1) k q) where
+  module _ (k : ℕ) (ek : k ≡ code / 2 % 4) (parts : ℕ) (ep : parts ≡ code / 8) (q : ℕ) (t : NamesTo s (layoutOf f .spelling) (p + 1) k q) where
     counted : lettersFrom s at (q - at) ≡ lettersFrom s at (p - at) + lettersFrom s (p + 1) (q - (p + 1))
     counted =
         let d : q - at ≡ p - at + suc (q - (p + 1)) = omega (arith, t .past, w .past) in
@@ -139,17 +139,17 @@ module _ (f : Form) (s : Bytes) (at n p met known names : ℕ) (w : Gone (layout
               let z = all-up (lettersFrom s at (q - at)) q at (met + 1 + (names + k)) g e in
               let x : lettersFrom s at (p - at) ≡ p - at - (met + names) = all-down _ p at (met + names) (omega (arith, c, a, b, z)) in
               let y : lettersFrom s (p + 1) (q - (p + 1)) ≡ q - (p + 1) - k = all-down _ q (p + 1) k (omega (arith, c, a, b, z)) in
-              let says : (v : ℕ) → skipped v (To q) ≡ view (times (name longest) (code / 2 % 4) v (p + 1) (drop (p + 1) s)) =
-              λ v. sym (t .reads v i y) ∙ ap (λ (m : ℕ). view (times (name longest) m v (p + 1) (drop (p + 1) s))) ek in
+              let says : (v : ℕ) → skipped v (To q) ≡ view (times (name (layoutOf f .spelling)) (code / 2 % 4) v (p + 1) (drop (p + 1) s)) =
+              λ v. sym (t .reads v i y) ∙ ap (λ (m : ℕ). view (times (name (layoutOf f .spelling)) m v (p + 1) (drop (p + 1) s))) ek in
               w .reads most used (λ z. fewer used met most (h (omega arith))) (omega (arith, inside)) x
               ∙ sym (rest-is (layoutOf f) most s (known - met) (used + met) p)
-              ∙ turn-on f most s (known - met) (used + met) p (waiting known met waits) inside (room-left used met most (h (omega arith))) code is ne longest long (To q) says q refl
+              ∙ turn-on f most s (known - met) (used + met) p (waiting known met waits) inside (room-left used met most (h (omega arith))) code is ne (To q) says q refl
               ∙ ap (λ (m : ℕ). Rest (layoutOf f) most s (known - met - 1 + m) (used + met + 1) q) (sym ep)
               ∙ rest-same (layoutOf f) most s (left-over known met parts waits) (one-later used met) q
               ∙ rest-is (layoutOf f) most s (known + parts - (met + 1)) (used + (met + 1)) q;
         }
 
 -- names are short
-pub short : (f : Form) (longest : ℕ) → longest ≡ layoutOf f .longest → longest ≤ nameMost
-short Term longest e = omega arith
-short Formula longest e = omega arith
+pub short : (f : Form) → layoutOf f .spelling .longest ≤ nameMost
+short Term = omega arith
+short Formula = omega arith

@@ -22,8 +22,8 @@ Passes f s at p = (most used : ℕ) → (at < p → used + (p - at) ≤ most) �
 module _ (f : Form) (s : Bytes) where
   one-step : (most u p : ℕ) → p < length s → u < most → codeAt (layoutOf f) (headAt (layoutOf f .heads) (getD s p 0)) ≡ 9 → Rest (layoutOf f) most s 1 u p ≡ Rest (layoutOf f) most s 1 (u + 1) (p + 1)
   one-step most u p i r e =
-      turn-on f most s 1 u p (omega arith) i r 9 (sym e) (λ q. omega arith) (layoutOf f .longest) refl (To (p + 1))
-      (λ v. sym (times-none (name (layoutOf f .longest)) 0 v (p + 1) (drop (p + 1) s) refl)) (p + 1) refl
+      turn-on f most s 1 u p (omega arith) i r 9 (sym e) (λ q. omega arith) (To (p + 1))
+      (λ v. sym (times-none (name (layoutOf f .spelling)) 0 v (p + 1) (drop (p + 1) s) refl)) (p + 1) refl
 
   pub passes-none : (at : ℕ) → Passes f s at at
   passes-none at most used h =

@@ -26,8 +26,8 @@ returns-2 c = let a = c .before .before .before .before .before .args in c .refu
 letter-table-requires : tie.Need-letter-table-requires
 letter-table-requires c κs = search needs
 
-skip-letters-requires : tie.Need-skip-letters-requires
-skip-letters-requires c κs = (rw (c .before .letter-table .ensures) letter-classes, omega arith)
+skip-spelled-requires : tie.Need-skip-spelled-requires
+skip-spelled-requires c κs = (rw (c .before .letter-table .ensures) letter-classes, omega (arith, c .before .before .before .longest-name .ensures))
 
 enum-known-next : tie.Need-enum-known-next
 enum-known-next c = search needs
@@ -41,13 +41,13 @@ refused-requires-3 c κs = search needs
 returns-3 : tie.Need-returns-3
 returns-3 c =
     let a = c .before .before .before .before .before .before .before .before .before .before .args in
-    sym (bare-good (a .input) (a .s .now) (omega arith) (omega (arith, c .before .before .before .before .before .before .before .longest-name .ensures)) (sym (c .before .before .before .skip-letters .ensures 0) ∙ ap (skipped 0) (c .before .next .given .1)))
+    sym (bare-good (a .input) (a .s .now) (omega arith) (omega (arith, c .before .before .before .before .before .before .before .longest-name .ensures)) (sym (c .before .before .before .skip-spelled .ensures 0) ∙ ap (skipped 0) (c .before .next .given .1)))
 
 returns-4 : tie.Need-returns-4
 returns-4 c =
     let a = c .before .before .before .before .before .before .before .before .before .before .before .args in
     c .refused3 .ensures
-    ∙ sym (bare-bad (a .input) (a .s .now) (omega arith) (omega (arith, c .before .before .before .before .before .before .before .before .longest-name .ensures)) (sym (c .before .before .before .before .skip-letters .ensures 0) ∙ ap (skipped 0) (c .before .before .number .given .1)))
+    ∙ sym (bare-bad (a .input) (a .s .now) (omega arith) (omega (arith, c .before .before .before .before .before .before .before .before .longest-name .ensures)) (sym (c .before .before .before .before .skip-spelled .ensures 0) ∙ ap (skipped 0) (c .before .before .number .given .1)))
 
 pub name-input-spec : {M : Type 1} → statement M
 name-input-spec =
@@ -59,7 +59,7 @@ name-input-spec =
     refused-requires-2
     returns-2
     letter-table-requires
-    skip-letters-requires
+    skip-spelled-requires
     enum-known-next
     enum-known-number
     refused-requires-3

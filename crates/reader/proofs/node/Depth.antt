@@ -54,6 +54,6 @@ module _ {H A : Type 0} (F : Layout H A) (most : ℕ) where
   same (suc f) zero u at r a b = full f u at r (omega arith)
   same (suc f) (suc g) u at r a b =
       then-same (tag most (headAt (F .heads)) u at r) _ _ (λ h v p q e.
-      then-same (times (name (F .longest)) (F .names h) v p q) _ _ (λ xs w p′ q′ e′.
-      let z : w ≡ u + 1 = names-level v p q (F .longest) (F .names h) e′ ∙ tag-counts most (headAt (F .heads)) u at r e in
+      then-same (times (name (F .spelling)) (F .names h) v p q) _ _ (λ xs w p′ q′ e′.
+      let z : w ≡ u + 1 = names-level v p q (F .spelling) (F .names h) e′ ∙ tag-counts most (headAt (F .heads)) u at r e in
       ap (λ t. andThen t (λ ts. pure (F .build h xs ts))) (parts-same f g (same f g) (F .parts h) w p′ q′ (omega arith) (omega arith))))

@@ -38,13 +38,13 @@ module _ {H A : Type 0} (F : Layout H A) (most : ℕ) (s : Bytes) (u at : ℕ) (
     unfolding tag byte
     head-known = rw (rest-in s at inside) (simp (lt-ltb u most room, known))
 
-    pub node-off : (n p : ℕ) → times (name (F .longest)) (F .names h) (u + 1) (at + 1) (drop (at + 1) s) ≡ bad n p
+    pub node-off : (n p : ℕ) → times (name (F .spelling)) (F .names h) (u + 1) (at + 1) (drop (at + 1) s) ≡ bad n p
         → node F most most u at (drop at s) ≡ bad n p
     unfolding node
     node-off n p e = deeper ∙ rw (head-known, e)
 
     -- its names are there: what follows is its parts
-    pub node-on : (xs : Tuple Name (F .names h)) (v p : ℕ) (q : Bytes) → times (name (F .longest)) (F .names h) (u + 1) (at + 1) (drop (at + 1) s) ≡ got xs v p q
+    pub node-on : (xs : Tuple Name (F .names h)) (v p : ℕ) (q : Bytes) → times (name (F .spelling)) (F .names h) (u + 1) (at + 1) (drop (at + 1) s) ≡ got xs v p q
         → node F most most u at (drop at s) ≡ andThen (times (node F most most) (F .parts h) v p q) (λ ts. pure (F .build h xs ts))
     unfolding node
     node-on xs v p q e = deeper ∙ rw (head-known, e)

@@ -74,7 +74,7 @@ module _ {H A : Type 0} (F : Layout H A) (most : ℕ) (s : Bytes) where
 
   -- the first of c nodes has its tag and names: its parts are to be read, and then the others
   pub rest-step : (c u at : ℕ) → 0 < c → at < length s → u < most → (h : H) → headAt (F .heads) (getD s at 0) ≡ some h
-      → (xs : Tuple Name (F .names h)) (p : ℕ) → times (name (F .longest)) (F .names h) (u + 1) (at + 1) (drop (at + 1) s) ≡ got xs (u + 1) p (drop p s)
+      → (xs : Tuple Name (F .names h)) (p : ℕ) → times (name (F .spelling)) (F .names h) (u + 1) (at + 1) (drop (at + 1) s) ≡ got xs (u + 1) p (drop p s)
       → Rest c u at ≡ Rest (c - 1 + F .parts h) (u + 1) p
   unfolding Rest
   rest-step c u at l i j h e xs p q =

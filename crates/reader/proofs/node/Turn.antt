@@ -40,15 +40,13 @@ module _ (f : Form) (most : ℕ) (s : Bytes) (c u at : ℕ) (waits : 0 < c) wher
     few-parts ne = known ne .few
 
     -- a tag that is listed, and what was said of its names
-    module _ (ne : code ≡ 0 → ⊥) (longest : ℕ) (long : longest ≡ layoutOf f .longest) (r : Skip)
-        (says : (v : ℕ) → skipped v r ≡ view (times (name longest) (code / 2 % 4) v (at + 1) (drop (at + 1) s))) where
+    module _ (ne : code ≡ 0 → ⊥) (r : Skip) (says : (v : ℕ) → skipped v r ≡ view (times (name (layoutOf f .spelling)) (code / 2 % 4) v (at + 1) (drop (at + 1) s))) where
       k : Coded f (headAt (layoutOf f .heads) (getD s at 0)) code
       k = known ne
 
-      names-said : (r′ : Skip) → r ≡ r′ → view (times (name (layoutOf f .longest)) (layoutOf f .names (k .head)) (u + 1) (at + 1) (drop (at + 1) s)) ≡ skipped (u + 1) r′
+      names-said : (r′ : Skip) → r ≡ r′ → view (times (name (layoutOf f .spelling)) (layoutOf f .names (k .head)) (u + 1) (at + 1) (drop (at + 1) s)) ≡ skipped (u + 1) r′
       names-said r′ e =
-          ap (λ n. view (times (name (layoutOf f .longest)) n (u + 1) (at + 1) (drop (at + 1) s))) (sym (k .names))
-          ∙ ap (λ l. view (times (name l) (code / 2 % 4) (u + 1) (at + 1) (drop (at + 1) s))) (sym long)
+          ap (λ n. view (times (name (layoutOf f .spelling)) n (u + 1) (at + 1) (drop (at + 1) s))) (sym (k .names))
           ∙ sym (says (u + 1))
           ∙ ap (skipped (u + 1)) e
 
@@ -56,12 +54,12 @@ module _ (f : Form) (most : ℕ) (s : Bytes) (c u at : ℕ) (waits : 0 < c) wher
       turn-off n p e =
           rest-bad (layoutOf f) most s c u at n p waits
           (node-off (layoutOf f) most s u at inside room (k .head) (k .is) n p
-          (view-bad (times (name (layoutOf f .longest)) (layoutOf f .names (k .head)) (u + 1) (at + 1) (drop (at + 1) s)) (names-said (Fault n p) e)))
+          (view-bad (times (name (layoutOf f .spelling)) (layoutOf f .names (k .head)) (u + 1) (at + 1) (drop (at + 1) s)) (names-said (Fault n p) e)))
 
       pub turn-on : (p : ℕ) → r ≡ To p → Rest (layoutOf f) most s c u at ≡ Rest (layoutOf f) most s (c - 1 + code / 8) (u + 1) p
       turn-on p e =
           let n = layoutOf f .names (k .head) in
-          let m = name {S = ℕ} (layoutOf f .longest) in
-          let w = passed (times m n) (steady-times m (steady-name (layoutOf f .longest)) n) s (u + 1) (at + 1) (omega arith) (names-said (To p) e) in
+          let m = name {S = ℕ} (layoutOf f .spelling) in
+          let w = passed (times m n) (steady-times m (steady-name (layoutOf f .spelling)) n) s (u + 1) (at + 1) (omega arith) (names-said (To p) e) in
           rest-step (layoutOf f) most s c u at waits inside room (k .head) (k .is) (w .value) p (w .is)
           ∙ ap (λ i. Rest (layoutOf f) most s (c - 1 + i) (u + 1) p) (sym (k .parts))

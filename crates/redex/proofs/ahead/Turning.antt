@@ -9,6 +9,7 @@ use lib.Dec.{eqb}
 use borrow.Author.Tests.{eqb-true, eqb-false}
 use Rattle.rules.specs.Basic.{Bytes}
 use Rattle.rules.specs.Layout.{headAt}
+use Rattle.rules.specs.Name.{nameSpelling}
 use Rattle.rules.specs.Term.{Term, var, leaf, one, two, abs, both, branch, unit, trivial, inl, inr, fst, snd, abort, promote, derelict, pair, app, discard, letPair, copy, terms}
 use Rattle.reader.specs.Classes.{codeAt}
 use Rattle.term.specs.Node.{tag, names, namesAfter}
@@ -80,8 +81,8 @@ never-one (both letPair x y e b) v h = absurd (omega arith)
 never-one (both copy x y e b) v h = absurd (omega arith)
 never-one (branch x y e l r) v h = absurd (omega arith)
 
-module _ (s : Bytes) (i : ℕ) (w : Swept s i 0) (h : i < length s) (code : ℕ) (is : code ≡ codeAt terms (headAt (terms .heads) (getD s i 0))) (longest j : ℕ)
-    (n : NamesTo s longest (i + 1) (code / 2 % 4) j) (c : CalmAt s (getD s i 0) (code / 2 % 4) j) where
+module _ (s : Bytes) (i : ℕ) (w : Swept s i 0) (h : i < length s) (code : ℕ) (is : code ≡ codeAt terms (headAt (terms .heads) (getD s i 0))) (j : ℕ)
+    (n : NamesTo s nameSpelling (i + 1) (code / 2 % 4) j) (c : CalmAt s (getD s i 0) (code / 2 % 4) j) where
   pub calm-more : Swept s j 0
   calm-more t e =
       let a = some-here s i 0 h w (t, e) in

@@ -9,7 +9,6 @@ use Rattle.rules.specs.Basic.{say}
 use Rattle.rules.specs.Name.{Name, encodeName, nameMost}
 use Rattle.rules.specs.Term.{Term, both, branch, letPair, copy, encode}
 use Rattle.rules.specs.Text.{text}
-use Rattle.laws.specs.reading.Names.{name-long}
 use Rattle.words.specs.Prints.{Prints}
 use Rattle.words.specs.Task.{Task, Done}
 use Rattle.words.specs.Steps.{printed, part-of, part-end, after-part, part-then, print-then, no-more, no-more-done, told, told-done, Named}
@@ -40,7 +39,7 @@ module _ {s : List ℕ} {at : ℕ} {out : List ℕ} {to : ℕ} where
     let-second = second-named 4 x y (encode f ++ encode g) let-task
 
     pub let-in : NameIn s (at + 1) × NameIn s (afterName s (at + 1))
-    let-in = (name-in let-first (name-long nameMost x (t .legal .0) .1), name-in let-second (name-long nameMost y (t .legal .1) .1))
+    let-in = (name-in let-first (t .legal .0 .short), name-in let-second (t .legal .1 .short))
 
     pub let-room : to + getD s (at + 1) 0 + getD s (afterName s (at + 1)) 0 + 31 ≤ length out
     let-room =
@@ -107,7 +106,7 @@ module _ {s : List ℕ} {at : ℕ} {out : List ℕ} {to : ℕ} where
     copy-second = second-named 17 x y (encode f ++ encode g) copy-task
 
     pub copy-in : NameIn s (at + 1) × NameIn s (afterName s (at + 1))
-    copy-in = (name-in copy-first (name-long nameMost x (t .legal .0) .1), name-in copy-second (name-long nameMost y (t .legal .1) .1))
+    copy-in = (name-in copy-first (t .legal .0 .short), name-in copy-second (t .legal .1 .short))
 
     pub copy-room : to + 8 ≤ length out
     copy-room = omega (arith, copy-task .room)
@@ -193,7 +192,7 @@ module _ {s : List ℕ} {at : ℕ} {out : List ℕ} {to : ℕ} where
     case-second = second-named 9 x y parts case-task
 
     pub case-in : NameIn s (at + 1) × NameIn s (afterName s (at + 1))
-    case-in = (name-in case-first (name-long nameMost x (t .legal .0) .1), name-in case-second (name-long nameMost y (t .legal .1) .1))
+    case-in = (name-in case-first (t .legal .0 .short), name-in case-second (t .legal .1 .short))
 
     pub case-room : to + 8 ≤ length out
     case-room = omega (arith, case-task .room)

@@ -10,7 +10,6 @@ use Rattle.rules.specs.Name.{Name, encodeName, nameMost}
 use Rattle.rules.specs.Legal.{Legal}
 use Rattle.rules.specs.Term.{Term, var, one, two, abs, One, Two, oneTag, twoTag, encode}
 use Rattle.rules.specs.Text.{oneText, text}
-use Rattle.laws.specs.reading.Names.{name-long}
 use Rattle.words.specs.Prints.{Prints, brackets}
 use Rattle.words.specs.Task.{Task, Done}
 use Rattle.words.specs.Steps.{first-byte, passed, printed, part-of, part-end, after-part, part-then, pass-then, print-then, no-more, no-more-done, told, told-done, Named, named}
@@ -150,7 +149,7 @@ module _ {s : List ℕ} {at : ℕ} {out₀ : List ℕ} {to : ℕ} {T : Term} {ou
     last-task = passed (1 ∷ []) (a .task)
 
     pub last-long : length x ≤ nameMost
-    last-long = name-long nameMost x (a .legal) .1
+    last-long = a .legal .short
 
     pub last-done : {o₁ : List ℕ} {r : ℕ} → Done (i + 1) out o (encodeName x) (x ++ brackets c) o₁ r → TermDone at out₀ to T o₁ r
     unfolding encode text
@@ -172,7 +171,7 @@ module _ {s : List ℕ} {at : ℕ} {out₀ : List ℕ} {to : ℕ} {T : Term} {ou
     abs-named = named x (encode f) abs-task
 
     pub abs-in : NameIn s (i + 1)
-    abs-in = name-in abs-named (name-long nameMost x (a .legal .0) .1)
+    abs-in = name-in abs-named (a .legal .0 .short)
 
     pub abs-room : o + getD s (i + 1) 0 + 28 ≤ length out
     abs-room = omega (arith, abs-named .long, abs-task .room, length-append opens (text f ++ brackets c), length-append x (say ". "))

@@ -17,6 +17,9 @@ abbrev μ-loop : tie.MeasureT-loop
 loop-holds : tie.Need-loop-holds Inv-loop μ-loop
 loop-holds c = refl
 
+mul-t : tie.Need-mul-t Inv-loop μ-loop
+mul-t c = omega arith
+
 element-write-t : tie.Need-element-write-t Inv-loop μ-loop
 element-write-t c = omega arith
 
@@ -35,4 +38,4 @@ returns c = let l = c .before .loop in mark-end (l .t) _ (l .b) (c .before .befo
 pub mark-spec : {M : Type 1} → statement M
 mark-spec =
     tie.close
-    (tie.spec Inv-loop μ-loop loop-holds element-write-t add-b loop-less loop-again returns)
+    (tie.spec Inv-loop μ-loop loop-holds mul-t element-write-t add-b loop-less loop-again returns)

@@ -17,8 +17,14 @@ abbrev μ-loop : tie.MeasureT-loop
 loop-holds : tie.Need-loop-holds Inv-loop μ-loop
 loop-holds c = refl
 
+mul-t : tie.Need-mul-t Inv-loop μ-loop
+mul-t c = omega arith
+
 shared-slice-read-t : tie.Need-shared-slice-read-t Inv-loop μ-loop
 shared-slice-read-t c = omega arith
+
+mul-t-2 : tie.Need-mul-t-2 Inv-loop μ-loop
+mul-t-2 c = omega arith
 
 element-write-t : tie.Need-element-write-t Inv-loop μ-loop
 element-write-t c = omega arith
@@ -42,7 +48,9 @@ put-tags-spec =
     Inv-loop
     μ-loop
     loop-holds
+    mul-t
     shared-slice-read-t
+    mul-t-2
     element-write-t
     add-b
     loop-less

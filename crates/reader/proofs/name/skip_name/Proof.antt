@@ -2,7 +2,9 @@
 use native.Mathlib.Omega.{arith}
 use mathlib.Core.Path.{sym, ap, _∙_}
 use Rattle.reader.specs.View.{skipped}
+use Rattle.reader.specs.Words.{spellingOf}
 use Rattle.reader.proofs.class.Name.{name-out, name-small, name-big, name-short, name-on}
+use Rattle.reader.proofs.ahead.Further.{short}
 use borrow.Author.Needs.{needs}
 use Rattle.reader.proofs.name.skip_name.Statement.{statement}
 use Rattle.reader.proofs.name.skip_name.Tie as tie
@@ -11,7 +13,7 @@ fault-requires : tie.Need-fault-requires
 fault-requires c κs = search needs
 
 returns : tie.Need-returns
-returns c = let a = c .before .before .before .args in λ u. ap (skipped u) (c .fault .ensures) ∙ sym (name-out (a .longest) (a .s .now) u (a .at) (omega arith))
+returns c = let a = c .before .before .before .args in λ u. ap (skipped u) (c .fault .ensures) ∙ sym (name-out (spellingOf (a .form)) (a .s .now) u (a .at) (omega arith))
 
 shared-slice-read-n : tie.Need-shared-slice-read-n
 shared-slice-read-n c = search needs
@@ -29,30 +31,33 @@ fault-requires-2 : tie.Need-fault-requires-2
 fault-requires-2 c κs = search needs
 
 returns-2 : tie.Need-returns-2
-returns-2 c = let a = c .before .before .before .before .before .args in λ u. ap (skipped u) (c .fault2 .ensures) ∙ sym (name-small (a .longest) (a .s .now) u (a .at) (omega arith) (omega arith))
+returns-2 c = let a = c .before .before .before .before .before .args in λ u. ap (skipped u) (c .fault2 .ensures) ∙ sym (name-small (spellingOf (a .form)) (a .s .now) u (a .at) (omega arith) (omega arith))
+
+longest-name-requires : tie.Need-longest-name-requires
+longest-name-requires c κs = search needs
 
 fault-requires-3 : tie.Need-fault-requires-3
 fault-requires-3 c κs = search needs
 
 returns-3 : tie.Need-returns-3
-returns-3 c = let a = c .before .before .before .before .before .before .args in λ u. ap (skipped u) (c .fault3 .ensures) ∙ sym (name-big (a .longest) (a .s .now) u (a .at) (omega arith) (omega arith))
+returns-3 c = let a = c .before .before .before .before .before .before .before .args in λ u. ap (skipped u) (c .fault3 .ensures) ∙ sym (name-big (spellingOf (a .form)) (a .s .now) u (a .at) (omega arith) (omega (arith, c .before .before .longest-name .ensures)))
 
 fault-requires-4 : tie.Need-fault-requires-4
 fault-requires-4 c κs = search needs
 
 returns-4 : tie.Need-returns-4
-returns-4 c = let a = c .before .before .before .before .before .before .before .args in λ u. ap (skipped u) (c .fault4 .ensures) ∙ sym (name-short (a .longest) (a .s .now) u (a .at) (omega arith) (omega arith) (omega arith) (omega arith))
+returns-4 c = let a = c .before .before .before .before .before .before .before .before .args in λ u. ap (skipped u) (c .fault4 .ensures) ∙ sym (name-short (spellingOf (a .form)) (a .s .now) u (a .at) (omega arith) (omega arith) (omega (arith, c .before .before .before .longest-name .ensures)) (omega arith))
 
-add-skip-letters : tie.Need-add-skip-letters
-add-skip-letters c = search needs
+add-skip-spelled : tie.Need-add-skip-spelled
+add-skip-spelled c = search needs
 
-skip-letters-requires : tie.Need-skip-letters-requires
-skip-letters-requires c κs = search needs
+skip-spelled-requires : tie.Need-skip-spelled-requires
+skip-spelled-requires c κs = (c .before .before .before .before .before .before .before .pre, omega (arith, short (c .before .before .before .before .before .before .before .args .form), c .before .before .longest-name .ensures))
 
 returns-5 : tie.Need-returns-5
 returns-5 c =
-    let a = c .before .before .before .before .before .before .before .args in
-    λ u. c .skip-letters .ensures u ∙ name-on (a .longest) (a .s .now) u (a .at) (omega arith) (omega arith) (omega arith) (omega arith) _ (omega arith)
+    let a = c .before .before .before .before .before .before .before .before .args in
+    λ u. c .skip-spelled .ensures u ∙ name-on (spellingOf (a .form)) (a .s .now) u (a .at) (omega arith) (omega arith) (omega (arith, c .before .before .before .longest-name .ensures)) (omega arith) _ (omega arith)
 
 pub skip-name-spec : {M : Type 1} → statement M
 skip-name-spec =
@@ -66,10 +71,11 @@ skip-name-spec =
     sub-left
     fault-requires-2
     returns-2
+    longest-name-requires
     fault-requires-3
     returns-3
     fault-requires-4
     returns-4
-    add-skip-letters
-    skip-letters-requires
+    add-skip-spelled
+    skip-spelled-requires
     returns-5)

@@ -13,30 +13,25 @@ use Rattle.reader.proofs.node.read_row.Statement.{statement}
 use Rattle.reader.proofs.node.read_row.Tie as tie
 
 abbrev Inv-loop : tie.InvT-loop
-Inv-loop s form t at used most n longest room next₀ met₀ known₀ next met known =
+Inv-loop s form t at used most n room next₀ met₀ known₀ next met known =
     (met ≤ known) × (known ≤ n + 3 * met) × (met ≤ most - used)
     × (Rest (layoutOf form) most s (known - met) (used + met) next ≡ view (times (node (layoutOf form) most most) n used at (drop at s)))
 
 abbrev μ-loop : tie.MeasureT-loop
-μ-loop s form t at used most n longest room next₀ met₀ known₀ next met known = most - used - met
-
-longest-name-requires : tie.Need-longest-name-requires Inv-loop μ-loop
-longest-name-requires c κs = search needs
+μ-loop s form t at used most n room next₀ met₀ known₀ next met known = most - used - met
 
 room-for-requires : tie.Need-room-for-requires Inv-loop μ-loop
 room-for-requires c κs = search needs
 
 loop-holds : tie.Need-loop-holds Inv-loop μ-loop
-loop-holds c =
-    let a = c .before .before .before .args in
+loop-holds c = let a = c .before .before .args in
     (omega arith, omega arith, omega arith, rest-same (layoutOf (a .form)) (a .most) (a .s .now) (omega arith) (omega arith) (a .at) ∙ rest-is (layoutOf (a .form)) (a .most) (a .s .now) (a .n) (a .used) (a .at))
 
 bad-requires : tie.Need-bad-requires Inv-loop μ-loop
 bad-requires c κs = search needs
 
 returns : tie.Need-returns Inv-loop μ-loop
-returns c =
-    let a = c .before .before .before .before .before .before .before .args in
+returns c = let a = c .before .before .before .before .before .before .args in
     let l = c .before .before .before .loop in
     c .bad .ensures ∙ sym (turn-out (a .form) (a .most) (a .s .now) (l .known - l .met) (a .used + l .met) (l .next) (omega arith) (omega arith)) ∙ l .inv .3
 
@@ -47,14 +42,13 @@ shared-slice-read-code-of : tie.Need-shared-slice-read-code-of Inv-loop μ-loop
 shared-slice-read-code-of c = omega arith
 
 code-of-requires : tie.Need-code-of-requires Inv-loop μ-loop
-code-of-requires c κs = c .before .before .before .before .before .before .before .pre .0
+code-of-requires c κs = c .before .before .before .before .before .before .pre .0
 
 bad-requires-2 : tie.Need-bad-requires-2 Inv-loop μ-loop
 bad-requires-2 c κs = search needs
 
 returns-2 : tie.Need-returns-2 Inv-loop μ-loop
-returns-2 c =
-    let a = c .before .before .before .before .before .before .before .before .before .before .args in
+returns-2 c = let a = c .before .before .before .before .before .before .before .before .before .args in
     let l = c .before .before .before .before .before .before .loop in
     c .bad2 .ensures ∙ sym (turn-full (a .form) (a .most) (a .s .now) (l .known - l .met) (a .used + l .met) (l .next) (omega arith) (omega arith) (omega (arith, c .before .before .before .before .before .before .before .room-for .ensures))) ∙ l .inv .3
 
@@ -62,15 +56,14 @@ bad-requires-3 : tie.Need-bad-requires-3 Inv-loop μ-loop
 bad-requires-3 c κs = search needs
 
 returns-3 : tie.Need-returns-3 Inv-loop μ-loop
-returns-3 c =
-    let a = c .before .before .before .before .before .before .before .before .before .before .before .args in
+returns-3 c = let a = c .before .before .before .before .before .before .before .before .before .before .args in
     let l = c .before .before .before .before .before .before .before .loop in
     let k = c .before .before .before .code-of in
     c .bad3 .ensures
     ∙ sym (turn-unknown (a .form) (a .most) (a .s .now) (l .known - l .met) (a .used + l .met) (l .next) (omega arith) (omega arith) (omega (arith, c .before .before .before .before .before .before .before .before .room-for .ensures)) (k .result) (k .ensures) (c .before .if3 .taken)) ∙ l .inv .3
 
 skip-names-requires : tie.Need-skip-names-requires Inv-loop μ-loop
-skip-names-requires c κs = (c .before .before .before .before .before .before .before .before .before .before .pre .0 .letters, omega arith)
+skip-names-requires c κs = (c .before .before .before .before .before .before .before .before .before .pre .0 .alphabet, omega arith)
 
 enum-known-past : tie.Need-enum-known-past Inv-loop μ-loop
 enum-known-past c = search needs
@@ -82,36 +75,31 @@ bad-requires-4 : tie.Need-bad-requires-4 Inv-loop μ-loop
 bad-requires-4 c κs = search needs
 
 returns-4 : tie.Need-returns-4 Inv-loop μ-loop
-returns-4 c =
-    let a = c .before .before .before .before .before .before .before .before .before .before .before .before .before .before .before .args in
+returns-4 c = let a = c .before .before .before .before .before .before .before .before .before .before .before .before .before .before .args in
     let l = c .before .before .before .before .before .before .before .before .before .before .before .loop in
     let k = c .before .before .before .before .before .before .before .code-of in
-    let long = c .before .before .before .before .before .before .before .before .before .before .before .before .before .longest-name in
     let names = c .before .before .before .before .skip-names in
     c .bad4 .ensures
     ∙ sym (turn-off (a .form) (a .most) (a .s .now) (l .known - l .met) (a .used + l .met) (l .next) (omega arith)
-    (omega arith) (omega (arith, c .before .before .before .before .before .before .before .before .before .before .before .before .room-for .ensures)) (k .result) (k .ensures) (c .before .before .before .before .before .if3 .left) (long .result) (long .ensures) (names .result) (names .ensures) _ _ (c .before .before .number .given .1))
+    (omega arith) (omega (arith, c .before .before .before .before .before .before .before .before .before .before .before .before .room-for .ensures)) (k .result) (k .ensures) (c .before .before .before .before .before .if3 .left) (names .result) (names .ensures) _ _ (c .before .before .number .given .1))
     ∙ l .inv .3
 
 add-met : tie.Need-add-met Inv-loop μ-loop
-add-met c = omega (arith, c .before .before .before .before .before .before .before .before .before .before .loop .inv .2, c .before .before .before .before .before .before .before .before .before .before .before .before .before .before .pre .1)
+add-met c = omega (arith, c .before .before .before .before .before .before .before .before .before .before .loop .inv .2, c .before .before .before .before .before .before .before .before .before .before .before .before .before .pre .1)
 
 add-known : tie.Need-add-known Inv-loop μ-loop
-add-known c =
-    let a = c .before .before .before .before .before .before .before .before .before .before .before .before .before .before .args in
+add-known c = let a = c .before .before .before .before .before .before .before .before .before .before .before .before .before .args in
     let l = c .before .before .before .before .before .before .before .before .before .before .loop in
     let k = c .before .before .before .before .before .before .code-of in
-    omega (arith, l .inv .1, l .inv .2, c .before .before .before .before .before .before .before .before .before .before .before .before .before .before .pre .1, few-parts (a .form) (a .most) (a .s .now) (l .known - l .met) (a .used + l .met) (l .next) (omega arith) (omega arith) (omega (arith, c .before .before .before .before .before .before .before .before .before .before .before .room-for .ensures)) (k .result) (k .ensures) (c .before .before .before .before .if3 .left))
+    omega (arith, l .inv .1, l .inv .2, c .before .before .before .before .before .before .before .before .before .before .before .before .before .pre .1, few-parts (a .form) (a .most) (a .s .now) (l .known - l .met) (a .used + l .met) (l .next) (omega arith) (omega arith) (omega (arith, c .before .before .before .before .before .before .before .before .before .before .before .room-for .ensures)) (k .result) (k .ensures) (c .before .before .before .before .if3 .left))
 
 loop-less : tie.Need-loop-less Inv-loop μ-loop
 loop-less c = omega (arith, c .before .before .before .before .before .before .before .before .before .before .before .room-for .ensures)
 
 loop-again : tie.Need-loop-again Inv-loop μ-loop
-loop-again c =
-    let a = c .before .before .before .before .before .before .before .before .before .before .before .before .before .before .args in
+loop-again c = let a = c .before .before .before .before .before .before .before .before .before .before .before .before .before .args in
     let l = c .before .before .before .before .before .before .before .before .before .before .loop in
     let k = c .before .before .before .before .before .before .code-of in
-    let long = c .before .before .before .before .before .before .before .before .before .before .before .before .longest-name in
     let names = c .before .before .before .skip-names in
     let few = few-parts (a .form) (a .most) (a .s .now) (l .known - l .met) (a .used + l .met) (l .next) (omega arith) (omega arith) (omega (arith, c .before .before .before .before .before .before .before .before .before .before .before .room-for .ensures)) (k .result) (k .ensures) (c .before .before .before .before .if3 .left) in
     let less : l .known + k .result / 8 - (l .met + 1) ≡ l .known - l .met - 1 + k .result / 8 = omega arith in
@@ -121,15 +109,14 @@ loop-again c =
       omega (arith, c .before .before .before .before .before .before .before .before .before .before .before .room-for .ensures),
       rest-same (layoutOf (a .form)) (a .most) (a .s .now) less more _
           ∙ sym (turn-on (a .form) (a .most) (a .s .now) (l .known - l .met) (a .used + l .met) (l .next) (omega arith)
-          (omega arith) (omega (arith, c .before .before .before .before .before .before .before .before .before .before .before .room-for .ensures)) (k .result) (k .ensures) (c .before .before .before .before .if3 .left) (long .result) (long .ensures) (names .result) (names .ensures) _ (c .before .past .given .1)) ∙ l .inv .3,
+          (omega arith) (omega (arith, c .before .before .before .before .before .before .before .before .before .before .before .room-for .ensures)) (k .result) (k .ensures) (c .before .before .before .before .if3 .left) (names .result) (names .ensures) _ (c .before .past .given .1)) ∙ l .inv .3,
     )
 
-add-t24 : tie.Need-add-t24 Inv-loop μ-loop
-add-t24 c = omega (arith, c .before .loop .inv .2, c .before .before .before .before .before .pre .1)
+add-t23 : tie.Need-add-t23 Inv-loop μ-loop
+add-t23 c = omega (arith, c .before .loop .inv .2, c .before .before .before .before .pre .1)
 
 returns-5 : tie.Need-returns-5 Inv-loop μ-loop
-returns-5 c =
-    let a = c .before .before .before .before .before .args in
+returns-5 c = let a = c .before .before .before .before .args in
     let l = c .before .loop in
     sym (rest-none (layoutOf (a .form)) (a .most) (a .s .now) (l .known - l .met) (a .used + l .met) (l .next) (omega arith)) ∙ l .inv .3
 
@@ -139,7 +126,6 @@ read-row-spec =
     (tie.spec
     Inv-loop
     μ-loop
-    longest-name-requires
     room-for-requires
     loop-holds
     bad-requires
@@ -160,5 +146,5 @@ read-row-spec =
     add-known
     loop-less
     loop-again
-    add-t24
+    add-t23
     returns-5)
