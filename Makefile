@@ -38,12 +38,14 @@ test:
 	@$(MAKE) --no-print-directory ported
 	@tail -n 1 $(VERDICT)
 
-# What is run and not proved: the model answers as document 01 says; header and library fit, the port and its program answer as the model does.
+# What is run and not proved: the model answers as documents 01 and 02 say; header and library fit, the port and its program answer as the
+# model does.
 hosted: beside ported
 
-# The model, as document 01 says and by second routes; and the crates below those that link the library, for the soak too.
+# The model, as documents 01 and 02 say and by second routes, and the words that the generators make; and the crates below those that link the
+# library, for the soak too.
 beside:
-	@cargo test $(CARGO) -p patch-model -p lolli-extract -p cases
+	@cargo test $(CARGO) -p patch-model -p patch-generate -p lolli-extract -p cases
 	@cargo run $(CARGO) -p apart -- model
 	@cargo build $(CARGO) --target-dir $(SANITIZED_BUILD) -p apart
 

@@ -68,7 +68,8 @@ enum patch_refusal {
     PATCH_BLOCK_CHECK = 11,
     PATCH_BLOCK_HEAD = 12,
     PATCH_UNUSED_NOT_ZERO = 13,
-    PATCH_NO_SUCH_CHILD = 14
+    PATCH_NO_SUCH_CHILD = 14,
+    PATCH_RESERVED_WORD = 15
 };
 
 /* Whether a formula, a term or a proof is legal. Value: its nodes, of a proof its rules. */

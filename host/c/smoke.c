@@ -30,6 +30,7 @@ static const uint8_t formula[] = {13, 1, 1, 'A', 5};
 static const uint8_t term[] = {5, 1, 'x', 1, 1, 'x'};
 static const uint8_t applied[] = {6, 5, 1, 'x', 1, 1, 'x', 2};
 static const uint8_t proof[] = {1, 1, 5, 0};
+static const uint8_t word[] = {1, 2, 'i', 'n'};
 
 static void checks(void) {
     patch_check_formula(formula, sizeof formula, answer);
@@ -40,6 +41,8 @@ static void checks(void) {
     expect(answered(2), "a term of 2 nodes");
     patch_check_term(term, 0, answer);
     expect(refused() == 30001, "no bytes");
+    patch_check_term(word, sizeof word, answer);
+    expect(refused() == PATCH_RESERVED_WORD * 10000 + 21, "a word is no name");
     patch_check_proof(proof, sizeof proof, answer);
     expect(answered(1), "a proof of 1 rule");
     patch_is_straight(term, sizeof term, answer);

@@ -2,20 +2,21 @@
 //! without the port.
 
 use lolli_core::Term;
-use patch_generate::damage::damage;
-use patch_generate::{files, formulas, proofs, terms, Rng};
+use patch_generate::damage::{damage, names_in, put_name};
+use patch_generate::{files, formulas, names, proofs, terms, Rng};
 use patch_harness::{hold, many, Verdict};
 use patch_model::calls::{fits, name_list};
 use patch_model::form::{formula_bytes, formula_nodes, proof_bytes, proof_formula_nodes, proof_rules, term_bytes, term_nodes};
 use patch_model::reduce::{contracted, redex, reduce, size};
 use patch_model::stored::{content, load, store, Kind};
-use patch_model::{calls, extract, read, Limits};
+use patch_model::{calls, extract, read, Limits, Refusal};
 
 const L: Limits = Limits::BASE;
 
 pub fn all() -> Verdict {
     Ok(many("reading undoes writing", 20_000, 1, reads_back)?
         + many("what is read of damaged bytes is written as they are", 100_000, 2, one_decoding)?
+        + many("a word for a name is refused where it stands", 50_000, 8, refuses_words)?
         + many("a step contracts the node at its place", 40_000, 3, step_at_place)?
         + many("bounded reduction is the Rust's", 30_000, 4, reduces_as_the_rust)?
         + many("sizes of extracted terms", 50_000, 5, extracted_sizes)?
@@ -61,6 +62,27 @@ fn one_decoding(rng: &mut Rng) -> Result<(), String> {
         Ok(proof) => hold(proof_bytes(&proof) == bytes, "proof"),
         Err(r) => hold(place_within(r.place), "place in a proof"),
     }
+}
+
+/// In place of any name: of a term a word in small letters, of a formula, alone or in a proof, one in any case.
+fn refuses_words(rng: &mut Rng) -> Result<(), String> {
+    let of_term = rng.one_in(2);
+    let mut bytes = if of_term { term_bytes(&terms::random(rng, 60)) } else { formula_bytes(&formulas::random(rng, 60)) };
+    let places = names_in(&bytes);
+    if places.is_empty() {
+        return Ok(());
+    }
+    let (place, word) = (rng.pick(&places).clone(), names::word(rng));
+    put_name(&mut bytes, place.clone(), &word);
+    let refused = |place: usize| Some(Refusal { number: 15, place, input: 1 });
+    if of_term {
+        let is_word = word.bytes().all(|letter| letter.is_ascii_lowercase());
+        let said = read::term(&L, 1, &bytes).err();
+        return hold(said == if is_word { refused(place.start + 1) } else { None }, "in a term");
+    }
+    hold(read::formula(&L, 1, &bytes).err() == refused(place.start + 1), "in a formula")?;
+    let cut = [&[2], &bytes[..], &[0, 0]].concat();
+    hold(read::proof(&L, 1, &cut).err() == refused(place.start + 2), "in a proof")
 }
 
 /// A term that a step is tried on.

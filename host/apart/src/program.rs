@@ -6,6 +6,7 @@ use patch_generate::inputs::{doubled, reducible};
 use patch_generate::{files, Rng};
 use patch_harness::{each, Verdict};
 use patch_model::form::term_bytes;
+use patch_model::names::WORDS;
 use patch_model::program::patchrun;
 use patch_model::stored::{blocks, seal, BLOCK};
 use patch_model::Limits;
@@ -20,7 +21,7 @@ const PROGRAM: &str = concat!(env!("CARGO_MANIFEST_DIR"), "/../patchrun.sh");
 
 /// Every refusal that a stored term can meet: the program's buffers are long enough, content is never over 4,096 bytes, nothing is extracted,
 /// no child is asked for.
-const REFUSALS: [u8; 10] = [3, 4, 5, 6, 7, 8, 10, 11, 12, 13];
+const REFUSALS: [u8; 11] = [3, 4, 5, 6, 7, 8, 10, 11, 12, 13, 15];
 
 pub fn all() -> Verdict {
     let edges = edges();
@@ -117,6 +118,7 @@ fn edges() -> Vec<Vec<u8>> {
     }
     edges.extend([252, 253, 254].map(|promotes| blocks(1, &doubled(promotes))));
     edges.push(blocks(1, &endless()));
+    edges.extend(WORDS.map(|word| blocks(1, &term_bytes(&Term::Var(word.into())))));
     // a sample of the bad inputs that the readers are held to
     edges.extend(bad_inputs(&TERMS).iter().step_by(23).map(|content| blocks(1, content)));
     edges

@@ -1,7 +1,6 @@
 //! Substitution in the steps of the port's call, but with the term copied part by part: each node's own bytes by themselves, as the Rust clones it.
 
-use patch_model::limits::NAME_MOST;
-use patch_model::read::{follows, leads};
+use patch_model::names::{bad_byte, Spelling};
 use patch_model::Limits;
 
 /// How long the new term is, and how many pieces were copied to make it.
@@ -29,7 +28,7 @@ pub fn substitute_to(term: &[u8], name: &[u8], value: &[u8], out: &mut [u8], scr
 }
 
 fn is_name(name: &[u8]) -> bool {
-    name.len() <= NAME_MOST && name.first().is_some_and(|&b| leads(b)) && name.iter().all(|&b| follows(b))
+    (1..=Spelling::Name.most()).contains(&name.len()) && bad_byte(name).is_none() && !Spelling::Name.is_word(name)
 }
 
 const COUNTS: bool = false;

@@ -4,7 +4,7 @@ use crate::least::Shape;
 use lolli_core::{Formula, Proof, Rule, Sequent, Term};
 use patch_generate::{self as generate, Rng};
 use patch_model::form::{formula_bytes, proof_bytes, term_bytes};
-use patch_model::limits::{ATOM_MOST, NAME_MOST};
+use patch_model::names::Spelling;
 
 const SIZES: [usize; 3] = [50, 150, 500];
 const RANDOM: u64 = 200;
@@ -15,7 +15,7 @@ const MOST_BYTES: usize = 4096;
 pub fn terms() -> Vec<Shape<Term>> {
     let mut made = Vec::new();
     for (way, each, put) in TERM_WAYS {
-        for (names, x) in [("short names", "y".to_string()), ("long names", "y".repeat(NAME_MOST))] {
+        for (names, x) in [("short names", "y".to_string()), ("long names", "y".repeat(Spelling::Name.most()))] {
             for nodes in SIZES {
                 let term = (0..(nodes - 1) / each).fold(Term::Var("x".into()), |inner, _| put(x.clone(), Box::new(inner)));
                 made.push(Shape { name: format!("{way}, {names}"), nodes, bytes: term_bytes(&term), value: term });
@@ -73,7 +73,7 @@ const TERM_WAYS: [Way; 21] = [
 pub fn formulas() -> Vec<Shape<Formula>> {
     let mut made = Vec::new();
     for (way, each, put) in FORMULA_WAYS {
-        for (names, x) in [("short atoms", "A".to_string()), ("long atoms", "A".repeat(ATOM_MOST))] {
+        for (names, x) in [("short atoms", "A".to_string()), ("long atoms", "A".repeat(Spelling::Atom.most()))] {
             for nodes in SIZES {
                 let formula = (0..(nodes - 1) / each).fold(Formula::Atom(x.clone()), |inner, _| put(Formula::Atom(x.clone()), inner));
                 made.push(Shape { name: format!("{way}, {names}"), nodes, bytes: formula_bytes(&formula), value: formula });
@@ -82,7 +82,7 @@ pub fn formulas() -> Vec<Shape<Formula>> {
     }
     for i in 0..RANDOM {
         let rng = &mut Rng::new(SEED, i);
-        let pool = generate::names::pool(rng, ATOM_MOST);
+        let pool = generate::names::pool(rng, Spelling::Atom);
         let nodes = rng.within(50, 1000);
         let formula = generate::formulas::of_nodes(rng, &pool, nodes);
         made.push(Shape { name: format!("random {i}"), nodes, bytes: formula_bytes(&formula), value: formula });

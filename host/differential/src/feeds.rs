@@ -10,14 +10,14 @@ use patch_generate::{inputs, names, terms, Rng};
 use patch_harness::{each, hold, many, Verdict};
 use patch_model::form::{parts, term_bytes};
 use patch_model::free::occurrences;
-use patch_model::limits::NAME_MOST;
+use patch_model::names::Spelling;
 use patch_model::{read, Limits};
 use std::sync::Mutex;
 
 const L: Limits = Limits::BASE;
 const SEED: u64 = 0x6665_6564_7300;
 const NAMES: [&str; 3] = ["x", "y", "z"];
-const BAD_NAMES: [&[u8]; 4] = [b"", b"9", b"x-", &[b'x'; NAME_MOST + 1]];
+const BAD_NAMES: [&[u8]; 5] = [b"", b"9", b"x-", b"in", &[b'x'; Spelling::Name.most() + 1]];
 
 pub fn all() -> Verdict {
     Ok(every_small()?
@@ -187,9 +187,9 @@ fn hides(template: &Term, x: &str) -> bool {
 fn not_free(rng: &mut Rng) -> Case {
     let term = inputs::term(rng);
     let taken: Vec<String> = read::term(&L, 1, &term).map_or(vec![], |term| occurrences(&term).into_keys().map(String::from).collect());
-    let mut name = names::pool(rng, NAME_MOST).remove(0);
+    let mut name = names::pool(rng, Spelling::Name).remove(0);
     while taken.contains(&name) {
-        name = names::of_length(rng, NAME_MOST);
+        name = names::of_length(rng, Spelling::Name.most());
     }
     let mut given = vec![term, name.into_bytes(), inputs::term(rng)];
     match rng.below(16) {

@@ -3,7 +3,7 @@
 use crate::case::{Call, Case};
 use crate::readers::lent_lengths;
 use crate::run::{listed, random};
-use patch_generate::bad::{bad_inputs, TERMS};
+use patch_generate::bad::{bad_inputs, proofs_with_words, with_words, TERMS};
 use patch_generate::damage::mostly_damaged;
 use patch_generate::inputs::term;
 use patch_generate::{files, proofs, terms, Rng};
@@ -41,6 +41,17 @@ fn edges() -> Vec<Case> {
         file[at] ^= 1;
         seal(&mut file);
         cases.push(one(Call::LoadTerm, file));
+    }
+    cases.extend(words());
+    cases
+}
+
+/// Contents with words, and with what is nearly one.
+fn words() -> Vec<Case> {
+    let mut cases: Vec<Case> = with_words(&TERMS).into_iter().map(|term| one(Call::LoadTerm, blocks(1, &term))).collect();
+    for proof in proofs_with_words() {
+        cases.push(one(Call::LoadProof, blocks(2, &proof)));
+        cases.push(one(Call::StoreProof, proof));
     }
     cases
 }

@@ -1,5 +1,7 @@
 //! The table of refusals: each number by each call that can give it, and, of any two that can compete, which comes first. What is expected is written
-//! here by hand from document 01; port and model are both held to it.
+//! here by hand from documents 01 and 02; port and model are both held to it.
+
+mod words;
 
 use crate::case::{Call, Case};
 use patch_harness::{hold, Verdict};
@@ -8,6 +10,9 @@ use std::collections::BTreeSet;
 
 /// A number, a place and an input.
 type Refused = [u64; 3];
+
+/// Why an input is refused, the input, the number and the place.
+type Fault = (&'static str, Vec<u8>, u64, u64);
 
 struct Table {
     met: BTreeSet<(String, u64)>,
@@ -28,9 +33,13 @@ impl Table {
     }
 }
 
-/// The faults of an input, each with its number and place; in two-fault inputs the first number named comes before the second.
-fn faults(form: &Form) -> Vec<(&'static str, Vec<u8>, u64, u64)> {
-    let Form { one, leaf, named, bad_tag, nodes, name_most } = *form;
+/// The faults of an input; in two-fault inputs the first number named comes before the second.
+fn faults(form: &Form) -> Vec<Fault> {
+    [plain_faults(form), words::faults(form), (form.words)()].concat()
+}
+
+fn plain_faults(form: &Form) -> Vec<Fault> {
+    let Form { one, leaf, named, bad_tag, nodes, name_most, .. } = *form;
     let ones = |n: usize, last: &[u8]| [vec![one; n], last.to_vec()].concat();
     vec![
         ("2", vec![leaf; 4097], 2, 4096),
@@ -59,15 +68,18 @@ fn faults(form: &Form) -> Vec<(&'static str, Vec<u8>, u64, u64)> {
 #[derive(Clone, Copy)]
 struct Form {
     one: u8,
+    two: u8,
     leaf: u8,
     named: u8,
     bad_tag: u8,
     nodes: usize,
     name_most: u8,
+    /// words where this form alone has names
+    words: fn() -> Vec<Fault>,
 }
 
-const FORMULA: Form = Form { one: 11, leaf: 5, named: 1, bad_tag: 14, nodes: 1024, name_most: 16 };
-const TERM: Form = Form { one: 14, leaf: 2, named: 1, bad_tag: 18, nodes: 512, name_most: 24 };
+const FORMULA: Form = Form { one: 11, two: 3, leaf: 5, named: 1, bad_tag: 14, nodes: 1024, name_most: 16, words: words::in_formulas };
+const TERM: Form = Form { one: 14, two: 3, leaf: 2, named: 1, bad_tag: 18, nodes: 512, name_most: 24, words: words::in_terms };
 
 /// `copy !v as (x, y) in (x y)` for v of so many Promotes and a Unit.
 fn doubled(promotes: usize) -> Vec<u8> {
@@ -102,16 +114,21 @@ fn substitution(table: &mut Table) {
             table.expect(&format!("1 before {why}"), short(case(&bytes, b"", &bytes), at), [1, 0, 0]);
         }
         table.expect(&format!("{why} of input 1 before 2 and 3"), case(&bytes, b"", &[18]), [number, place, 1]);
+        table.expect(&format!("{why} of input 1 before 15 of input 2"), case(&bytes, b"in", &[2]), [number, place, 1]);
         table.expect(&format!("{why} of input 3"), case(&pair, b"x", &bytes), [number, place, 3]);
         table.expect(&format!("5 of input 2 before {why} of input 3"), case(&pair, b"", &bytes), [5, 0, 2]);
+        table.expect(&format!("15 of input 2 before {why} of input 3"), case(&pair, b"in", &bytes), [15, 0, 2]);
     }
-    for (name, place) in [(&b""[..], 0), (&[b'x'; 25], 0), (&[b'x'; 5000], 0), (b"7x", 0), (b"x-", 1)] {
+    for (name, place) in [(&b""[..], 0), (&[b'x'; 25], 0), (&[b'x'; 5000], 0), (b"7x", 0), (b"x-", 1), (b"in-", 2)] {
         table.expect("5 of a bare name, never 2 or 3", case(&pair, name, &[2]), [5, place, 2]);
     }
     let half = [vec![14; 300], vec![2]].concat();
+    let with_word = [vec![14; 300], vec![1, 2, b'i', b'n']].concat();
     table.expect("8", case(&pair, b"x", &half), [8, 0, 0]);
+    table.expect("15 of input 3 before 8", case(&pair, b"x", &with_word), [15, 302, 3]);
     for at in 0..2 {
         table.expect("1 before 8", short(case(&pair, b"x", &half), at), [1, 0, 0]);
+        table.expect("1 before 15 of input 2", short(case(&pair, b"in", &[2]), at), [1, 0, 0]);
     }
 }
 
@@ -122,6 +139,9 @@ fn steps(table: &mut Table) {
         for at in 0..2 {
             table.expect("1 before 8", short(outgrown.clone(), at), [1, 0, 0]);
         }
+        // the copy has 268 bytes
+        let with_word = [vec![3], doubled(254), vec![1, 2, b'i', b'n']].concat();
+        table.expect("15 before 8", Case { number: 9, ..Case::new(call, vec![with_word]) }, [15, 271, 1]);
     }
     // one step of Derelict, and then the copy outgrows
     let after = [vec![3, 15, 14, 2], doubled(253)].concat();
@@ -137,7 +157,11 @@ fn children(table: &mut Table) {
     }
 }
 
-fn proof_faults() -> Vec<(&'static str, Vec<u8>, u64, u64)> {
+fn proof_faults() -> Vec<Fault> {
+    [plain_proof_faults(), words::in_proofs(), words::among_proof_faults()].concat()
+}
+
+fn plain_proof_faults() -> Vec<Fault> {
     let rules = |n: usize, last: &[u8]| [[4, 0, 1].repeat(n), last.to_vec()].concat();
     let list = |n: usize, last: u8| [vec![3, 2], vec![11; n], vec![5, last, 0]].concat();
     vec![
@@ -181,6 +205,10 @@ fn extraction(table: &mut Table) {
     table.expect("9, though no name is taken", extract(&[3, 0, 0], 100_000_001), [9, 0, 0]);
     table.expect("8", extract(&tower(60), 0), [8, 0, 0]);
     table.expect("9 before 8", extract(&tower(60), 100_000_000), [9, 0, 0]);
+    // the tower has 540 bytes before its last rule
+    let with_word = [&tower(60)[..540], &[1, 1, 1, 2, b'o', b'f', 0]].concat();
+    table.expect("15 before 8", extract(&with_word, 0), [15, 544, 1]);
+    table.expect("15 before 9 and 8", extract(&with_word, 100_000_000), [15, 544, 1]);
     for (why, bytes, number, place) in proof_faults() {
         table.expect(&format!("{why} before 9"), extract(&bytes, 100_000_000), [number, place, 1]);
     }
@@ -239,33 +267,33 @@ fn files(table: &mut Table, call: Call, kind: u8) {
 }
 
 /// Contents that fit a file: nothing longer than 4,096 bytes does, so 2 is not among their faults.
-fn term_contents() -> Vec<(&'static str, Vec<u8>, u64, u64)> {
+fn term_contents() -> Vec<Fault> {
     faults(&TERM).into_iter().filter(|(_, bytes, number, _)| *number != 2 && !bytes.is_empty()).collect()
 }
 
-fn proof_contents() -> Vec<(&'static str, Vec<u8>, u64, u64)> {
+fn proof_contents() -> Vec<Fault> {
     proof_faults().into_iter().filter(|(_, bytes, number, _)| *number != 2 && !bytes.is_empty()).collect()
 }
 
 /// Which numbers each call can give.
 const GIVEN: [(Call, &[u64]); 17] = [
-    (Call::CheckFormula, &[2, 3, 4, 5, 6, 7]),
-    (Call::CheckTerm, &[2, 3, 4, 5, 6, 7]),
-    (Call::CheckProof, &[2, 3, 4, 5, 6, 7]),
-    (Call::FormulaText, &[1, 2, 3, 4, 5, 6, 7]),
-    (Call::TermText, &[1, 2, 3, 4, 5, 6, 7]),
-    (Call::FreeVars, &[1, 2, 3, 4, 5, 6, 7]),
-    (Call::Substitute, &[1, 2, 3, 4, 5, 6, 7, 8]),
-    (Call::Child, &[2, 3, 4, 5, 6, 7, 14]),
-    (Call::Step, &[1, 2, 3, 4, 5, 6, 7, 8]),
-    (Call::NormalizeBounded, &[1, 2, 3, 4, 5, 6, 7, 8]),
-    (Call::IsNormal, &[2, 3, 4, 5, 6, 7]),
-    (Call::IsStraight, &[2, 3, 4, 5, 6, 7]),
-    (Call::Extract, &[1, 2, 3, 4, 5, 6, 7, 8, 9]),
-    (Call::StoreTerm, &[1, 2, 3, 4, 5, 6, 7]),
-    (Call::StoreProof, &[1, 2, 3, 4, 5, 6, 7]),
-    (Call::LoadTerm, &[1, 3, 4, 5, 6, 7, 10, 11, 12, 13]),
-    (Call::LoadProof, &[1, 3, 4, 5, 6, 7, 10, 11, 12, 13]),
+    (Call::CheckFormula, &[2, 3, 4, 5, 6, 7, 15]),
+    (Call::CheckTerm, &[2, 3, 4, 5, 6, 7, 15]),
+    (Call::CheckProof, &[2, 3, 4, 5, 6, 7, 15]),
+    (Call::FormulaText, &[1, 2, 3, 4, 5, 6, 7, 15]),
+    (Call::TermText, &[1, 2, 3, 4, 5, 6, 7, 15]),
+    (Call::FreeVars, &[1, 2, 3, 4, 5, 6, 7, 15]),
+    (Call::Substitute, &[1, 2, 3, 4, 5, 6, 7, 8, 15]),
+    (Call::Child, &[2, 3, 4, 5, 6, 7, 14, 15]),
+    (Call::Step, &[1, 2, 3, 4, 5, 6, 7, 8, 15]),
+    (Call::NormalizeBounded, &[1, 2, 3, 4, 5, 6, 7, 8, 15]),
+    (Call::IsNormal, &[2, 3, 4, 5, 6, 7, 15]),
+    (Call::IsStraight, &[2, 3, 4, 5, 6, 7, 15]),
+    (Call::Extract, &[1, 2, 3, 4, 5, 6, 7, 8, 9, 15]),
+    (Call::StoreTerm, &[1, 2, 3, 4, 5, 6, 7, 15]),
+    (Call::StoreProof, &[1, 2, 3, 4, 5, 6, 7, 15]),
+    (Call::LoadTerm, &[1, 3, 4, 5, 6, 7, 10, 11, 12, 13, 15]),
+    (Call::LoadProof, &[1, 3, 4, 5, 6, 7, 10, 11, 12, 13, 15]),
 ];
 
 /// That every entry point of the header is a call that is tried here.
@@ -302,8 +330,11 @@ pub fn all() -> Verdict {
         proofs(&mut table, call);
     }
     extraction(&mut table);
-    files(&mut table, Call::LoadTerm, 1);
-    files(&mut table, Call::LoadProof, 2);
+    for (call, kind) in [(Call::LoadTerm, 1), (Call::LoadProof, 2)] {
+        files(&mut table, call, kind);
+        words::in_files(&mut table, call, kind);
+    }
+    words::each(&mut table);
     for (call, numbers) in GIVEN {
         for number in numbers {
             if !table.met.contains(&(format!("{call:?}"), *number)) {
@@ -314,6 +345,6 @@ pub fn all() -> Verdict {
     if let Some(first) = table.wrong.first() {
         return Err(format!("{} of {} expectations\n{first}", table.wrong.len(), table.cases));
     }
-    println!("  each refusal by each call, and the order of any two that compete: {} cases as document 01 has them", table.cases);
+    println!("  each refusal by each call, and the order of any two that compete: {} cases as documents 01 and 02 have them", table.cases);
     Ok(table.cases)
 }

@@ -25,7 +25,7 @@ fn inputs(rng: &mut Rng, call: Call) -> Vec<Vec<u8>> {
     match call {
         Call::CheckFormula | Call::FormulaText => vec![formula(rng)],
         Call::CheckProof | Call::Extract | Call::StoreProof => vec![proof(rng)],
-        Call::Substitute => vec![some_term(rng), names::of_length(rng, 1).into_bytes(), some_term(rng)],
+        Call::Substitute => vec![some_term(rng), names::bare(rng).into_bytes(), some_term(rng)],
         Call::IsStraight => vec![if rng.one_in(2) { straight::nearly(rng) } else { some_term(rng) }],
         Call::LoadTerm => {
             let content = some_term(rng);
@@ -56,12 +56,15 @@ fn any(seed: u64, index: u64) -> Case {
     Case { number, ..Case::new(call, inputs) }.lent_by(&mut rng)
 }
 
-/// How often each call gave each answer: 0 where it succeeded, else the refusal's number.
+/// 0 where a call succeeded, and the refusals' numbers.
+const ANSWERS: usize = 16;
+
+/// How often each call gave each answer.
 #[derive(Clone, Copy)]
-struct Counts([[u64; 15]; Call::ALL.len()]);
+struct Counts([[u64; ANSWERS]; Call::ALL.len()]);
 
 impl Counts {
-    const NONE: Counts = Counts([[0; 15]; Call::ALL.len()]);
+    const NONE: Counts = Counts([[0; ANSWERS]; Call::ALL.len()]);
 
     fn total(&self) -> u64 {
         self.0.iter().flatten().sum()
@@ -69,7 +72,7 @@ impl Counts {
 
     fn print(&self) {
         for (call, answers) in Call::ALL.iter().zip(&self.0) {
-            let refused: Vec<String> = (1..15).filter(|n| answers[*n] > 0).map(|n| format!(", {} refused {n}", answers[n])).collect();
+            let refused: Vec<String> = (1..ANSWERS).filter(|n| answers[*n] > 0).map(|n| format!(", {} refused {n}", answers[n])).collect();
             println!("  {call:?}: {} good{}", answers[0], refused.concat());
         }
     }

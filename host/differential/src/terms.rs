@@ -3,7 +3,7 @@
 use crate::case::{Call, Case};
 use crate::readers::lent_lengths;
 use crate::run::{listed, random};
-use patch_generate::bad::{bad_inputs, TERMS};
+use patch_generate::bad::{bad_inputs, bare_names, TERMS};
 use patch_generate::damage::{damage, mostly_damaged};
 use patch_generate::inputs::term;
 use patch_generate::{names, straight, terms, Rng};
@@ -60,9 +60,9 @@ fn substitution(small: &[Vec<u8>]) -> Verdict {
     let [whole, cut, long] = probes();
     // the first fault in the order of the arguments, wherever others stand
     for t in [&whole, &cut, &long] {
-        for name in [&b"x"[..], b"", b"9", b"x-", &[b'x'; 24], &[b'x'; 25], &[b'x'; 5000]] {
+        for name in bare_names() {
             for value in [&whole, &cut, &long] {
-                listed_cases.push(Case::new(call, vec![t.clone(), name.to_vec(), value.clone()]));
+                listed_cases.push(Case::new(call, vec![t.clone(), name.clone(), value.clone()]));
             }
         }
     }
@@ -78,8 +78,10 @@ fn substitution(small: &[Vec<u8>]) -> Verdict {
             let (nodes, size) = (rng.size(L.nodes), rng.size(200));
             let (whole, value) = (style.of_nodes(&mut rng, nodes), style.of_nodes(&mut rng, size));
             let mut inputs = vec![term_bytes(&whole), rng.pick(&style.pool).clone().into_bytes(), term_bytes(&value)];
-            if rng.one_in(8) {
-                inputs[1] = names::of_length(&mut rng, 3).into_bytes();
+            match rng.below(16) {
+                0 | 1 => inputs[1] = names::of_length(&mut rng, 3).into_bytes(),
+                2 => inputs[1] = names::word(&mut rng).into_bytes(),
+                _ => {}
             }
             if rng.one_in(4) {
                 let at = rng.below(3);

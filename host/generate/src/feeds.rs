@@ -4,7 +4,7 @@ use crate::names;
 use crate::rng::Rng;
 use crate::terms::{half_way, Style};
 use lolli_core::Term;
-use patch_model::limits::NAME_MOST;
+use patch_model::names::Spelling;
 
 pub struct Feeds {
     pub template: Term,
@@ -34,7 +34,7 @@ pub fn random(rng: &mut Rng, most_nodes: usize) -> Feeds {
 fn three_names(rng: &mut Rng) -> Vec<String> {
     let mut pool: Vec<String> = Vec::new();
     while pool.len() < 3 {
-        for name in names::pool(rng, NAME_MOST) {
+        for name in names::pool(rng, Spelling::Name) {
             if !pool.contains(&name) {
                 pool.push(name);
             }

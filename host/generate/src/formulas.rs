@@ -3,7 +3,7 @@
 use crate::names;
 use crate::rng::Rng;
 use lolli_core::Formula;
-use patch_model::limits::ATOM_MOST;
+use patch_model::names::Spelling;
 
 type Two = fn(Box<Formula>, Box<Formula>) -> Formula;
 type One = fn(Box<Formula>) -> Formula;
@@ -57,14 +57,14 @@ pub fn of_nodes(rng: &mut Rng, pool: &[String], nodes: usize) -> Formula {
 }
 
 pub fn random(rng: &mut Rng, most_nodes: usize) -> Formula {
-    let pool = names::pool(rng, ATOM_MOST);
+    let pool = names::pool(rng, Spelling::Atom);
     let nodes = rng.size(most_nodes);
     of_nodes(rng, &pool, nodes)
 }
 
 /// A formula of exactly so many bytes and at most so many nodes, all its leaves atoms; 100 bytes or more.
 pub fn of_bytes(rng: &mut Rng, bytes: usize, most_nodes: usize) -> Formula {
-    let lengths = names::lengths(rng, ATOM_MOST, bytes, most_nodes);
+    let lengths = names::lengths(rng, Spelling::Atom, bytes, most_nodes);
     over(rng, &lengths)
 }
 

@@ -4,7 +4,7 @@ use crate::formulas;
 use crate::names;
 use crate::rng::Rng;
 use lolli_core::{Formula, Proof, Rule, Sequent};
-use patch_model::limits::ATOM_MOST;
+use patch_model::names::Spelling;
 
 const PLAIN: [Rule; 14] = [
     Rule::OneIntro,
@@ -111,7 +111,7 @@ impl Style {
 
 /// A proof of exactly so many rules, with at most about so many formula nodes.
 pub fn of_rules(rng: &mut Rng, rules: usize, formulas: usize) -> Proof {
-    let pool = names::pool(rng, ATOM_MOST);
+    let pool = names::pool(rng, Spelling::Atom);
     let cuts = *rng.pick(&[1, 2, 4]);
     Style { pool, formulas, cuts }.proof(rng, rules)
 }

@@ -3,7 +3,7 @@
 use crate::names;
 use crate::rng::Rng;
 use lolli_core::Term;
-use patch_model::limits::NAME_MOST;
+use patch_model::names::Spelling;
 
 type One = fn(Box<Term>) -> Term;
 type Two = fn(Box<Term>, Box<Term>) -> Term;
@@ -71,7 +71,7 @@ pub struct Style {
 
 impl Style {
     pub fn random(rng: &mut Rng) -> Style {
-        let pool = names::pool(rng, NAME_MOST);
+        let pool = names::pool(rng, Spelling::Name);
         let redexes = *rng.pick(&[1, 2, 3, 8]);
         Style { pool, redexes }
     }
@@ -176,7 +176,7 @@ pub fn random(rng: &mut Rng, most_nodes: usize) -> Term {
 
 /// A term of exactly so many bytes and at most so many nodes, all its leaves variables; 200 bytes or more.
 pub fn of_bytes(rng: &mut Rng, bytes: usize, most_nodes: usize) -> Term {
-    let lengths = names::lengths(rng, NAME_MOST, bytes, most_nodes);
+    let lengths = names::lengths(rng, Spelling::Name, bytes, most_nodes);
     over(rng, &lengths)
 }
 
@@ -192,7 +192,7 @@ fn over(rng: &mut Rng, lengths: &[usize]) -> Term {
 
 /// A step that comes close to a limit on either side: what is put in goes to so many places that the outcome has about as many nodes or bytes as allowed.
 pub fn near_limit(rng: &mut Rng, nodes: usize, bytes: usize) -> Term {
-    let style = Style { pool: names::pool(rng, NAME_MOST), redexes: 8 };
+    let style = Style { pool: names::pool(rng, Spelling::Name), redexes: 8 };
     let (x, y) = (style.name(rng), style.name(rng));
     let places = rng.within(1, 12);
     let most = if rng.one_in(2) { nodes / (places + 1) } else { bytes / (8 * (places + 1)) };
@@ -223,7 +223,7 @@ pub fn near_limit(rng: &mut Rng, nodes: usize, bytes: usize) -> Term {
 
 /// A LetPair or Copy whose body is largest half-way: the second name is long, and what goes in for it is short. Sizes lie on both sides of 4,096 bytes.
 pub fn half_way(rng: &mut Rng) -> Term {
-    let (x, long) = (names::of_length(rng, 1), names::of_length(rng, NAME_MOST));
+    let (x, long) = (names::of_length(rng, 1), names::of_length(rng, Spelling::Name.most()));
     let row = |rng: &mut Rng, firsts: usize, seconds: usize| {
         let mut left = [firsts, seconds];
         let mut row = Term::Unit;

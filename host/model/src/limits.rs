@@ -40,6 +40,3 @@ impl Limits {
 
 /// An extraction may not leave the counter over this.
 pub const MOST_COUNTER: u64 = 100_000_000;
-
-pub const NAME_MOST: usize = 24;
-pub const ATOM_MOST: usize = 16;

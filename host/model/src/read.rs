@@ -1,6 +1,7 @@
-//! The readers: one reading from the left that stops at the first fault (01, "Refusal numbers", "Order").
+//! The readers: one reading from the left that stops at the first fault (01, "Refusal numbers", "Order"; 02, (i)).
 
-use crate::limits::{Limits, ATOM_MOST, NAME_MOST};
+use crate::limits::Limits;
+use crate::names::{bad_byte, Spelling};
 use crate::refusal::{refuse, Refusal};
 use lolli_core::{Formula, Proof, Rule, Sequent, Term};
 
@@ -14,14 +15,6 @@ struct Reader<'a> {
     nodes: usize,
     rules: usize,
     formulas: usize,
-}
-
-pub fn leads(b: u8) -> bool {
-    b.is_ascii_alphabetic() || b == b'_'
-}
-
-pub fn follows(b: u8) -> bool {
-    leads(b) || b.is_ascii_digit()
 }
 
 impl<'a> Reader<'a> {
@@ -49,21 +42,26 @@ impl<'a> Reader<'a> {
         Ok(tag)
     }
 
-    /// In a name: 3 for a missing length, 5 for a bad length, 3 for missing bytes, 5 for a bad byte.
-    fn name(&mut self, most: usize) -> Result<String, Fault> {
+    /// In a name: 3 for a missing length, 5 for a bad length, 3 for missing bytes, 5 for a bad byte, 15 for a word.
+    fn spelled(&mut self, spelling: Spelling) -> Result<String, Fault> {
         let length = self.byte()? as usize;
-        if length == 0 || length > most {
+        if length == 0 || length > spelling.most() {
             return Err(Fault(5, self.at - 1));
         }
         if self.bytes.len() - self.at < length {
             return Err(Fault(3, self.bytes.len()));
         }
-        let name = &self.bytes[self.at..self.at + length];
-        if let Some(bad) = bad_byte(name) {
-            return Err(Fault(5, self.at + bad));
-        }
+        let start = self.at;
         self.at += length;
-        Ok(String::from_utf8(name.to_vec()).unwrap())
+        in_full(spelling, &self.bytes[start..self.at]).map_err(|Fault(number, place)| Fault(number, start + place))
+    }
+
+    fn name(&mut self) -> Result<String, Fault> {
+        self.spelled(Spelling::Name)
+    }
+
+    fn atom(&mut self) -> Result<String, Fault> {
+        self.spelled(Spelling::Atom)
     }
 
     fn boxed(&mut self) -> Result<Box<Term>, Fault> {
@@ -74,16 +72,16 @@ impl<'a> Reader<'a> {
         let place = self.at;
         let tag = self.tag(|r| &mut r.nodes, self.limits.nodes)?;
         Ok(match tag {
-            1 => Term::Var(self.name(NAME_MOST)?),
+            1 => Term::Var(self.name()?),
             2 => Term::Unit,
             3 => Term::Pair(self.boxed()?, self.boxed()?),
-            4 => Term::LetPair(self.name(NAME_MOST)?, self.name(NAME_MOST)?, self.boxed()?, self.boxed()?),
-            5 => Term::Abs(self.name(NAME_MOST)?, self.boxed()?),
+            4 => Term::LetPair(self.name()?, self.name()?, self.boxed()?, self.boxed()?),
+            5 => Term::Abs(self.name()?, self.boxed()?),
             6 => Term::App(self.boxed()?, self.boxed()?),
             7 => Term::Inl(self.boxed()?),
             8 => Term::Inr(self.boxed()?),
             9 => {
-                let (x, y) = (self.name(NAME_MOST)?, self.name(NAME_MOST)?);
+                let (x, y) = (self.name()?, self.name()?);
                 let (scrut, left, right) = (self.boxed()?, self.boxed()?, self.boxed()?);
                 Term::Case(scrut, x, left, y, right)
             }
@@ -95,7 +93,7 @@ impl<'a> Reader<'a> {
             15 => Term::Derelict(self.boxed()?),
             16 => Term::Discard(self.boxed()?, self.boxed()?),
             17 => {
-                let (x, y) = (self.name(NAME_MOST)?, self.name(NAME_MOST)?);
+                let (x, y) = (self.name()?, self.name()?);
                 let (src, body) = (self.boxed()?, self.boxed()?);
                 Term::Copy(src, x, y, body)
             }
@@ -111,8 +109,8 @@ impl<'a> Reader<'a> {
             Ok(make(Box::new(a), Box::new(b)))
         };
         match tag {
-            1 => Ok(Formula::Atom(self.name(ATOM_MOST)?)),
-            2 => Ok(Formula::NegAtom(self.name(ATOM_MOST)?)),
+            1 => Ok(Formula::Atom(self.atom()?)),
+            2 => Ok(Formula::NegAtom(self.atom()?)),
             3 => two(Formula::Tensor),
             4 => two(Formula::Par),
             5 => Ok(Formula::One),
@@ -178,9 +176,15 @@ impl<'a> Reader<'a> {
     }
 }
 
-/// The first byte of a name that may not stand there.
-fn bad_byte(name: &[u8]) -> Option<usize> {
-    name.iter().enumerate().position(|(i, &b)| !(if i == 0 { leads(b) } else { follows(b) }))
+/// A name of an allowed length, all its bytes there: 5 for a bad byte, then 15 for a word; places are counted in the name.
+fn in_full(spelling: Spelling, bytes: &[u8]) -> Result<String, Fault> {
+    if let Some(bad) = bad_byte(bytes) {
+        return Err(Fault(5, bad));
+    }
+    if spelling.is_word(bytes) {
+        return Err(Fault(15, 0));
+    }
+    Ok(String::from_utf8(bytes.to_vec()).unwrap())
 }
 
 /// 2, then one reading, then 7.
@@ -208,13 +212,10 @@ pub fn proof(limits: &Limits, input: u8, bytes: &[u8]) -> Result<Proof, Refusal>
     whole(limits, input, bytes, |r| r.proof())
 }
 
-/// A bare name argument has no length byte and is never 2 or 3; empty or over 24 bytes, however long, is 5 at 0.
+/// A bare name argument has no length byte and is never 2 or 3; empty or over 24 bytes, however long, is 5 at 0; a word is 15 at 0.
 pub fn name(input: u8, bytes: &[u8]) -> Result<String, Refusal> {
-    if bytes.is_empty() || bytes.len() > NAME_MOST {
+    if bytes.is_empty() || bytes.len() > Spelling::Name.most() {
         return refuse(5, 0, input);
     }
-    match bad_byte(bytes) {
-        Some(place) => refuse(5, place, input),
-        None => Ok(String::from_utf8(bytes.to_vec()).unwrap()),
-    }
+    in_full(Spelling::Name, bytes).or_else(|Fault(number, place)| refuse(number, place, input))
 }

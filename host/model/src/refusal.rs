@@ -1,4 +1,4 @@
-//! Refusals: number and place by 01's table, and which input it is about: 1, 2 or 3 in the order of the arguments, 0 for none.
+//! Refusals: number and place by 01's table and 02's requests, and which input it is about: 1, 2 or 3 in the order of the arguments, 0 for none.
 
 #[derive(Clone, Copy, Debug, PartialEq, Eq)]
 pub struct Refusal {
@@ -19,10 +19,10 @@ pub fn short<T>() -> Result<T, Refusal> {
     refuse(1, 0, 0)
 }
 
-/// Scratch and cut entries are untouched by 1 to 7 and 9, and all zeros otherwise.
+/// Scratch and cut entries are untouched by 1 to 7, 9 and 15, and all zeros otherwise.
 pub fn clears_scratch<T>(outcome: &Result<T, Refusal>) -> bool {
     match outcome {
         Ok(_) => true,
-        Err(r) => !(r.number <= 7 || r.number == 9),
+        Err(r) => !matches!(r.number, 1..=7 | 9 | 15),
     }
 }

@@ -17,10 +17,11 @@ pub enum Reason {
     BlockHead = 12,
     UnusedNotZero = 13,
     NoSuchChild = 14,
+    ReservedWord = 15,
 }
 
 /// By their numbers, from 1.
-const REASONS: [Reason; 14] = [
+const REASONS: [Reason; 15] = [
     Reason::ShortBuffer,
     Reason::InputTooLong,
     Reason::EndsInside,
@@ -35,6 +36,7 @@ const REASONS: [Reason; 14] = [
     Reason::BlockHead,
     Reason::UnusedNotZero,
     Reason::NoSuchChild,
+    Reason::ReservedWord,
 ];
 
 /// A refusal: why, where, and which input it is about: 1 for the first, 0 for none.

@@ -1,7 +1,8 @@
 //! Terms as people write them: as they are printed, but `\` may stand for the Abs sign, `<>` for Trivial, brackets may stand round any term, spaces
-//! may stand between words, and a Discard names what it discards: `discard E in B`. A name that is one of the printed words stands in quotes: `"in"`.
+//! may stand between words, and a Discard names what it discards: `discard E in B`. No word is a name.
 
 use lolli_core::Term;
+use patch_model::names::Spelling;
 
 /// What was expected, and where.
 #[derive(Debug)]
@@ -36,8 +37,6 @@ struct Reader<'a> {
     text: &'a str,
     at: usize,
 }
-
-const WORDS: [&str; 13] = ["let", "in", "case", "of", "inl", "inr", "fst", "snd", "absurd", "derelict", "discard", "copy", "as"];
 
 const ONES: [(&str, fn(Box<Term>) -> Term); 7] = [
     ("inl", Term::Inl),
@@ -84,18 +83,15 @@ impl<'a> Reader<'a> {
         }
     }
 
-    /// A name, bare or in quotes; only in quotes is a word of the language one.
+    /// A name; one that is too long is refused when it is stored.
     fn name(&mut self) -> Parsed<String> {
-        let quoted = self.takes("\"");
-        let word = self.word();
-        if word.is_empty() || word.starts_with(|c: char| c.is_ascii_digit()) || (!quoted && WORDS.contains(&word)) {
+        self.space();
+        let name = self.word();
+        if name.is_empty() || name.starts_with(|c: char| c.is_ascii_digit()) || Spelling::Name.is_word(name.as_bytes()) {
             return self.fault("a name");
         }
-        self.at += word.len();
-        if quoted {
-            self.expect("\"")?;
-        }
-        Ok(word.to_string())
+        self.at += name.len();
+        Ok(name.to_string())
     }
 
     fn boxed(&mut self) -> Parsed<Box<Term>> {
@@ -143,8 +139,7 @@ impl<'a> Reader<'a> {
         if self.takes("(") {
             return self.bracketed();
         }
-        let start = self.at;
-        self.name().map(Term::Var).map_err(|fault| if fault.at == start { Fault { expected: "a term", ..fault } } else { fault })
+        self.name().map(Term::Var).map_err(|fault| Fault { expected: "a term", ..fault })
     }
 
     /// After `let`: `(X, Y) = E in B`.
@@ -202,6 +197,7 @@ impl<'a> Reader<'a> {
 #[cfg(test)]
 mod tests {
     use super::term;
+    use patch_model::names::WORDS;
 
     /// What is printed is read as the same term, but for Discard.
     #[test]
@@ -230,13 +226,23 @@ mod tests {
     }
 
     #[test]
-    fn names_in_quotes_may_be_any() {
-        for word in super::WORDS.into_iter().chain(["x", "_1"]) {
-            let text = format!("let (\"{word}\", y) = \"{word}\" in (y \"{word}\")");
-            assert_eq!(term(&text).unwrap().pretty(), text.replace('"', ""));
+    fn words_are_no_names() {
+        for word in WORDS {
+            let shown = |text: String| term(&text).unwrap_err().shown_in(&text);
+            assert_eq!(shown(format!("\\{word}. x")), format!("\\{word}. x\n ^ expected a name"));
+            assert_eq!(shown(format!("let (x, {word}) = a in b")), format!("let (x, {word}) = a in b\n        ^ expected a name"));
+            for text in [word.to_string(), format!("(x {word})"), format!("\"{word}\""), format!("copy a as ({word}, y) in b")] {
+                assert!(term(&text).is_err(), "{text}");
+            }
         }
-        assert_eq!(term("(\"in\" in)").unwrap_err().shown_in("(\"in\" in)"), "(\"in\" in)\n      ^ expected a term");
-        assert_eq!(term("\"let").unwrap_err().shown_in("\"let"), "\"let\n    ^ expected \"");
+    }
+
+    #[test]
+    fn nearly_a_word_is_a_name() {
+        for name in ["In", "IN", "in1", "inn", "in_", "_in", "le", "lets", "x", "_1"] {
+            let text = format!("let ({name}, y) = {name} in (y {name})");
+            assert_eq!(term(&text).unwrap().pretty(), text);
+        }
     }
 
     #[test]

@@ -8,30 +8,32 @@ use patch_model::stored::{blocks, seal};
 /// Which refusals each call can give.
 #[cfg(test)]
 pub const GIVEN: [(Call, &[u64]); 19] = [
-    (Call::CheckTerm, &[2, 3, 4, 5, 6, 7]),
-    (Call::CheckFormula, &[2, 3, 4, 5, 6, 7]),
-    (Call::CheckProof, &[2, 3, 4, 5, 6, 7]),
-    (Call::IsNormal, &[2, 3, 4, 5, 6, 7]),
-    (Call::IsStraight, &[2, 3, 4, 5, 6, 7]),
-    (Call::ChildFault, &[2, 3, 4, 5, 6, 7, 14]),
-    (Call::Child, &[2, 3, 4, 5, 6, 7, 14]),
-    (Call::FreeVars, &[1, 2, 3, 4, 5, 6, 7]),
-    (Call::TermText, &[1, 2, 3, 4, 5, 6, 7]),
-    (Call::FormulaText, &[1, 2, 3, 4, 5, 6, 7]),
-    (Call::StoreTerm, &[1, 2, 3, 4, 5, 6, 7]),
-    (Call::StoreProof, &[1, 2, 3, 4, 5, 6, 7]),
-    (Call::LoadTerm, &[1, 3, 4, 5, 6, 7, 10, 11, 12, 13]),
-    (Call::LoadProof, &[1, 3, 4, 5, 6, 7, 10, 11, 12, 13]),
-    (Call::Substitute, &[1, 2, 3, 4, 5, 6, 7, 8]),
-    (Call::Step, &[1, 2, 3, 4, 5, 6, 7, 8]),
-    (Call::NormalizeBounded, &[1, 2, 3, 4, 5, 6, 7, 8]),
-    (Call::Extract, &[1, 2, 3, 4, 5, 6, 7, 8, 9]),
-    (Call::Extractor, &[1, 2, 3, 4, 5, 6, 7, 8, 9]),
+    (Call::CheckTerm, &[2, 3, 4, 5, 6, 7, 15]),
+    (Call::CheckFormula, &[2, 3, 4, 5, 6, 7, 15]),
+    (Call::CheckProof, &[2, 3, 4, 5, 6, 7, 15]),
+    (Call::IsNormal, &[2, 3, 4, 5, 6, 7, 15]),
+    (Call::IsStraight, &[2, 3, 4, 5, 6, 7, 15]),
+    (Call::ChildFault, &[2, 3, 4, 5, 6, 7, 14, 15]),
+    (Call::Child, &[2, 3, 4, 5, 6, 7, 14, 15]),
+    (Call::FreeVars, &[1, 2, 3, 4, 5, 6, 7, 15]),
+    (Call::TermText, &[1, 2, 3, 4, 5, 6, 7, 15]),
+    (Call::FormulaText, &[1, 2, 3, 4, 5, 6, 7, 15]),
+    (Call::StoreTerm, &[1, 2, 3, 4, 5, 6, 7, 15]),
+    (Call::StoreProof, &[1, 2, 3, 4, 5, 6, 7, 15]),
+    (Call::LoadTerm, &[1, 3, 4, 5, 6, 7, 10, 11, 12, 13, 15]),
+    (Call::LoadProof, &[1, 3, 4, 5, 6, 7, 10, 11, 12, 13, 15]),
+    (Call::Substitute, &[1, 2, 3, 4, 5, 6, 7, 8, 15]),
+    (Call::Step, &[1, 2, 3, 4, 5, 6, 7, 8, 15]),
+    (Call::NormalizeBounded, &[1, 2, 3, 4, 5, 6, 7, 8, 15]),
+    (Call::Extract, &[1, 2, 3, 4, 5, 6, 7, 8, 9, 15]),
+    (Call::Extractor, &[1, 2, 3, 4, 5, 6, 7, 8, 9, 15]),
 ];
 
-/// One input for each of 2 to 7: a node with one part, one without, one with a name, a tag that is not listed, and the most nodes.
+/// One input for each of 2 to 7 and 15: a node with one part, one without, one with a name, a tag that is not listed, and the most nodes.
 fn bad(one: u8, leaf: u8, named: u8, unlisted: u8, nodes: usize) -> Vec<Vec<u8>> {
-    vec![vec![leaf; 4097], vec![one], vec![one, unlisted], vec![named, 1, b'7'], [vec![one; nodes], vec![leaf]].concat(), vec![leaf, leaf]]
+    let too_many = [vec![one; nodes], vec![leaf]].concat();
+    let word = vec![one, named, 2, b'i', b'n'];
+    vec![vec![leaf; 4097], vec![one], vec![one, unlisted], vec![named, 1, b'7'], too_many, vec![leaf, leaf], word]
 }
 
 fn bad_terms() -> Vec<Vec<u8>> {
@@ -43,8 +45,13 @@ fn bad_formulas() -> Vec<Vec<u8>> {
 }
 
 fn bad_proofs() -> Vec<Vec<u8>> {
-    vec![vec![3; 4097], vec![], vec![3, 0, 4], vec![3, 1, 1, 17], [[4, 0, 1].repeat(512), vec![3, 0, 0]].concat(), vec![3, 0, 0, 3]]
+    let too_many = [[4, 0, 1].repeat(512), vec![3, 0, 0]].concat();
+    vec![vec![3; 4097], vec![], vec![3, 0, 4], vec![3, 1, 1, 17], too_many, vec![3, 0, 0, 3], WORD_IN_LIST.to_vec()]
 }
+
+/// A word in a list, and in a Cut.
+const WORD_IN_LIST: [u8; 7] = [3, 1, 2, 2, b'O', b'f', 0];
+const WORD_IN_CUT: [u8; 13] = [2, 1, 2, b'i', b'n', 0, 2, 3, 0, 0, 3, 0, 0];
 
 /// Whatever is lent one byte too short, before any fault of the input.
 fn short(list: &mut List, call: Call, input: &[u8]) {
@@ -83,7 +90,7 @@ fn substitution(list: &mut List) {
     for value in &bad_terms()[1..] {
         list.put(put(b"x", value));
     }
-    for name in [&b""[..], b"7x", b"x-", &[b'x'; 25], b"_"] {
+    for name in [&b""[..], b"7x", b"x-", &[b'x'; 25], b"_", b"in", b"In"] {
         list.put(put(name, &[2]));
     }
     list.put(put(b"x", &[vec![14; 300], vec![2]].concat()));
@@ -141,11 +148,12 @@ fn files(list: &mut List, call: Call, kind: u8, good: &[u8], bad: &[Vec<u8>]) {
     }
 }
 
-/// The second extraction goes on from where the first one was refused.
+/// The second extraction goes on from where the first one was refused; refused too, it leaves all as it was.
 fn extractors(list: &mut List) {
     for proof in bad_proofs() {
         list.put(Case::new(Call::Extractor, &[&proof, &p10()]).with(7));
     }
+    list.put(Case::new(Call::Extractor, &[&WORD_IN_LIST, &WORD_IN_CUT]).with(7));
     list.put(Case::new(Call::Extract, &[&tower()]));
     list.put(Case::new(Call::Extract, &[&tower()]).with(100_000_000));
 }
