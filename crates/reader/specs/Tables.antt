@@ -1,6 +1,6 @@
--- The tables of `classes` are right: a test at each byte, which antt computes.
+-- The tables of `class` are right: a test at each byte, which antt computes.
 -- Assumes nothing.
-use Prim.Native.Nat.{ℕ, zero, suc, _+_, _*_, _/_, _%_, _^_, _<_, _≤_}
+use Prim.Native.Nat.{ℕ, zero, suc, _+_, _-_, _*_, _/_, _%_, _^_, _<_, _≤_}
 use native.Mathlib.Nat.{add-zero, zero-add, add-suc, suc-add, le-of-suc-le-suc, not-suc-le-zero, mul-comm, div-div-eq-div-mul}
 use native.Mathlib.Omega.{arith}
 use mathlib.Core.Path.{_≡_, refl, sym, ap, _∙_}
@@ -20,9 +20,13 @@ use Rattle.laws.specs.reading.Words.{every as everyOf, word-is}
 use Rattle.reader.specs.Form.{layoutOf, Term, Formula}
 use Rattle.reader.specs.Classes.{Letters, startsOf, Alphabet, Classes, codeAt}
 
--- a letter that leads names of 1 to 24 letters
-abbrev letter : ℕ
-letter = 2147483552
+-- a letter that leads names of each length
+abbrev pub letter : ℕ
+letter = 32 + 128 * 2 ^ nameMost - 128
+
+-- names of n letters
+abbrev ofLength : ℕ → ℕ
+ofLength n = 64 * 2 ^ n
 
 -- digits, letters and `_` put into a table
 unfoldable pub lettersIn : Bytes → Bytes
@@ -31,7 +35,7 @@ lettersIn t = sets (sets (sets (sets t 48 (replicate 10 32)) 65 (replicate 26 le
 -- the letters that begin a word, counted from an `a` on
 unfoldable pub beginningsIn : Bytes → (a : ℕ) → Bytes
 beginningsIn t a =
-    set (set (set (set (set (set (set (set t a 2147479200) (a + 2) 2147482528) (a + 3) 2147458976) (a + 5) 2147483040) (a + 8) 2147482784) (a + 11) 2147483040) (a + 14) 2147483296) (a + 18) 2147483040
+    set (set (set (set (set (set (set (set t a (letter - ofLength 2 - ofLength 6)) (a + 2) (letter - ofLength 4)) (a + 3) (letter - ofLength 7 - ofLength 8)) (a + 5) (letter - ofLength 3)) (a + 8) (letter - ofLength 2 - ofLength 3)) (a + 11) (letter - ofLength 3)) (a + 14) (letter - ofLength 2)) (a + 18) (letter - ofLength 3)
 
 unfoldable pub letterTable : Bytes
 letterTable = beginningsIn (lettersIn (replicate 256 0)) 97

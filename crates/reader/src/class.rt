@@ -45,20 +45,20 @@ const PART: u32 = 8;
 
 const DIGIT: u32 = 32;
 
-// It leads names of 1 to 24 letters.
-const LETTER: u32 = DIGIT + 2147483520;
+// It leads names of each length, from one letter to the most.
+const LETTER: u32 = DIGIT + (128 << LONGEST_NAME) - 128;
 
-const OF_TWO: u32 = 256;
+const OF_TWO: u32 = 64 << 2;
 
-const OF_THREE: u32 = 512;
+const OF_THREE: u32 = 64 << 3;
 
-const OF_FOUR: u32 = 1024;
+const OF_FOUR: u32 = 64 << 4;
 
-const OF_SIX: u32 = 4096;
+const OF_SIX: u32 = 64 << 6;
 
-const OF_SEVEN: u32 = 8192;
+const OF_SEVEN: u32 = 64 << 7;
 
-const OF_EIGHT: u32 = 16384;
+const OF_EIGHT: u32 = 64 << 8;
 
 // In the order of the tags, from 0 on.
 const TERM_TAGS: [u32; 18] = [

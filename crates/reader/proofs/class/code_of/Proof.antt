@@ -1,4 +1,4 @@
--- `classes::code_of` meets its contract: the table says so. Assumes nothing.
+-- `class::code_of` meets its contract: the table says so. Assumes nothing.
 use native.Mathlib.Omega.{arith}
 use borrow.Author.Needs.{needs}
 use Rattle.reader.proofs.class.code_of.Statement.{statement}

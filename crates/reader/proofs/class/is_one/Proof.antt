@@ -1,4 +1,4 @@
--- `classes::is_one` meets its contract: the table says so. Assumes nothing.
+-- `class::is_one` meets its contract: the table says so. Assumes nothing.
 use Prim.Native.Nat.{_%_}
 use native.Mathlib.Omega.{arith}
 use mathlib.Core.Path.{sym, ap, _∙_}

@@ -1,4 +1,4 @@
--- `classes::letter_table` meets its contract: letters put into zeros, and those that begin a word. Assumes nothing.
+-- `class::letter_table` meets its contract: letters put into zeros, and those that begin a word. Assumes nothing.
 use mathlib.Core.Path.{ap, _∙_}
 use Rattle.reader.specs.Tables.{beginningsIn, letterTable}
 use borrow.Author.Needs.{needs}

@@ -1,4 +1,4 @@
--- `classes::mark` meets its contract: what is left to write makes up the whole. Assumes nothing.
+-- `class::mark` meets its contract: what is left to write makes up the whole. Assumes nothing.
 use Prim.Native.Nat.{_-_}
 use native.Mathlib.Omega.{arith}
 use mathlib.Core.Path.{_≡_, refl}

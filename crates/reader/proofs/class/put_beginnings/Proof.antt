@@ -1,4 +1,4 @@
--- `classes::put_beginnings` meets its contract: it is marked as the definition has it. Assumes nothing.
+-- `class::put_beginnings` meets its contract: it is marked as the definition has it. Assumes nothing.
 use mathlib.Core.Path.{refl}
 use Rattle.reader.specs.Tables.{beginningsIn}
 use borrow.Author.Needs.{needs}

@@ -1,4 +1,4 @@
--- `classes::put_tags` meets its contract: what is left to write makes up the whole. Assumes nothing.
+-- `class::put_tags` meets its contract: what is left to write makes up the whole. Assumes nothing.
 use Prim.Native.Nat.{_-_}
 use native.Mathlib.Omega.{arith}
 use mathlib.Core.Path.{_≡_, refl}

@@ -1,4 +1,4 @@
--- `classes::starts` meets its contract: it is the bit that the definition looks at. Assumes nothing.
+-- `class::starts` meets its contract: it is the bit that the definition looks at. Assumes nothing.
 use native.Mathlib.Omega.{arith}
 use borrow.Author.Needs.{needs}
 use Rattle.reader.proofs.class.starts.Statement.{statement}

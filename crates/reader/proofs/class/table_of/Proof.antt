@@ -1,4 +1,4 @@
--- `classes::table_of` meets its contract: the tables are right. Assumes nothing.
+-- `class::table_of` meets its contract: the tables are right. Assumes nothing.
 use Rattle.reader.specs.Tables.{term-classes, formula-classes}
 use borrow.Author.Needs.{needs}
 use Rattle.reader.proofs.class.table_of.Statement.{statement}
