@@ -24,8 +24,10 @@ use crate::tag::FORMULA;
 use crate::tag::INDEX;
 use crate::tag::NOTHING;
 use crate::tag::carried_by;
-use reader::ahead::go_ahead;
+use reader::ahead::last_pair;
+use reader::ahead::name_end;
 use reader::class::Form;
+use reader::class::code_of;
 use reader::class::follows;
 use reader::letters::count_letters;
 use rules::MOST_FORMULA_NODES;
@@ -90,31 +92,48 @@ fn go_index(s: &[u8], t: &[u32; 256], from: Gone) -> Gone
     go_byte(s, t, high)
 }
 
-// Over n formulas. A count follows them.
+// Over n formulas: `left` of their nodes are known and not yet met. A count follows them.
 fn go_formulas(s: &[u8], t: &[u32; 256], from: Gone, n: usize) -> Gone
     requires { ⌜ Classes formulaLayout (now t) ⌝ }
     requires { ⌜ Near (now s) from ⌝ }
     requires { ⌜ n ≤ 65536 ⌝ }
     ensures { λ r. ⌜ (0 < r .reached .next → Goes (now (s .entry)) from r (seen (found (rowOf asked n) (now (s .entry)) (from .reached)) ≡ To (r .reached))) ⌝ }
 {
-    if n == 0 {
-        return from;
+    let stop = last_pair(s.len());
+    let mut next = from.reached.next;
+    let mut formulas = from.reached.formulas;
+    let mut taken = from.taken;
+    let mut left = n;
+    while 0 < left {
+        if stop <= next {
+            return stopped();
+        }
+        let code = code_of(Form::Formula, t, s[next]);
+        if code == 0 {
+            return stopped();
+        }
+        let first = next + 1;
+        next = first;
+        if code / 2 % 4 == 1 {
+            next = name_end(s, Form::Formula, t, first, false);
+            if next == 0 {
+                return stopped();
+            }
+            taken += next - first - 1;
+        }
+        formulas += 1;
+        left = left - 1 + code / 8;
     }
-    let at = from.reached.next;
-    let gone = go_ahead(s, Form::Formula, t, at, s.len(), n);
-    if gone.met < gone.known {
-        return stopped();
-    }
-    if s.len() <= gone.next {
+    if s.len() <= next {
         return stopped();
     }
     Gone {
         reached: Reached {
-            next: gone.next,
+            next,
             rules: from.reached.rules,
-            formulas: from.reached.formulas + gone.met,
+            formulas,
         },
-        taken: from.taken + (gone.next - at - (gone.met + gone.names)),
+        taken,
     }
 }
 

@@ -1,6 +1,6 @@
 -- Going ahead over one part of a proof and then over the next, over a byte, over formulas and over a rule's own part: the letters add up, and no tag is one.
 -- Assumes nothing.
-use Prim.Native.Nat.{ℕ, _+_, _-_, _<_, _≤_}
+use Prim.Native.Nat.{ℕ, _+_, _-_, _*_, _/_, _%_, _<_, _≤_}
 use native.Mathlib.Omega.{arith}
 use mathlib.Core.Path.{_≡_, refl, sym, ap, _∙_}
 use mathlib.Core.Bool.{Bool, true, false, not, _||_}
@@ -8,22 +8,28 @@ use lib.ListN.{length, getD}
 use borrow.Author.Tests.{eqb-true}
 use Rattle.rules.specs.Basic.{Bytes, _==_}
 use Rattle.rules.specs.Limits.{limits}
-use Rattle.rules.specs.Name.{leads, follows}
+use Rattle.rules.specs.Name.{nameMost, leads, follows}
 use Rattle.rules.specs.Layout.{headAt}
 use Rattle.rules.specs.Formula.{formulas}
 use Rattle.rules.specs.Proof.{ruleHeads}
 use Rattle.rules.specs.Reading.{node}
 use Rattle.laws.specs.Below.{below}
 use Rattle.reader.specs.Letters.{one, lettersFrom}
-use Rattle.reader.specs.Count.{Gone as NodesGone}
+use Rattle.reader.specs.declared.class.Form.the-variants.{Formula}
+use Rattle.reader.specs.declared.class.Read.the-variants.{Whole}
+use Rattle.reader.specs.Classes.{codeAt}
+use Rattle.reader.specs.Count.{NameTo, NamesTo, Gone as NodesGone}
+use Rattle.reader.proofs.ahead.Named.{none-to, one-to}
+use Rattle.reader.proofs.ahead.Further.{begun, same-gone, gone-more, short}
+use Rattle.reader.proofs.class.Coded.{one-name, Coded, coded}
 use Rattle.reader.proofs.class.Views.{times-none}
-use Rattle.reader.proofs.letters.Counts.{count-none, count-next, count-split}
-use Rattle.proof.specs.Seen.{Reached, Tag, To, Plain, Cut, Focus, pastByte, pastTag, seen, found, carriedBy}
+use Rattle.reader.proofs.letters.Counts.{one-most, count-none, count-next, count-split}
+use Rattle.proof.specs.Seen.{Tag, To, Plain, Cut, Focus, pastByte, pastTag, seen, found, carriedBy}
 use Rattle.proof.specs.Stages.{rowOf, indexOf, ownOf, linearOf}
 use Rattle.proof.specs.Ahead.{Gone, asked, Near, Goes, ByteOn}
 use Rattle.proof.proofs.conclusion.Bytes.{index-in, linear-in}
 use Rattle.proof.proofs.conclusion.Owns.{own-plain, own-cut, own-focus}
-use Rattle.proof.proofs.conclusion.Rows.{afterRules, row-none, row-seen}
+use Rattle.proof.proofs.conclusion.Rows.{afterRules, row-seen}
 use Rattle.proof.proofs.tag.Tags.{shown, known, tag-is, Headed, headed}
 
 -- ---- one part and then the next
@@ -58,10 +64,6 @@ one-counted : (s : Bytes) (p q : ℕ) → q ≡ p + 1 → lettersFrom s p (q - p
 one-counted s p q e =
     let z : q - p ≡ 1 = omega arith in
     ap (λ (n : ℕ). lettersFrom s p n) z ∙ count-next s p 0 1 refl ∙ ap (λ (n : ℕ). one (follows (getD s p 0)) + n) (count-none s (p + 1)) ∙ omega arith
-
-one-most : (b : Bool) → one b ≤ 1
-one-most true = omega arith
-one-most false = omega arith
 
 module _ (s : Bytes) (from to : Gone) (near : Near s from) (there : from .reached .next < length s) where
   -- it counts as a letter if it is one; it may be a rule's tag
@@ -107,46 +109,80 @@ module _ (s : Bytes) (from mid to : Gone) (near : Near s from) (b : ByteOn s fro
 
 -- ---- formulas in a row
 
+-- some nodes of n formulas were met, and so many known ones were not
+pub record FormulasOn (s : Bytes) (from : Gone) (n next count taken left : ℕ) : Type 0 where
+  pub met : ℕ
+  pub names : ℕ
+  pub gone : NodesGone formulas s (from .reached .next) n next met (met + left) names
+  pub counted : count ≡ from .reached .formulas + met
+  pub summed : from .reached .next + (met + names) + taken ≡ next + from .taken
+  pub close : next ≤ length s + 60
+
 module _ (s : Bytes) (from : Gone) (near : Near s from) (n : ℕ) where
-  pub over-none : n ≡ 0 → Goes s from from (seen (found (rowOf asked n) s (from .reached)) ≡ To (from .reached))
-  over-none z =
-      let p = from .reached .next in
-      let e : p - p ≡ 0 = omega arith in
-      let c : lettersFrom s p (p - p) ≡ 0 = ap (λ (k : ℕ). lettersFrom s p k) e ∙ count-none s p in
-      record {
-        near = near;
-        onward = omega arith;
-        ruled = omega arith;
-        formed = omega arith;
-        few = omega (arith, c);
-        reads = λ r k l. row-none s (record { rules = limits .rules; formulas = limits .formulas }) (from .reached) n z;
-      }
+  pub row-begun : FormulasOn s from n (from .reached .next) (from .reached .formulas) (from .taken) n
+  row-begun = record { met = 0; names = 0; gone = same-gone formulas s (from .reached .next) n refl refl (omega arith) refl (begun formulas s (from .reached .next) n); counted = omega arith; summed = omega arith; close = omega (arith, near .inside) }
 
-  module _ {r met known names : ℕ} (g : NodesGone formulas s (from .reached .next) n r met known names) (done : known ≤ met) (inside : r < length s) where
+  module _ {next count taken left : ℕ} (w : FormulasOn s from n next count taken left) where
     abbrev after : Gone
-    after = record {
-      reached = record { next = r; rules = from .reached .rules; formulas = from .reached .formulas + met };
-      taken = from .taken + (r - from .reached .next - (met + names));
-    }
+    after = record { reached = record { next = next; rules = from .reached .rules; formulas = count }; taken = taken }
 
-    all-letters : (a l k : ℕ) → a + l ≡ a + k → l ≡ k
-    all-letters a l k e = omega arith
+    -- where as many are letters as were taken for letters
+    all-letters : (l : ℕ) → from .taken + l ≡ taken → l ≡ next - from .reached .next - (w .met + w .names)
+    all-letters l e = omega (arith, w .summed)
 
-    pub over-row : Goes s from after (seen (found (rowOf asked n) s (from .reached)) ≡ To (after .reached))
-    over-row =
-        let p = from .reached .next in
+    pub over-row : left ≤ 0 → next < length s → Goes s from after (seen (found (rowOf asked n) s (from .reached)) ≡ To (after .reached))
+    over-row done inside =
+        let g = w .gone in
         record {
-          near = record { short = near .short; inside = omega arith; ruled = omega (arith, near .ruled, g .past); formed = omega (arith, near .formed, g .past); lettered = omega (arith, near .lettered, g .past) };
+          near = record { short = near .short; inside = omega arith; ruled = omega (arith, near .ruled, g .past); formed = omega (arith, near .formed, g .past, w .counted); lettered = omega (arith, near .lettered, w .summed, g .past) };
           onward = omega (arith, g .past);
           ruled = omega arith;
-          formed = omega arith;
-          few = omega (arith, g .few);
+          formed = omega (arith, w .counted);
+          few = omega (arith, g .few, w .summed, g .past);
           reads = λ i k e.
               row-seen s (record { rules = limits .rules; formulas = limits .formulas }) (from .reached) n
               ∙ ap (afterRules (from .reached .rules))
-              (g .reads (limits .formulas) (from .reached .formulas) (λ z. k) (omega arith) (all-letters _ _ _ e)
-              ∙ times-none (node formulas (limits .formulas) (limits .formulas)) (known - met) (from .reached .formulas + met) r _ (omega arith));
+              (g .reads (limits .formulas) (from .reached .formulas) (λ z. omega (arith, w .counted)) (omega arith) (all-letters _ e)
+              ∙ times-none (node formulas (limits .formulas) (limits .formulas)) (w .met + left - w .met) (from .reached .formulas + w .met) next _ (omega arith)
+              ∙ ap (λ u. Whole next u) (sym (w .counted)));
         }
+
+    -- one node more, which has one name at most
+    module _ (waits : 0 < left) (inside : next < length s) (code : ℕ) (is : code ≡ codeAt formulas (headAt (formulas .heads) (getD s next 0))) (ne : code ≡ 0 → ⊥) where
+      node-coded : Coded Formula (headAt (formulas .heads) (getD s next 0)) code
+      node-coded = coded Formula (headAt (formulas .heads) (getD s next 0)) code is ne
+
+      pub parts-few : code / 8 ≤ 3
+      parts-few = node-coded .few
+
+      no-name : (code / 2 % 4 ≡ 1 → ⊥) → code / 2 % 4 ≡ 0
+      no-name h = let a : code / 2 % 4 ≤ 1 = rw (node-coded .names) (one-name (node-coded .head)) in omega (arith, a, h)
+
+      more-names : (k q : ℕ) → k ≡ code / 2 % 4 → k ≤ 1 → NamesTo s (formulas .spelling) (next + 1) k q → FormulasOn s from n q (count + 1) (taken + (q - (next + 1) - k)) (left - 1 + code / 8)
+      more-names k q ek few t =
+          record {
+            met = w .met + 1;
+            names = w .names + k;
+            gone = same-gone formulas s (from .reached .next) n refl refl (regrouped (w .met) left (code / 8) waits) refl
+                (gone-more Formula s (from .reached .next) n next (w .met) (w .met + left) (w .names) (w .gone) (omega arith) inside code is ne k ek (code / 8) refl q t);
+            counted = omega (arith, w .counted);
+            summed = omega (arith, w .summed, t .past);
+            close = ends-close next q (length s) k inside few (t .near);
+          }
+        where
+          regrouped : (m l p : ℕ) → 0 < l → m + 1 + (l - 1 + p) ≡ m + l + p
+          regrouped m l p h = omega arith
+
+          ends-close : (a q l k : ℕ) → a < l → k ≤ 1 → q ≤ a + 1 + (nameMost + 1) * k → q ≤ l + 60
+          ends-close a q l k h i e = omega arith
+
+      pub row-named : (q : ℕ) → code / 2 % 4 ≡ 1 → NameTo s (formulas .spelling) (next + 1) q → FormulasOn s from n q (count + 1) (taken + (q - (next + 1) - 1)) (left - 1 + code / 8)
+      row-named q e t = more-names 1 q (sym e) (omega arith) (one-to s (formulas .spelling) (next + 1) q (short Formula) t)
+
+      pub row-nameless : (code / 2 % 4 ≡ 1 → ⊥) → FormulasOn s from n (next + 1) (count + 1) taken (left - 1 + code / 8)
+      row-nameless h =
+          let z : taken + (next + 1 - (next + 1) - 0) ≡ taken = omega arith in
+          rw z at (more-names 0 (next + 1) (sym (no-name h)) (omega arith) (none-to s (formulas .spelling) (next + 1)))
 
 -- ---- a rule's own part
 

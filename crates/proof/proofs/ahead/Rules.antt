@@ -12,7 +12,7 @@ use Rattle.reader.proofs.letters.Counts.{low, count-none}
 use Rattle.proof.specs.Seen.{Reached, To, Before, reachedAt, pastByte, seen, found, countSeen}
 use Rattle.proof.specs.Stages.{ownOf, linearOf, topOf}
 use Rattle.proof.specs.OneNumber.{Far}
-use Rattle.proof.specs.Ahead.{Gone, asked, start, Near, Goes}
+use Rattle.proof.specs.Ahead.{Gone, asked, start, Goes}
 use Rattle.proof.proofs.conclusion.Bytes.{count-in}
 use Rattle.proof.proofs.conclusion.Views.{came, many-none, many-one, many-on}
 use Rattle.proof.proofs.conclusion.Ways.{steady-own, steady-linear}
