@@ -154,10 +154,8 @@ pub fn go_ahead(s: &[u8], form: Form, t: &[u32; 256], at: usize, end: usize, n: 
     stopped(next, met, known, names)
 }
 
-// The most bytes that are gone over at once, and the fewest for which that pays.
+// The most bytes that are gone over at once.
 const MOST_AHEAD: usize = 65536;
-
-const FEWEST_AHEAD: usize = 64;
 
 // Whether all that was taken for letters is letters, within the bytes and the nodes that there may be.
 pub fn holds(s: &[u8], at: usize, gone: Ahead, room: usize) -> bool
@@ -198,7 +196,7 @@ pub fn read_row(
     requires { ⌜ (most ≤ 65536) × (n ≤ 65536) ⌝ }
     ensures { λ r. ⌜ r ≡ view (times (node (layoutOf form) most most) n used at (drop at (now (s .entry)))) ⌝ }
 {
-    if room_for(s.len(), at) < FEWEST_AHEAD {
+    if s.len() <= at {
         return node::read_row(s, form, t, at, used, most, n);
     }
     let end = end_within(s, at, MOST_AHEAD);

@@ -18,7 +18,7 @@ pub fn bad(number: u8, place: usize) -> Read
     Read::Bad { number, place }
 }
 
-// How many are left of the most, as nodes that may still be met.
+// How many nodes may still be met.
 pub fn room_for(most: usize, used: usize) -> usize
     ensures { λ r. ⌜ r ≡ most - used ⌝ }
 {
