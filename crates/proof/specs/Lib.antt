@@ -1,6 +1,5 @@
 pub mod Seen
 pub mod Stages
-pub mod Ahead
 pub mod Accepted
 pub mod OneNumber
 pub mod Place

@@ -5,7 +5,8 @@ ghost use Rattle.rules.specs.Refusal.{mapped, answered};
 ghost use Rattle.rules.specs.Proof.{rules as ruleCount};
 ghost use Rattle.rules.specs.Reading.{readProof};
 ghost use Rattle.rules.specs.Calls.{checkProofCall};
-use ahead::read_proof;
+use one_number::told;
+use premises::read_rule;
 use reached::Reading;
 use reached::at_end;
 use reader::class::Form;
@@ -14,7 +15,6 @@ use reader::refused;
 use rules::Answer;
 use rules::MOST_BYTES;
 
-mod ahead;
 pub mod conclusion;
 mod one_number;
 mod premises;
@@ -30,7 +30,7 @@ pub fn proof_input(s: &[u8], input: u8) -> Answer
         return refused(2, MOST_BYTES, input);
     }
     let t = table_of(Form::Formula);
-    match read_proof(s, &t) {
+    match told(read_rule(&s, &t, 0, 0, 0)) {
         Reading::To(end) => at_end(end, s.len(), input),
         Reading::Fault { number, place } => refused(number, place, input),
     }

@@ -17,7 +17,7 @@ pub enum Tag {
 // The same as a number.
 const NO_RULE: u8 = 0;
 
-pub const NOTHING: u8 = 1;
+const NOTHING: u8 = 1;
 
 pub const FORMULA: u8 = 2;
 

@@ -48,7 +48,7 @@ pub fn stopped(next: usize, met: usize, known: usize, names: usize) -> Ahead
 
 // Where the name at `at` ends, or 0 where its length or its first letter is not good or where it is a word. Quickly that is said of one that may be a
 // word too, and is no call.
-pub fn name_end(s: &[u8], form: Form, t: &[u32; 256], at: usize, quickly: bool) -> usize
+fn name_end(s: &[u8], form: Form, t: &[u32; 256], at: usize, quickly: bool) -> usize
     requires { ⌜ Alphabet (spellingOf form) (now t) ⌝ }
     requires { ⌜ at + 1 < length (now s) ⌝ }
     ensures { λ r. ⌜ (0 < r → NameTo (now (s .entry)) (spellingOf form) at r) ⌝ }

@@ -1,8 +1,7 @@
 //! The least that a row's ratio may be: what the forms that the owner names leave of speed is not to be lost by accident.
 
 /// Rows whose name begins so, from so many nodes or rules on. The first that fits counts.
-const FLOORS: [(&str, usize, f64); 18] = [
-    ("check of", 500, 0.2),
+const FLOORS: [(&str, usize, f64); 17] = [
     ("text of formulas", 1024, 6.0),
     ("text, ", 512, 8.0),
     ("free names, deep", 512, 1.0),
