@@ -1,1 +1,2 @@
 // What follows from the rules alone. Theorems, in specs/; there is no code.
+#![tactic(auto)]

@@ -1,4 +1,5 @@
 // Reads one stored term from standard input, and writes what is printed for it. All that is printed is computed by `printed`.
+#![tactic(auto)]
 use libc::{STDIN_FILENO, STDOUT_FILENO};
 use program::run::{PRINTED_ROOM, printed};
 use rules::{BLOCK_BYTES, STORED_ROOM};

@@ -1,4 +1,5 @@
 // Where a term steps: which nodes are redexes, the first one, a reading that tells that there is none.
+#![tactic(auto)]
 pub mod ahead;
 pub mod calm;
 pub mod find;

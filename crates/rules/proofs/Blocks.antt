@@ -21,11 +21,11 @@ use Rattle.rules.proofs.Notation.{equal, v, ⟨⟩, ⟨◌﹐◌⟩, ◌·◌, �
 use Rattle.rules.proofs.Called.{numbers, answers, refuses◌at◌of◌}
 
 infix 65 block◌checked◌
-infix 55 ◌stored-is◌
+infix 55 ◌stored_is◌
 infix 55 ◌opens◌⟹◌
 infix 55 program◌⟹◌
 pub data Row : Type 0 where
-  ◌stored-is◌ : (content file : Bytes) → Row
+  ◌stored_is◌ : (content file : Bytes) → Row
   ◌opens◌⟹◌ : Kind → (file : Bytes) → List ℕ → Row
   program◌⟹◌ : (stdin : Bytes) → String → Row
 

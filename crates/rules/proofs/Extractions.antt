@@ -19,9 +19,9 @@ use Rattle.rules.proofs.Notation.{equal, A, A⊥, 𝟏, by◌on◌from◌, cuts�
 infix 75 ◌▹◌
 infix 70 ◌gives◌
 infix 70 rule◌gives◌
-infix 70 ◌gives-bytes◌
+infix 70 ◌gives_bytes◌
 infix 70 ◌from◌gives◌
-infix 70 ◌from◌is-refused-by◌
+infix 70 ◌from◌is_refused_by◌
 -- a term's text, and the next counter
 pub data Answer : Type 0 where
   ◌▹◌ : (text : String) (counter : ℕ) → Answer
@@ -31,9 +31,9 @@ pub data Row : Type 0 where
   ◌gives◌ : Proof → Answer → Row
   -- a rule with none, one, two, three of these premises: `a`, `λx. x` with a new name, `⟨⟩`
   rule◌gives◌ : Rule → List Answer → Row
-  ◌gives-bytes◌ : Proof → String → Row
+  ◌gives_bytes◌ : Proof → String → Row
   ◌from◌gives◌ : Proof → (counter : ℕ) → Answer → Row
-  ◌from◌is-refused-by◌ : Proof → (counter number : ℕ) → Row
+  ◌from◌is_refused_by◌ : Proof → (counter number : ℕ) → Row
 
 abbrev pub id : Proof
 id = by Axiom on (𝟏 ∷ []) from []
@@ -95,9 +95,9 @@ unfoldable pub right : Row → Bool
 unfolding text encode nodes extract_from extract oldest axiom_name digits
 right (p gives a) = right-from 0 p a
 right (rule r gives as') = each r 0 as'
-right (p gives-bytes s) = bytes_are (hex s) (extract_from limits 0 p)
+right (p gives_bytes s) = bytes_are (hex s) (extract_from limits 0 p)
 right (p from n gives a) = right-from n p a
-right (p from n is-refused-by k) = refused_by k (extract_from limits n p)
+right (p from n is_refused_by k) = refused_by k (extract_from limits n p)
 
 -- a rule that reads its first premise: what it gives with none, and with any
 abbrev pub reads_first : Rule → (none any : Answer) → Row
@@ -130,7 +130,7 @@ table =
     ∷ passes (focus FocusNegative 65535)
     ∷ passes (plain_rule Blur)
     -- Weakening discards Unit; Contraction's names come before its premise's
-    ∷ by Weakening on [] from (id ∷ []) gives-bytes "10 02 05 02 7830 01 02 7830"
+    ∷ by Weakening on [] from (id ∷ []) gives_bytes "10 02 05 02 7830 01 02 7830"
     ∷ by Contraction on [] from (id ∷ []) gives "copy x2 as (x0, x1) in λx3. x3" ▹ 4
     -- Cut: its own name, producer, consumer, then for Tensor and Plus two more; the others apply consumer to producer
     ∷ applies A
@@ -163,9 +163,9 @@ table =
     ∷ by TensorIntro on [] from (within (A ∷ []) (A⊥ ∷ []) ∷ axiom' (A⊥ ∷ []) ∷ []) gives "((a0 ()), λx1. x1)" ▹ 2
     -- the counter after extraction may be 100,000,000 and no more
     ∷ id from 99_999_999 gives "λx99999999. x99999999" ▹ 100_000_000
-    ∷ id from 100_000_000 is-refused-by 9
+    ∷ id from 100_000_000 is_refused_by 9
     ∷ unit from 100_000_000 gives "()" ▹ 100_000_000
-    ∷ unit from 100_000_001 is-refused-by 9
+    ∷ unit from 100_000_001 is_refused_by 9
     ∷ []
 
 pub extractions-hold : wrong right table ≡ []

@@ -19,12 +19,12 @@ use Rattle.rules.specs.Extraction.{extract_from, extract, oldest, axiom_name}
 use Rattle.rules.proofs.Notation.{equal, hex, wrong}
 
 infix 70 ◌prints◌of◌
-infix 70 ◌prints-formula◌
+infix 70 ◌prints_formula◌
 infix 70 ◌gives◌next◌
 -- a term's bytes, its text, the texts of its parts; a formula's bytes and text; a proof's bytes, the text of its term, the next counter
 pub data Row : Type 0 where
   ◌prints◌of◌ : (bytes text : String) (parts : List String) → Row
-  ◌prints-formula◌ : (bytes text : String) → Row
+  ◌prints_formula◌ : (bytes text : String) → Row
   ◌gives◌next◌ : (bytes text : String) (counter : ℕ) → Row
 
 abbrev pub good_and : {A : Type 0} → Outcome A → (A → Bool) → Bool
@@ -42,7 +42,7 @@ unfolding times many byte byte_for room letters spelled name tag too_many node p
 right (s prints w of ws) =
     good_and (read_term limits 1 (hex s))
     (λ t. equal (encode t) (hex s) && (equal (text t) (say w) && (all_equal (map text (parts t)) (map say ws) && eqb (nodes t) (suc (length ws)))))
-right (s prints-formula w) = good_and (read_formula limits 1 (hex s)) (λ f. equal (encode_formula f) (hex s) && equal (text_of_formula f) (say w))
+right (s prints_formula w) = good_and (read_formula limits 1 (hex s)) (λ f. equal (encode_formula f) (hex s) && equal (text_of_formula f) (say w))
 right (s gives w next n) =
     good_and (read_proof limits 1 (hex s)) (λ p. equal (encode_proof p) (hex s) && good_and (extract_from limits 0 p) (λ r. equal (text r.0) (say w) && eqb r.1 n))
 
@@ -65,19 +65,19 @@ table =
     ∷ "0f 010165" prints "derelict e" of ("e" ∷ [])
     ∷ "10 010165 010162" prints "discard in b" of ("e" ∷ "b" ∷ [])
     ∷ "11 0178 0179 010173 010162" prints "copy s as (x, y) in b" of ("s" ∷ "b" ∷ [])
-    ∷ "01 02 4131" prints-formula "A1"
-    ∷ "02 01 41" prints-formula "A⊥"
-    ∷ "03 010141 010142" prints-formula "(A ⊗ B)"
-    ∷ "04 010141 010142" prints-formula "(A ⅋ B)"
-    ∷ "05" prints-formula "1"
-    ∷ "06" prints-formula "⊥"
-    ∷ "07 010141 010142" prints-formula "(A & B)"
-    ∷ "08 010141 010142" prints-formula "(A ⊕ B)"
-    ∷ "09" prints-formula "⊤"
-    ∷ "0a" prints-formula "0"
-    ∷ "0b 010141" prints-formula "!A"
-    ∷ "0c 010141" prints-formula "?A"
-    ∷ "0d 010141 010142" prints-formula "(A ⊸ B)"
+    ∷ "01 02 4131" prints_formula "A1"
+    ∷ "02 01 41" prints_formula "A⊥"
+    ∷ "03 010141 010142" prints_formula "(A ⊗ B)"
+    ∷ "04 010141 010142" prints_formula "(A ⅋ B)"
+    ∷ "05" prints_formula "1"
+    ∷ "06" prints_formula "⊥"
+    ∷ "07 010141 010142" prints_formula "(A & B)"
+    ∷ "08 010141 010142" prints_formula "(A ⊕ B)"
+    ∷ "09" prints_formula "⊤"
+    ∷ "0a" prints_formula "0"
+    ∷ "0b 010141" prints_formula "!A"
+    ∷ "0c 010141" prints_formula "?A"
+    ∷ "0d 010141 010142" prints_formula "(A ⊸ B)"
     ∷ "01 02 020141 010141 00" gives "a" next 0
     ∷ "02 05 00 02 030000 070000" gives "(⟨⟩ ())" next 1
     ∷ "03 00 00" gives "()" next 0

@@ -19,13 +19,13 @@ use Rattle.rules.specs.Extraction.{extract_from, extract, oldest, axiom_name}
 use Rattle.rules.proofs.Notation.{v, ⟨⟩, ⟨◌﹐◌⟩, ◌·◌, ƛ◌⇒◌, lets◌﹐◌≔◌⨟◌, copies◌⇉◌﹐◌⨟◌, A, A⊥, 𝟏, by◌on◌from◌, cuts◌from◌}
 
 infix 75 ◌∶◌
-infix 70 ◌steps-to◌
-infix 70 ◌is-normal
-infix 70 ◌comes-back-at-limit-0
+infix 70 ◌steps_to◌
+infix 70 ◌is_normal
+infix 70 ◌comes_back_at_limit_0
 infix 70 ◌gives◌after◌
 infix 70 ◌for◌turns◌into◌
 infix 70 ◌has◌nodes
-infix 70 ◌extracts◌with-counter◌
+infix 70 ◌extracts◌with_counter◌
 -- As the document shows terms: like the printed text, but with brackets round an applied Abs.
 abbrev pub bracketed : Term → Bytes → Bytes
 bracketed (abs x e) s = say "(" ‥ s ‥ say ")"
@@ -101,14 +101,14 @@ Row = List (Question × Answer)
 abbrev pub reads : Patch → Question × Answer
 reads p = (shown_of p.term, words (say p.text))
 
-abbrev pub ◌steps-to◌ : Patch → Patch → Row
-p steps-to q = reads p ∷ reads q ∷ (step_of p.term, is q.term) ∷ []
+abbrev pub ◌steps_to◌ : Patch → Patch → Row
+p steps_to q = reads p ∷ reads q ∷ (step_of p.term, is q.term) ∷ []
 
-abbrev pub ◌is-normal : Patch → Row
+abbrev pub ◌is_normal : Patch → Row
 p is_normal = reads p ∷ (step_of p.term, is_normal_term) ∷ []
 
-abbrev pub ◌comes-back-at-limit-0 : Patch → Row
-p comes-back-at-limit-0 = reads p ∷ (reduction_of 0 p.term, reduces 0 zero_counts false p.term) ∷ []
+abbrev pub ◌comes_back_at_limit_0 : Patch → Row
+p comes_back_at_limit_0 = reads p ∷ (reduction_of 0 p.term, reduces 0 zero_counts false p.term) ∷ []
 
 -- reduced with limit 1,000: as many steps, by these rules, and no step remains
 abbrev pub ◌gives◌after◌ : Patch → Patch → List Rule → Row
@@ -120,39 +120,39 @@ u for x turns p into q = reads p ∷ reads q ∷ (substitution_of x u p.term, is
 abbrev pub ◌has◌nodes : Patch → ℕ → Row
 p has n nodes = reads p ∷ (node_count_of p.term, number n) ∷ []
 
-abbrev pub ◌extracts◌with-counter◌ : Proof → Patch → ℕ → Row
-p extracts q with-counter n = reads q ∷ (extraction_of p, extracted q.term n) ∷ []
+abbrev pub ◌extracts◌with_counter◌ : Proof → Patch → ℕ → Row
+p extracts q with_counter n = reads q ∷ (extraction_of p, extracted q.term n) ∷ []
 
 abbrev pub table : List Row
 table =
     -- P1: y is caught
-    "((λx. λy. x) y)" ∶ (ƛ "x" ⇒ ƛ "y" ⇒ v "x") · v "y" steps-to "λy. y" ∶ ƛ "y" ⇒ v "y"
+    "((λx. λy. x) y)" ∶ (ƛ "x" ⇒ ƛ "y" ⇒ v "x") · v "y" steps_to "λy. y" ∶ ƛ "y" ⇒ v "y"
     -- P2: a for x, then b for y in all that results
-    ∷ "let (x, y) = (y, ()) in (x y)" ∶ lets "x" ﹐ "y" ≔ ⟨ v "y" ﹐ ⟨⟩ ⟩ ⨟ v "x" · v "y" steps-to "(() ())" ∶ ⟨⟩ · ⟨⟩
+    ∷ "let (x, y) = (y, ()) in (x y)" ∶ lets "x" ﹐ "y" ≔ ⟨ v "y" ﹐ ⟨⟩ ⟩ ⨟ v "x" · v "y" steps_to "(() ())" ∶ ⟨⟩ · ⟨⟩
     -- P3: Abort is never entered
     ∷ "absurd ((λx. x) ())" ∶ one abort ((ƛ "x" ⇒ v "x") · ⟨⟩) is_normal
     -- P4: Copy the source alone
     ∷ "copy s as (x, y) in ((λz. z) x)" ∶ copies v "s" ⇉ "x" ﹐ "y" ⨟ (ƛ "z" ⇒ v "z") · v "x" is_normal
     -- P5
-    ∷ "let (x, y) = p in fst (u, v)" ∶ lets "x" ﹐ "y" ≔ v "p" ⨟ one fst ⟨ v "u" ﹐ v "v" ⟩ steps-to "let (x, y) = p in u" ∶ lets "x" ﹐ "y" ≔ v "p" ⨟ v "u"
+    ∷ "let (x, y) = p in fst (u, v)" ∶ lets "x" ﹐ "y" ≔ v "p" ⨟ one fst ⟨ v "u" ﹐ v "v" ⟩ steps_to "let (x, y) = p in u" ∶ lets "x" ﹐ "y" ≔ v "p" ⨟ v "u"
     -- P6
-    ∷ "fst ((λx. x) (a, b))" ∶ one fst ((ƛ "x" ⇒ v "x") · ⟨ v "a" ﹐ v "b" ⟩) comes-back-at-limit-0
+    ∷ "fst ((λx. x) (a, b))" ∶ one fst ((ƛ "x" ⇒ v "x") · ⟨ v "a" ﹐ v "b" ⟩) comes_back_at_limit_0
     -- P7: 2 steps: one App, one Fst
     ∷ "fst ((λx. x) (a, b))" ∶ one fst ((ƛ "x" ⇒ v "x") · ⟨ v "a" ﹐ v "b" ⟩) gives "a" ∶ v "a" after (App ∷ Fst ∷ [])
     -- P8
     ∷ ⟨⟩ for "y" turns "λy. y" ∶ ƛ "y" ⇒ v "y" into "λy. y" ∶ ƛ "y" ⇒ v "y"
     -- P9: 9 nodes, then 6, then 3
     ∷ "(((λx. λy. (x y)) a) b)" ∶ (ƛ "x" ⇒ ƛ "y" ⇒ v "x" · v "y") · v "a" · v "b" has 9 nodes
-    ∷ "(((λx. λy. (x y)) a) b)" ∶ (ƛ "x" ⇒ ƛ "y" ⇒ v "x" · v "y") · v "a" · v "b" steps-to "((λy. (a y)) b)" ∶ (ƛ "y" ⇒ v "a" · v "y") · v "b"
+    ∷ "(((λx. λy. (x y)) a) b)" ∶ (ƛ "x" ⇒ ƛ "y" ⇒ v "x" · v "y") · v "a" · v "b" steps_to "((λy. (a y)) b)" ∶ (ƛ "y" ⇒ v "a" · v "y") · v "b"
     ∷ "((λy. (a y)) b)" ∶ (ƛ "y" ⇒ v "a" · v "y") · v "b" has 6 nodes
-    ∷ "((λy. (a y)) b)" ∶ (ƛ "y" ⇒ v "a" · v "y") · v "b" steps-to "(a b)" ∶ v "a" · v "b"
+    ∷ "((λy. (a y)) b)" ∶ (ƛ "y" ⇒ v "a" · v "y") · v "b" steps_to "(a b)" ∶ v "a" · v "b"
     ∷ "(a b)" ∶ v "a" · v "b" has 3 nodes
     -- P10: Cut on Tensor over two OneIntro, counter 0
-    ∷ cuts connective Tensor 𝟏 𝟏 from (by OneIntro on [] from [] ∷ by OneIntro on [] from [] ∷ []) extracts "let (x1, x2) = () in ()" ∶ lets "x1" ﹐ "x2" ≔ ⟨⟩ ⨟ ⟨⟩ with-counter 3
+    ∷ cuts connective Tensor 𝟏 𝟏 from (by OneIntro on [] from [] ∷ by OneIntro on [] from [] ∷ []) extracts "let (x1, x2) = () in ()" ∶ lets "x1" ﹐ "x2" ≔ ⟨⟩ ⨟ ⟨⟩ with_counter 3
     -- P11: the oldest entry
-    ∷ cuts A from (by OneIntro on [] from [] ∷ cuts A from (by OneIntro on [] from [] ∷ by Axiom on (A⊥ ∷ A ∷ []) from [] ∷ []) ∷ []) extracts "((a0 ()) ())" ∶ v "a0" · ⟨⟩ · ⟨⟩ with-counter 2
+    ∷ cuts A from (by OneIntro on [] from [] ∷ cuts A from (by OneIntro on [] from [] ∷ by Axiom on (A⊥ ∷ A ∷ []) from [] ∷ []) ∷ []) extracts "((a0 ()) ())" ∶ v "a0" · ⟨⟩ · ⟨⟩ with_counter 2
     -- P12: Axiom with One only
-    ∷ by Axiom on (𝟏 ∷ []) from [] extracts "λx0. x0" ∶ ƛ "x0" ⇒ v "x0" with-counter 1
+    ∷ by Axiom on (𝟏 ∷ []) from [] extracts "λx0. x0" ∶ ƛ "x0" ⇒ v "x0" with_counter 1
     ∷ []
 
 abbrev pub questions : Row

@@ -13,14 +13,14 @@ use Rattle.rules.specs.Substitution.{subst}
 use Rattle.rules.specs.Step.{Rule, App, Let, Case, Fst, Snd, Derelict, Copy, Discard, Stepped, normal, found, step, contract, is_normal_term}
 use Rattle.rules.proofs.Notation.{equal, v, ⟨⟩, ⟨◌﹐◌⟩, ◌·◌, ƛ◌⇒◌, lets◌﹐◌≔◌⨟◌, copies◌⇉◌﹐◌⨟◌, cases◌of◌⇒◌or◌⇒◌, number_of_rule, wrong}
 
-infix 70 ◌leaves-free◌
-infix 70 unit-for-x-in◌is◌changing◌
+infix 70 ◌leaves_free◌
+infix 70 unit_for_x_in◌is◌changing◌
 infix 70 ◌by◌to◌
 infix 70 enters◌at◌
 pub data Row : Type 0 where
-  ◌leaves-free◌ : Term → List String → Row
+  ◌leaves_free◌ : Term → List String → Row
   -- with the number of places that change
-  unit-for-x-in◌is◌changing◌ : (term result : Term) → ℕ → Row
+  unit_for_x_in◌is◌changing◌ : (term result : Term) → ℕ → Row
   -- the first step is at the root
   ◌by◌to◌ : Term → Rule → Term → Row
   -- a redex in that part is contracted, at that place; or it is not
@@ -33,9 +33,9 @@ pub data Row : Type 0 where
 abbrev pub R : Term
 R = (ƛ "z" ⇒ v "z") · v "c"
 
-abbrev pub found-is : Rule → ℕ → Term → Stepped → Bool
-found-is r p t normal = false
-found-is r p t (found r' p' h t') = eqb (number_of_rule r) (number_of_rule r') && (eqb p p' && equal (encode t) (encode t'))
+abbrev pub found_is : Rule → ℕ → Term → Stepped → Bool
+found_is r p t normal = false
+found_is r p t (found r' p' h t') = eqb (number_of_rule r) (number_of_rule r') && (eqb p p' && equal (encode t) (encode t'))
 
 abbrev pub a : Term
 a = v "a"
@@ -52,39 +52,39 @@ redexes normal? n (t ∷ ts) = if normal? t then redexes normal? (suc n) ts else
 
 unfoldable pub right : Row → Bool
 unfolding before insert union without free occurrences subst step contract encode
-right (t Leaves-free xs) = equal (encode_names (free t)) (encode_names (map say xs))
-right (unit-for-x-in t is u changing n) = equal (encode (subst (say "x") ⟨⟩ t)) (encode u) && eqb (occurrences (say "x") t) n
-right (t by r to u) = found-is r 0 u (step t)
-right (enters f at p) = found-is App p (f (v "c")) (step (f R))
+right (t leaves_free xs) = equal (encode_names (free t)) (encode_names (map say xs))
+right (unit_for_x_in t is u changing n) = equal (encode (subst (say "x") ⟨⟩ t)) (encode u) && eqb (occurrences (say "x") t) n
+right (t by r to u) = found_is r 0 u (step t)
+right (enters f at p) = found_is App p (f (v "c")) (step (f R))
 right (shuts f) = is_normal_term (step (f R))
 right (contracts f ks) = equal (redexes (λ t. is_normal_term (step (f t))) 1 samples) ks
 
 abbrev pub table : List Row
 table =
     -- each name once, ascending by bytes, a name that begins another first
-    v "x10" · v "x2" · v "x" · v "x1" · v "X" · v "_" · v "a" · v "x" Leaves-free ("X" ∷ "_" ∷ "a" ∷ "x" ∷ "x1" ∷ "x10" ∷ "x2" ∷ [])
+    v "x10" · v "x2" · v "x" · v "x1" · v "X" · v "_" · v "a" · v "x" leaves_free ("X" ∷ "_" ∷ "a" ∷ "x" ∷ "x1" ∷ "x10" ∷ "x2" ∷ [])
     -- LetPair and Copy cover their body only, Case's x its left, y its right
-    ∷ (ƛ "x" ⇒ v "x" · v "y") Leaves-free ("y" ∷ [])
-    ∷ (lets "x" ﹐ "y" ≔ v "x" · v "y" ⨟ ⟨⟩) Leaves-free ("x" ∷ "y" ∷ [])
-    ∷ (lets "x" ﹐ "y" ≔ ⟨⟩ ⨟ v "x" · v "y" · v "w") Leaves-free ("w" ∷ [])
-    ∷ (copies v "x" · v "y" ⇉ "x" ﹐ "y" ⨟ ⟨⟩) Leaves-free ("x" ∷ "y" ∷ [])
-    ∷ (copies ⟨⟩ ⇉ "x" ﹐ "y" ⨟ v "x" · v "y" · v "w") Leaves-free ("w" ∷ [])
-    ∷ (cases v "x" · v "y" of "x" ⇒ ⟨⟩ or "y" ⇒ ⟨⟩) Leaves-free ("x" ∷ "y" ∷ [])
-    ∷ (cases ⟨⟩ of "x" ⇒ v "x" · v "y" or "y" ⇒ ⟨⟩) Leaves-free ("y" ∷ [])
-    ∷ (cases ⟨⟩ of "x" ⇒ ⟨⟩ or "y" ⇒ v "x" · v "y") Leaves-free ("x" ∷ [])
-    ∷ two discard (v "b") (one promote a) Leaves-free ("a" ∷ "b" ∷ [])
+    ∷ (ƛ "x" ⇒ v "x" · v "y") leaves_free ("y" ∷ [])
+    ∷ (lets "x" ﹐ "y" ≔ v "x" · v "y" ⨟ ⟨⟩) leaves_free ("x" ∷ "y" ∷ [])
+    ∷ (lets "x" ﹐ "y" ≔ ⟨⟩ ⨟ v "x" · v "y" · v "w") leaves_free ("w" ∷ [])
+    ∷ (copies v "x" · v "y" ⇉ "x" ﹐ "y" ⨟ ⟨⟩) leaves_free ("x" ∷ "y" ∷ [])
+    ∷ (copies ⟨⟩ ⇉ "x" ﹐ "y" ⨟ v "x" · v "y" · v "w") leaves_free ("w" ∷ [])
+    ∷ (cases v "x" · v "y" of "x" ⇒ ⟨⟩ or "y" ⇒ ⟨⟩) leaves_free ("x" ∷ "y" ∷ [])
+    ∷ (cases ⟨⟩ of "x" ⇒ v "x" · v "y" or "y" ⇒ ⟨⟩) leaves_free ("y" ∷ [])
+    ∷ (cases ⟨⟩ of "x" ⇒ ⟨⟩ or "y" ⇒ v "x" · v "y") leaves_free ("x" ∷ [])
+    ∷ two discard (v "b") (one promote a) leaves_free ("a" ∷ "b" ∷ [])
     -- substitution stops in what a binder of that name covers
-    ∷ unit-for-x-in v "x" · v "x1" · v "y" is ⟨⟩ · v "x1" · v "y" changing 1
-    ∷ unit-for-x-in two discard (v "x") (one promote (v "x")) is two discard ⟨⟩ (one promote ⟨⟩) changing 2
-    ∷ unit-for-x-in ƛ "x" ⇒ v "x" is ƛ "x" ⇒ v "x" changing 0
-    ∷ unit-for-x-in ƛ "y" ⇒ v "x" is ƛ "y" ⇒ ⟨⟩ changing 1
-    ∷ unit-for-x-in lets "x" ﹐ "y" ≔ v "x" ⨟ v "x" is lets "x" ﹐ "y" ≔ ⟨⟩ ⨟ v "x" changing 1
-    ∷ unit-for-x-in lets "y" ﹐ "x" ≔ v "x" ⨟ v "x" is lets "y" ﹐ "x" ≔ ⟨⟩ ⨟ v "x" changing 1
-    ∷ unit-for-x-in copies v "x" ⇉ "x" ﹐ "y" ⨟ v "x" is copies ⟨⟩ ⇉ "x" ﹐ "y" ⨟ v "x" changing 1
-    ∷ unit-for-x-in copies v "x" ⇉ "y" ﹐ "x" ⨟ v "x" is copies ⟨⟩ ⇉ "y" ﹐ "x" ⨟ v "x" changing 1
-    ∷ unit-for-x-in copies v "x" ⇉ "y" ﹐ "z" ⨟ v "x" is copies ⟨⟩ ⇉ "y" ﹐ "z" ⨟ ⟨⟩ changing 2
-    ∷ unit-for-x-in cases v "x" of "x" ⇒ v "x" or "y" ⇒ v "x" is cases ⟨⟩ of "x" ⇒ v "x" or "y" ⇒ ⟨⟩ changing 2
-    ∷ unit-for-x-in cases v "x" of "y" ⇒ v "x" or "x" ⇒ v "x" is cases ⟨⟩ of "y" ⇒ ⟨⟩ or "x" ⇒ v "x" changing 2
+    ∷ unit_for_x_in v "x" · v "x1" · v "y" is ⟨⟩ · v "x1" · v "y" changing 1
+    ∷ unit_for_x_in two discard (v "x") (one promote (v "x")) is two discard ⟨⟩ (one promote ⟨⟩) changing 2
+    ∷ unit_for_x_in ƛ "x" ⇒ v "x" is ƛ "x" ⇒ v "x" changing 0
+    ∷ unit_for_x_in ƛ "y" ⇒ v "x" is ƛ "y" ⇒ ⟨⟩ changing 1
+    ∷ unit_for_x_in lets "x" ﹐ "y" ≔ v "x" ⨟ v "x" is lets "x" ﹐ "y" ≔ ⟨⟩ ⨟ v "x" changing 1
+    ∷ unit_for_x_in lets "y" ﹐ "x" ≔ v "x" ⨟ v "x" is lets "y" ﹐ "x" ≔ ⟨⟩ ⨟ v "x" changing 1
+    ∷ unit_for_x_in copies v "x" ⇉ "x" ﹐ "y" ⨟ v "x" is copies ⟨⟩ ⇉ "x" ﹐ "y" ⨟ v "x" changing 1
+    ∷ unit_for_x_in copies v "x" ⇉ "y" ﹐ "x" ⨟ v "x" is copies ⟨⟩ ⇉ "y" ﹐ "x" ⨟ v "x" changing 1
+    ∷ unit_for_x_in copies v "x" ⇉ "y" ﹐ "z" ⨟ v "x" is copies ⟨⟩ ⇉ "y" ﹐ "z" ⨟ ⟨⟩ changing 2
+    ∷ unit_for_x_in cases v "x" of "x" ⇒ v "x" or "y" ⇒ v "x" is cases ⟨⟩ of "x" ⇒ v "x" or "y" ⇒ ⟨⟩ changing 2
+    ∷ unit_for_x_in cases v "x" of "y" ⇒ v "x" or "x" ⇒ v "x" is cases ⟨⟩ of "y" ⇒ ⟨⟩ or "x" ⇒ v "x" changing 2
     -- the eight rules, each before any step in a part
     ∷ (ƛ "x" ⇒ v "x" · v "x") · R by App to R · R
     ∷ (lets "x" ﹐ "y" ≔ ⟨ v "y" ﹐ R ⟩ ⨟ v "x" · v "y") by Let to R · R

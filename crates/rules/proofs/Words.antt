@@ -48,7 +48,7 @@ table =
     map (name? a_word) requested ‥ map (atom? a_word) requested
     -- a name as it is, an atom in lower case
     ‥ map (name? allowed) ("Let" ∷ "In" ∷ "IN" ∷ "OF" ∷ "Derelict" ∷ [])
-    ‥ map (atom? a_word) ("Let" ∷ "In" ∷ "IN" ∷ "i_n" ∷ "OF" ∷ "o_f" ∷ "DereLict" ∷ "DISCARD" ∷ [])
+    ‥ map (atom? a_word) ("Let" ∷ "In" ∷ "IN" ∷ "iN" ∷ "OF" ∷ "oF" ∷ "DereLict" ∷ "DISCARD" ∷ [])
     -- nearly words
     ‥ map (name? allowed) ("i" ∷ "in1" ∷ "in_" ∷ "inn" ∷ "_in" ∷ "le" ∷ "lets" ∷ "absur" ∷ "derelicts" ∷ "x" ∷ [])
     ‥ map (atom? allowed) ("I" ∷ "IN1" ∷ "In_" ∷ "Inn" ∷ "_In" ∷ "LE" ∷ "Lets" ∷ "Absur" ∷ "Derelicts" ∷ "X" ∷ [])

@@ -1,4 +1,5 @@
 // What every room shares: the types in which public calls answer, the limits by name, and lower case. The rules themselves are definitions, in specs/.
+#![tactic(auto)]
 ghost use Rattle.std.specs.Prelude.{◌≡◌};
 ghost use Rattle.rules.specs.Name.{lower_of};
 ghost use Rattle.rules.specs.Stored.{kind_byte};

@@ -1,4 +1,5 @@
 // What is printed: words, names, digits.
+#![tactic(auto)]
 pub mod digit;
 pub mod name;
 pub mod word;
