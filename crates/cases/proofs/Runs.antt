@@ -48,15 +48,15 @@ readings-hold = refl
 
 -- ---- steps, extractions, a file of two blocks, and a program that is refused
 
-infix 55 step-of◌⟹◌
-infix 55 cut-on◌at◌⟹◌
-infix 55 file-of◌⟹◌
+infix 55 step_of◌⟹◌
+infix 55 cut_on◌at◌⟹◌
+infix 55 file_of◌⟹◌
 infix 55 program◌⟹◌
 pub data Run : Type 0 where
-  step-of◌⟹◌ : Term → List ℕ → Run
+  step_of◌⟹◌ : Term → List ℕ → Run
   -- Cut on an atom, with Axiom of its negation as the consumer, from a counter: the start of the extracted term
-  cut-on◌at◌⟹◌ : (atom : String) (counter : ℕ) → Bytes → Run
-  file-of◌⟹◌ : (content : Bytes) → List ℕ → Run
+  cut_on◌at◌⟹◌ : (atom : String) (counter : ℕ) → Bytes → Run
+  file_of◌⟹◌ : (content : Bytes) → List ℕ → Run
   program◌⟹◌ : Term → String → Run
 
 abbrev pub cut_upon : String → Proof
@@ -64,9 +64,9 @@ cut_upon a = cuts atom plain (say a) from (by OneIntro on [] from [] ∷ by Axio
 
 unfoldable pub runs : Run → Bool
 unfolding times many byte byte_for room letters spelled name tag too_many node proof_at whole read_term read_proof leads follows is_a_word encode nodes fits text subst step contract reduce_from extract_from extract oldest axiom_name digits step_call extract_call encode_formula encode_rule encode_formulas encode_proof weighed blocks stored open_block opened_blocks opened counts_line refusal_line patchrun
-runs (step_of_lem t ⟹ a) = equal (numbers step_numbers (step_call limits (encode t) (replicate 4096 0) (replicate 8192 0)).answer) a
+runs (step_of t ⟹ a) = equal (numbers step_numbers (step_call limits (encode t) (replicate 4096 0) (replicate 8192 0)).answer) a
 runs (cut_on x at n ⟹ s) = equal (take 8 (extract_call limits (start_call n) (encode_proof (cut_upon x)) (replicate 4096 0) (replicate 8192 0) (replicate 512 (0, 0))).output) s
-runs (file-of s ⟹ a) = equal (numbers (λ s. s) (opened limits a_term (stored a_term s))) a
+runs (file_of s ⟹ a) = equal (numbers (λ s. s) (opened limits a_term (stored a_term s))) a
 runs (program t ⟹ w) = equal (patchrun limits (stored a_term (encode t))) (say w)
 
 -- `copy !v as (x, y) in (x y)` for v of n Promotes and a Unit
@@ -75,11 +75,11 @@ copied n = copies one promote (promotes n ⟨⟩) ⇉ "x" ﹐ "y" ⨟ v "x" · v
 
 abbrev pub table : List Run
 table =
-    (step_of_lem copied 253 ⟹ answers (6 ∷ 0 ∷ 511 ∷ []))
-    ∷ (step_of_lem copied 254 ⟹ refuses 8 at 0 of 0)
+    (step_of copied 253 ⟹ answers (6 ∷ 0 ∷ 511 ∷ []))
+    ∷ (step_of copied 254 ⟹ refuses 8 at 0 of 0)
     ∷ (cut_on "A1" at 0 ⟹ hex "06 01 03 613130 02 00")
     ∷ (cut_on "A" at 10 ⟹ hex "06 01 03 613130 02 00")
-    ∷ (file-of repeat 506 (hex "0e") ‥ hex "02" ⟹ answers (repeat 506 (hex "0e") ‥ hex "02"))
+    ∷ (file_of repeat 506 (hex "0e") ‥ hex "02" ⟹ answers (repeat 506 (hex "0e") ‥ hex "02"))
     ∷ (program (ƛ "z" ⇒ v "z") · copied 254 ⟹ "refused 8 at 1\n")
     ∷ []
 

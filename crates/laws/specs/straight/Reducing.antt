@@ -49,6 +49,11 @@ least : (r : Rule) (n m : ℕ) → Loses r n m → m + 2 ≤ n
 least App n m h = omega arith
 least Let n m h = omega arith
 least Derelict n m h = omega arith
+least Case n m h = elim h [ ]
+least Fst n m h = elim h [ ]
+least Snd n m h = elim h [ ]
+least Copy n m h = elim h [ ]
+least Discard n m h = elim h [ ]
 
 small-normal : (t : Term) → nodes t ≤ 2 → (s : Stepped) → Meets (StraightStep t) s → is_normal_term s ≡ true
 small-normal t h normal m = refl
