@@ -17,7 +17,7 @@ use substitution::put::{Put, in_turn, put_in};
 
 // What a contraction made: its rule, and the nodes of the new whole. The redex's bytes up to `end` are replaced by the `size` that were
 // written; those behind stay, and are the tail of what it becomes.
-#[derive(Drop)]
+#[derive(Clone, Copy)]
 pub struct Contraction {
     pub rule: Rule,
     pub size: usize,
@@ -26,14 +26,14 @@ pub struct Contraction {
 }
 
 // Or the new whole would outgrow the limits.
-#[derive(Drop)]
+#[derive(Clone, Copy)]
 pub enum Contracted {
     Made(Contraction),
     Outgrown,
 }
 
 // A part that goes in: where it stands, and its nodes.
-#[derive(Drop)]
+#[derive(Clone, Copy)]
 pub struct Part {
     pub from: usize,
     pub end: usize,
@@ -58,7 +58,7 @@ impl Contracted {
 }
 
 // A body in which a name was found: where it stands, how many places the name has there, and the bytes of each variable that goes.
-#[derive(Drop)]
+#[derive(Clone, Copy)]
 pub struct Body {
     pub from: usize,
     pub end: usize,

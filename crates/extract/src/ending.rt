@@ -14,7 +14,7 @@ use proof_draft::put::Drafted;
 use rules::{Answer, ENTRY_ROOM, MOST_COUNTER, MOST_RULES, Refusal};
 
 // How an extraction ends: its answer, the counter after it, and how many entries of the row are set to zeros; or that it goes on.
-#[derive(Drop)]
+#[derive(Clone, Copy)]
 pub struct Ended {
     pub answer: Answer,
     pub counter: u32,

@@ -14,7 +14,7 @@ use proof_draft::entry::{CutEntry, clear_rows};
 use proof_draft::walk::draft_rule;
 use rules::{Answer, MOST_RULES};
 
-#[derive(Drop)]
+#[derive(Clone, Copy)]
 pub struct Extractor {
     pub counter: u32,
 }

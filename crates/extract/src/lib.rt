@@ -18,7 +18,7 @@ pub mod extractor;
 pub mod finish;
 
 // The bytes of the term and the counter after it; or a refusal.
-#[derive(Drop)]
+#[derive(Clone, Copy)]
 pub enum Extraction {
     Made { bytes: usize, counter: u32 },
     Refused(Refusal),

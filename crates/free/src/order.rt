@@ -7,7 +7,7 @@ ghost use Rattle.free.specs.Order.{order_of};
 use term::node;
 
 // How one name stands to another: before it, the same, or after it.
-#[derive(Drop)]
+#[derive(Clone, Copy)]
 pub enum Stands {
     Before,
     Same,

@@ -28,7 +28,7 @@ pub fn passed(s: &[u8], at: usize, row: &[u16], low: usize) -> usize
 }
 
 // Where a name goes in a row of names in order, and whether it is there already.
-#[derive(Drop)]
+#[derive(Clone, Copy)]
 pub struct Slot {
     pub at: usize,
     pub there: bool,

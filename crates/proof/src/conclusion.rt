@@ -148,7 +148,7 @@ fn read_linear(s: &[u8], t: &[u32; 256], most: Most, from: Reached) -> Reading
 }
 
 // Where the premises begin, and how many there are.
-#[derive(Drop)]
+#[derive(Clone, Copy)]
 pub enum Conclusion {
     Before { reached: Reached, premises: usize },
     Fault { number: u8, place: usize },

@@ -6,7 +6,7 @@ use reader::refused;
 use rules::Answer;
 
 // How far a reading has come: the next place, and the rules and formula nodes met so far.
-#[derive(Drop)]
+#[derive(Clone, Copy)]
 pub struct Reached {
     pub next: usize,
     pub rules: usize,
@@ -14,14 +14,14 @@ pub struct Reached {
 }
 
 // How far it has come, or a fault.
-#[derive(Drop)]
+#[derive(Clone, Copy)]
 pub enum Reading {
     To(Reached),
     Fault { number: u8, place: usize },
 }
 
 // How many rules and formula nodes a proof may have.
-#[derive(Drop)]
+#[derive(Clone, Copy)]
 pub struct Most {
     pub rules: usize,
     pub formulas: usize,

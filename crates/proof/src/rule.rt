@@ -71,7 +71,7 @@ fn past_own(s: &[u8], at: usize) -> usize
 }
 
 // A rule: its tag, where the formulas of `linear` are counted, how many premises there are, and where the first stands.
-#[derive(Drop)]
+#[derive(Clone, Copy)]
 pub struct Looked {
     pub tag: usize,
     pub linear: usize,

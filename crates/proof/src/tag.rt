@@ -6,7 +6,7 @@ ghost use Rattle.rules.specs.Reading.{tag as tag_of};
 ghost use Rattle.proof.specs.Seen.{carried_of, tag_seen};
 
 // Nothing, a formula, or an index; or a fault.
-#[derive(Drop)]
+#[derive(Clone, Copy)]
 pub enum Tag {
     Plain,
     Cut,

@@ -14,7 +14,7 @@ use proof::rule::skip_formulas;
 use term::node;
 
 // The atom, how many formulas there are from it on, and the oldest of k entries that is left for it. Where that is k none is left: the search is over, and has a name or none.
-#[derive(Drop)]
+#[derive(Clone, Copy)]
 pub struct Search {
     pub at: usize,
     pub formulas: usize,

@@ -3,7 +3,7 @@ ghost use Rattle.std.specs.Prelude.{◌≡◌, ◌<◌, ◌≤◌, length, get_o
 ghost use Rattle.proof_draft.specs.Entries.{none, zeroed};
 
 // A cut entry: the formula's place, the name's counter.
-#[derive(Drop)]
+#[derive(Clone, Copy)]
 pub struct CutEntry {
     pub place: usize,
     pub counter: u32,

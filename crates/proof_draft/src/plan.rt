@@ -43,7 +43,7 @@ const COPY: usize = 11;
 pub const NO_ROW: usize = 12;
 
 // One of the six; the part or the kind of the row, and the names that are taken before the first premise; then what a look at the rule told.
-#[derive(Drop)]
+#[derive(Clone, Copy)]
 pub struct Plan {
     pub act: usize,
     pub kind: usize,

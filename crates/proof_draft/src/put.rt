@@ -19,7 +19,7 @@ use draft::row::put_row;
 use proof::rule::skip_proofs;
 
 // How far the first walk has come: the next place, the rows used, the counter, and the part that was made.
-#[derive(Drop)]
+#[derive(Clone, Copy)]
 pub struct Drafted {
     pub next: usize,
     pub used: usize,

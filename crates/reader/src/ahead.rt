@@ -20,7 +20,7 @@ use crate::node::{bad, room_for};
 use crate::word::is_word;
 
 // Where it stopped; the nodes met, those known, which are the ones to be read and the parts of those met, and the names of those met.
-#[derive(Drop)]
+#[derive(Clone, Copy)]
 pub struct Ahead {
     pub next: usize,
     pub met: usize,

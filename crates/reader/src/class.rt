@@ -10,14 +10,14 @@ ghost use Rattle.reader.specs.Tables.{letters_in, beginnings_in, table_of_letter
 use rules::{LONGEST_ATOM, LONGEST_NAME};
 
 // The two forms: a tag, then names, then parts.
-#[derive(Drop)]
+#[derive(Clone, Copy)]
 pub enum Form {
     Term,
     Formula,
 }
 
 // The place after what was read, and the nodes met so far; or a fault.
-#[derive(Drop)]
+#[derive(Clone, Copy)]
 pub enum Read {
     Whole { next: usize, met: usize },
     Bad { number: u8, place: usize },

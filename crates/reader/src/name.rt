@@ -10,7 +10,7 @@ use crate::class::{Form, follows, leads, longest_name, starts};
 use crate::word::is_word;
 
 // The place after what was skipped, or a fault.
-#[derive(Drop)]
+#[derive(Clone, Copy)]
 pub enum Skip {
     To(usize),
     Fault { number: u8, place: usize },

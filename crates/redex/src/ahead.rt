@@ -12,7 +12,7 @@ use reader::ahead::{Ahead, last_pair, names_end, stopped};
 use reader::class::{Form, code_of};
 
 // What was gone over, and whether no node of it is a redex.
-#[derive(Drop)]
+#[derive(Clone, Copy)]
 pub struct Calmly {
     pub gone: Ahead,
     pub calm: bool,

@@ -9,7 +9,7 @@ use crate::tags::{enters_of, reduces};
 use term::node;
 
 // The place of the redex; or, where there is none, the place after the term.
-#[derive(Drop)]
+#[derive(Clone, Copy)]
 pub enum Sought {
     Redex(usize),
     After(usize),

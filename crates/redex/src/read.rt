@@ -22,7 +22,7 @@ use reader::node;
 use rules::{MOST_BYTES, MOST_NODES, Refusal};
 
 // A term of so many nodes that has no redex, or one that may have some; or a refusal.
-#[derive(Drop)]
+#[derive(Clone, Copy)]
 pub enum Resting {
     Calm(usize),
     Unsure(usize),

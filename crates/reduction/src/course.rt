@@ -10,7 +10,7 @@ use contraction::part::Contraction;
 use rules::{Counts, Rule};
 
 // Where the search stands, the nodes of the whole, the steps taken and one count for each rule.
-#[derive(Drop)]
+#[derive(Clone, Copy)]
 pub struct Course {
     pub at: Place,
     pub nodes: usize,
@@ -20,7 +20,7 @@ pub struct Course {
 
 // Stopped, at the limit or because no step remains; or a step outgrew the limits: the steps done, and the length of the last term
 // that fitted.
-#[derive(Drop)]
+#[derive(Clone, Copy)]
 pub enum Repeated {
     Stopped(Reduction),
     Outgrown { steps: u32, length: usize },

@@ -11,7 +11,7 @@ use redex::tags::reduces;
 use rules::MOST_NODES;
 
 // What the contraction made, and where the search goes on; or the step would outgrow the limits.
-#[derive(Drop)]
+#[derive(Clone, Copy)]
 pub enum Fired {
     Made {
         contraction: Contraction,

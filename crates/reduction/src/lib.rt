@@ -22,7 +22,7 @@ mod sight;
 mod turn;
 
 // The steps taken, one count for each rule, whether no step remains, and the length of the term in the output.
-#[derive(Drop)]
+#[derive(Clone, Copy)]
 pub struct Reduction {
     pub steps: u32,
     pub counts: Counts,
@@ -31,7 +31,7 @@ pub struct Reduction {
 }
 
 // A refusal also tells the length of what was written: 8 leaves the last term that fitted.
-#[derive(Drop)]
+#[derive(Clone, Copy)]
 pub enum Reduced {
     Stopped(Reduction),
     Refused { refusal: Refusal, length: usize },

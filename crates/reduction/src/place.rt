@@ -2,7 +2,7 @@
 
 // What was passed ends at o in the output; the term at which the search stands begins at i in the scratch, under so many nodes.
 // Or the search has come to the end.
-#[derive(Drop)]
+#[derive(Clone, Copy)]
 pub struct Place {
     pub o: usize,
     pub i: usize,

@@ -7,7 +7,7 @@ use redex::tags::{enters_of, reduces};
 use term::node;
 
 // The term has no step, and ends there; or is a redex; or is entered at its first part, which starts there.
-#[derive(Drop)]
+#[derive(Clone, Copy)]
 pub enum Seen {
     Passed(usize),
     Redex,

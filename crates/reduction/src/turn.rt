@@ -13,7 +13,7 @@ use buffer::run;
 use rules::MOST_NODES;
 
 // A turn ends the reduction, or it goes on.
-#[derive(Drop)]
+#[derive(Clone, Copy)]
 pub enum Turned {
     Ended(Repeated),
     On(Course),

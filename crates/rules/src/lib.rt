@@ -1,5 +1,6 @@
 // What every room shares: the types in which public calls answer, the limits by name, and lower case. The rules themselves are definitions, in specs/.
 #![tactic(auto)]
+
 ghost use Rattle.std.specs.Prelude.{◌≡◌};
 ghost use Rattle.rules.specs.Name.{lower_of};
 ghost use Rattle.rules.specs.Stored.{kind_byte};
@@ -56,7 +57,7 @@ pub const MOST_COUNTER: usize = 100_000_000;
 pub const PROGRAM_STEPS: u32 = 1000;
 
 // A refusal: its number and place as document 01's table has them, and the input that it is about: 1, 2 or 3, or 0 for none.
-#[derive(Drop)]
+#[derive(Clone, Copy)]
 pub struct Refusal {
     pub number: u8,
     pub place: usize,
@@ -77,14 +78,14 @@ impl Refusal {
 }
 
 // A count (the bytes written, or the nodes of what was read), or a refusal.
-#[derive(Drop)]
+#[derive(Clone, Copy)]
 pub enum Answer {
     Good(usize),
     Refused(Refusal),
 }
 
 // What a stored file holds.
-#[derive(Drop)]
+#[derive(Clone, Copy)]
 pub enum Kind {
     Term,
     Proof,
@@ -103,7 +104,7 @@ impl Kind {
 }
 
 // The rules of reduction, in the order of their counts.
-#[derive(Drop)]
+#[derive(Clone, Copy)]
 pub enum Rule {
     App,
     Let,
@@ -116,7 +117,7 @@ pub enum Rule {
 }
 
 // One count for each of them.
-#[derive(Drop)]
+#[derive(Clone, Copy)]
 pub struct Counts {
     pub app: u32,
     pub lets: u32,

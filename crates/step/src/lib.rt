@@ -17,14 +17,14 @@ use take::{Taken, take_step};
 mod take;
 
 // The rule, its place (the offset of the contracted node's tag in the given term), and the length of the next term.
-#[derive(Drop)]
+#[derive(Clone, Copy)]
 pub struct Found {
     pub rule: Rule,
     pub place: usize,
     pub length: usize,
 }
 
-#[derive(Drop)]
+#[derive(Clone, Copy)]
 pub enum Stepped {
     Normal,
     Found(Found),
@@ -32,7 +32,7 @@ pub enum Stepped {
 }
 
 // Whether a term is normal.
-#[derive(Drop)]
+#[derive(Clone, Copy)]
 pub enum Normality {
     Known(bool),
     Refused(Refusal),

@@ -14,7 +14,7 @@ use redex::find::{Sought, find};
 use rules::MOST_NODES;
 
 // No redex; or the step that was taken; or it would outgrow the limits.
-#[derive(Drop)]
+#[derive(Clone, Copy)]
 pub enum Taken {
     Normal,
     Found(Found),

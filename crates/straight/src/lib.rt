@@ -79,7 +79,7 @@ fn all_pass(s: &[u8]) -> bool
 }
 
 // Yes or no, or a refusal.
-#[derive(Drop)]
+#[derive(Clone, Copy)]
 pub enum Verdict {
     Good(bool),
     Refused(Refusal),

@@ -22,7 +22,7 @@ fn is_it(s: &[u8], at: usize, name: &[u8]) -> usize
 }
 
 // Names in a row: the place after them, and how many of them are the name sought.
-#[derive(Drop)]
+#[derive(Clone, Copy)]
 pub struct SameNames {
     pub next: usize,
     pub same: usize,
@@ -44,7 +44,7 @@ fn same_names(s: &[u8], at: usize, n: usize, name: &[u8]) -> SameNames
 }
 
 // A node: where its parts start, how many there are, and how often the node itself uses the name and has it at a binder.
-#[derive(Drop)]
+#[derive(Clone, Copy)]
 pub struct NodeUses {
     pub start: usize,
     pub parts: usize,
@@ -77,7 +77,7 @@ fn uses_at(s: &[u8], at: usize, name: &[u8]) -> NodeUses
 }
 
 // A whole term.
-#[derive(Drop)]
+#[derive(Clone, Copy)]
 pub struct TermUses {
     pub uses: usize,
     pub stands: usize,

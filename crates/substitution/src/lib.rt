@@ -18,7 +18,7 @@ pub mod splice;
 pub mod tally;
 
 // The inputs of a substitution: how many nodes the term has, and the value; or a refusal.
-#[derive(Drop)]
+#[derive(Clone, Copy)]
 enum Inputs {
     Read { nodes: usize, added: usize },
     Refused(Refusal),

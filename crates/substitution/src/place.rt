@@ -59,7 +59,7 @@ fn find(
 }
 
 // The place after the term, and how many places were kept.
-#[derive(Drop)]
+#[derive(Clone, Copy)]
 pub struct KeptPlaces {
     pub next: usize,
     pub count: usize,

@@ -14,7 +14,7 @@ use crate::tally::Tally;
 use rules::{MOST_BYTES, MOST_NODES};
 
 // What was moved, and the nodes of the new whole; or that outgrows the limits, and nothing was written.
-#[derive(Drop)]
+#[derive(Clone, Copy)]
 pub enum Put {
     Written { tally: Tally, nodes: usize },
     Outgrown,

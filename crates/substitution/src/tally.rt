@@ -5,7 +5,7 @@ ghost use Rattle.substitution.specs.Tally.{NothingYet, OneRun, OneValue, then_mo
 use buffer::run;
 
 // How much of the body is gone over, the place after what was written, the runs of the body that were moved, and how often the value was.
-#[derive(Drop)]
+#[derive(Clone, Copy)]
 pub struct Tally {
     read: usize,
     past: usize,

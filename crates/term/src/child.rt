@@ -8,7 +8,7 @@ use crate::node::{parts_at, skip};
 use rules::{Answer, Refusal};
 
 // Where a child stands, or why there is none.
-#[derive(Drop)]
+#[derive(Clone, Copy)]
 pub enum Piece {
     Part { from: usize, end: usize },
     Missing(Refusal),
@@ -43,7 +43,7 @@ pub fn child(term: &[u8], k: usize) -> &[u8]
 }
 
 // What is wrong, if anything is, with the term and k that a child was asked for.
-#[derive(Drop)]
+#[derive(Clone, Copy)]
 pub enum Fault {
     Nothing,
     Refused(Refusal),

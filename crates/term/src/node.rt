@@ -69,7 +69,7 @@ pub fn skip(s: &[u8], at: usize, n: usize) -> usize
 }
 
 // The parts of a node: where they start, and how many there are.
-#[derive(Drop)]
+#[derive(Clone, Copy)]
 pub struct Row {
     pub start: usize,
     pub parts: usize,
@@ -98,7 +98,7 @@ pub fn same_name(s: &[u8], at: usize, name: &[u8]) -> bool
 
 // A node, with a name in mind: where its parts start, how many there are, which of them a binder of that name covers,
 // and whether it is that variable.
-#[derive(Drop)]
+#[derive(Clone, Copy)]
 pub struct Node {
     pub start: usize,
     pub parts: usize,

@@ -8,7 +8,7 @@ ghost use Rattle.term.specs.Measured.{Measured, MeasuredTwo, Named};
 use crate::node;
 
 // The place after a term, and its nodes.
-#[derive(Drop)]
+#[derive(Clone, Copy)]
 pub struct Extent {
     pub next: usize,
     pub nodes: usize,
@@ -34,7 +34,7 @@ pub fn span(s: &[u8], at: usize) -> Extent
 }
 
 // Two terms in a row: where the second starts and ends, and the nodes of each.
-#[derive(Drop)]
+#[derive(Clone, Copy)]
 pub struct Two {
     pub second: usize,
     pub end: usize,
@@ -57,7 +57,7 @@ pub fn span_two(s: &[u8], at: usize) -> Two
 }
 
 // Two names in a row, each with its length byte: where the second starts and ends.
-#[derive(Drop)]
+#[derive(Clone, Copy)]
 pub struct Names {
     pub second: usize,
     pub end: usize,

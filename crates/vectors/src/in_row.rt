@@ -6,7 +6,7 @@ use proof_draft::entry::CutEntry;
 use rules::Answer;
 
 // What two extractions answered, one after the other, the counter after each, and the row after both.
-#[derive(Drop)]
+#[derive(Clone, Copy)]
 pub struct Twice {
     pub answer: Answer,
     pub counter: u32,

@@ -18,7 +18,7 @@ pub const THIRD: usize = 5;
 const FIELDS: usize = 6;
 
 // Where a field starts and ends.
-#[derive(Drop)]
+#[derive(Clone, Copy)]
 struct Span {
     start: usize,
     end: usize,
