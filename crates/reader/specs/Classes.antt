@@ -1,5 +1,5 @@
 -- What a table of bytes says of each: 1 that it is a tag, 2 for each of its names, 8 for each of its parts, 32 that it follows in a name, and 64 times
--- 2 ^ n that it leads names of n letters and, in lower case, no word of n letters.
+-- 2 ^ n that it leads names of n letters and no word of n letters.
 -- Assumes nothing: these are definitions.
 use Rattle.std.specs.Prelude.{ℕ, suc, ◌+◌, ◌*◌, ◌/◌, ◌%◌, ◌^◌, ◌<◌, ◌≤◌, ◌≡◌, Bool, true, false, ◌∷◌, length, get_or, eqb}
 use Rattle.std.proofs.Math.Option.{Option, none, some}
@@ -12,7 +12,7 @@ pub record Letters (t : Bytes) : Type 0 where
   pub following : (b : ℕ) → b < 256 → eqb (get_or t b 0 / 32 % 2) 1 ≡ follows b
   pub small : (b : ℕ) → b < 256 → get_or t b 0 < 4294967296
 
--- whether b leads names of n letters and, in lower case, no word of n letters
+-- whether b leads names of n letters and no word of n letters
 abbrev pub starts_of : Bytes → (b n : ℕ) → Bool
 starts_of t b n = eqb (get_or t b 0 / 2 ^ n / 64 % 2) 1
 

@@ -34,7 +34,7 @@ beginnings_in t a =
     set (set (set (set (set (set (set (set t a (letter - of_length 2 - of_length 6)) (a + 2) (letter - of_length 4)) (a + 3) (letter - of_length 7 - of_length 8)) (a + 5) (letter - of_length 3)) (a + 8) (letter - of_length 2 - of_length 3)) (a + 11) (letter - of_length 3)) (a + 14) (letter - of_length 2)) (a + 18) (letter - of_length 3)
 
 unfoldable pub table_of_letters : Bytes
-table_of_letters = beginnings_in (beginnings_in (letters_in (replicate 256 0)) 97) 65
+table_of_letters = beginnings_in (letters_in (replicate 256 0)) 97
 
 abbrev pub term_tags : Bytes
 term_tags = 0 ∷ 3 ∷ 1 ∷ 17 ∷ 21 ∷ 11 ∷ 17 ∷ 9 ∷ 9 ∷ 29 ∷ 1 ∷ 9 ∷ 9 ∷ 9 ∷ 9 ∷ 9 ∷ 17 ∷ 21 ∷ []
@@ -149,8 +149,8 @@ term-classes =
     let t = sets table_of_letters 0 term_tags in
     tested t refl refl refl refl refl refl terms (of-names t refl refl refl refl refl refl) refl
 
-pub formula-classes : Classes (layout_of Formula) (sets table_of_letters 0 formula_tags)
+pub formula-classes : Classes (layout_of Formula) (sets (beginnings_in table_of_letters 65) 0 formula_tags)
 unfolding table_of_letters letters_in beginnings_in leads follows
 formula-classes =
-    let t = sets table_of_letters 0 formula_tags in
+    let t = sets (beginnings_in table_of_letters 65) 0 formula_tags in
     tested t refl refl refl refl refl refl formulas (of-atoms t refl refl refl refl refl refl refl) refl

@@ -34,7 +34,7 @@ pub fn longest_name(form: Form) -> usize
 }
 
 // What a byte may be, by a table: 1 that it is a tag, 2 for each of its names, 8 for each of its parts, 32 that it follows in a name, and 64 times
-// 2^n that it leads names of n letters and, in lower case, no word of n letters.
+// 2^n that it leads names of n letters and no word of n letters.
 
 const TAG: u32 = 1;
 
@@ -152,7 +152,6 @@ pub fn letter_table() -> [u32; 256]
     let mut t = [0u32; 256];
     put_letters(&mut t);
     put_beginnings(&mut t, 97);
-    put_beginnings(&mut t, 65);
     t
 }
 
@@ -165,6 +164,7 @@ pub fn table_of(form: Form) -> [u32; 256]
             put_tags(&mut t, &TERM_TAGS);
         }
         Form::Formula => {
+            put_beginnings(&mut t, 65);
             put_tags(&mut t, &FORMULA_TAGS);
         }
     }
@@ -185,7 +185,7 @@ pub fn follows(t: &[u32; 256], b: u8) -> bool
     t[b as usize] / 32 % 2 == 1
 }
 
-// Whether b leads names of n letters and, in lower case, no word of n letters.
+// Whether b leads names of n letters and no word of n letters.
 pub fn starts(t: &[u32; 256], b: u8, n: usize) -> bool
     requires letters { Letters t.now }
     requires n_le_name_most { n ≤ name_most }

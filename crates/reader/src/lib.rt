@@ -1,5 +1,6 @@
 // Reads encoded terms, formulas and bare names: accepted with a count, or refused by number and place.
 #![tactic(auto)]
+
 ghost use Rattle.std.specs.Prelude.{◌≡◌, ◌≤◌, length};
 ghost use Rattle.rules.specs.Limits.{Limits, limits};
 ghost use Rattle.rules.specs.Refusal.{refuse, mapped, answered};

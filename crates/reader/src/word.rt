@@ -48,7 +48,7 @@ fn is_among(s: &[u8], form: Form, at: usize, n: usize, words: &[u8]) -> bool
 }
 
 // Whether they are a word.
-pub fn is_word(s: &[u8], form: Form, at: usize, n: usize) -> bool
+fn is_listed(s: &[u8], form: Form, at: usize, n: usize) -> bool
     requires { at + n ≤ length s.now }
     ensures { result ≡ is_a_word (compared form (take n (drop at s.now))) }
 {
@@ -61,4 +61,15 @@ pub fn is_word(s: &[u8], form: Form, at: usize, n: usize) -> bool
         8 => is_among(s, form, at, n, b"derelict"),
         _ => false,
     }
+}
+
+// The same, where the bytes do not end before.
+pub fn is_word(s: &[u8], form: Form, at: usize, n: usize) -> bool
+    requires { at ≤ length s.now }
+    ensures { at + n ≤ length s.now → result ≡ is_a_word (compared form (take n (drop at s.now))) }
+{
+    if s.len() - at < n {
+        return true;
+    }
+    is_listed(s, form, at, n)
 }

@@ -1,0 +1,11 @@
+-- `pass_ones` meets its contract: one node is still to be read after each that is passed. Assumes nothing.
+use Prim.Native.Nat.{◌-◌, ◌≤◌}
+use native.Mathlib.Omega.{arith}
+use Rattle.reader.proofs.ahead.Ones.{Passes, passes_none, passes-more}
+use Rattle.reader.proofs.ahead.pass_ones.Given as goal
+
+abbrev pub invariant-loop-p : goal.invariant-loop-p
+invariant-loop-p l = (l.at ≤ l.p) × (l.p - l.at ≤ l.end - l.at) × Passes l.form l.s l.at l.p
+
+abbrev pub decreases-loop-p : goal.decreases-loop-p
+decreases-loop-p l = l.end - l.p

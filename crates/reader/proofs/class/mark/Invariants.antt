@@ -1,0 +1,14 @@
+-- `class::mark` meets its contract: what is left to write makes up the whole. Assumes nothing.
+use Prim.Native.Nat.{◌-◌}
+use native.Mathlib.Omega.{arith}
+use mathlib.Core.Path.{◌≡◌, refl}
+use lib.ListN.{replicate}
+use lib.Seq.{sets}
+use Rattle.reader.proofs.class.Marks.{mark-more, mark-end}
+use Rattle.reader.proofs.class.mark.Given as goal
+
+abbrev pub invariant-loop-b : goal.invariant-loop-b
+invariant-loop-b l = sets l.t l.b (replicate (l.to - l.b) l.class) ≡ sets l.initial.t l.from (replicate (l.to - l.from) l.class)
+
+abbrev pub decreases-loop-b : goal.decreases-loop-b
+decreases-loop-b l = l.to - l.b

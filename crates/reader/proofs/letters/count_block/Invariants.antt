@@ -1,0 +1,16 @@
+-- `count_block` meets its contract: what is counted and what is left make up the whole. Assumes nothing.
+use borrow.Author.Rules.{rules}
+use Prim.Native.Nat.{◌+◌, ◌-◌, ◌≤◌}
+use native.Mathlib.Omega.{arith}
+use mathlib.Core.Path.{◌≡◌, ap, ◌∙◌}
+use lib.ListN.{length, get_or}
+use Rattle.rules.specs.Name.{follows}
+use Rattle.reader.specs.Letters.{letters_from}
+use Rattle.reader.proofs.letters.Counts.{count_none, count_next, one-most}
+use Rattle.reader.proofs.letters.count_block.Given as goal
+
+abbrev pub invariant-loop-i : goal.invariant-loop-i
+invariant-loop-i l = (l.to ≤ length l.s) × (l.from ≤ l.i) × (l.i ≤ l.to) × (l.count ≤ l.i - l.from) × (l.to - l.from ≤ 128) × (l.count + letters_from l.s l.i (l.to - l.i) ≡ letters_from l.s l.from (l.to - l.from))
+
+abbrev pub decreases-loop-i : goal.decreases-loop-i
+decreases-loop-i l = l.to - l.i

@@ -1,0 +1,14 @@
+-- `count_letters` meets its contract: what is counted and what is left make up the whole. Assumes nothing.
+use Prim.Native.Nat.{◌+◌, ◌-◌, ◌≤◌}
+use native.Mathlib.Omega.{arith}
+use mathlib.Core.Path.{◌≡◌, ap, ◌∙◌}
+use lib.ListN.{length}
+use Rattle.reader.specs.Letters.{letters_from}
+use Rattle.reader.proofs.letters.Counts.{count_none, count_most, count-split, grown, summed}
+use Rattle.reader.proofs.letters.count_letters.Given as goal
+
+abbrev pub invariant-loop-i : goal.invariant-loop-i
+invariant-loop-i l = (l.to ≤ length l.s) × (l.from ≤ l.i) × (l.i ≤ l.to) × (l.count ≤ l.i - l.from) × (l.count + letters_from l.s l.i (l.to - l.i) ≡ letters_from l.s l.from (l.to - l.from))
+
+abbrev pub decreases-loop-i : goal.decreases-loop-i
+decreases-loop-i l = l.to - l.i

@@ -1,0 +1,41 @@
+-- `name::skip_following` meets its contract: what is left to read from p on is what was to be read from `at` on. Assumes nothing.
+use Prim.Native.Nat.{ℕ, ◌+◌, ◌-◌, ◌≤◌}
+use native.Mathlib.Omega.{arith}
+use mathlib.Core.Path.{◌≡◌, refl, sym, ap, ◌∙◌}
+use mathlib.Core.Bool.{true, false}
+use lib.ListN.{length, get_or, drop}
+use Rattle.rules.specs.Name.{follows}
+use Rattle.rules.specs.Reading.{byte_for, many}
+use Rattle.reader.specs.View.{view, skipped}
+use Rattle.reader.proofs.class.Views.{letter-on, letter-off, many-on, many-off, many-none}
+use borrow.Author.Rules.{rules}
+use Rattle.reader.proofs.name.skip_following.Goals as goal
+
+pub loop-p-preserved : goal.loop-p-preserved
+loop-p-preserved c =
+    let l = c.loop-p in
+    let a = c.args in
+    let s = a.s.now in
+    let e : follows (get_or s l.p 0) ≡ true = cc in (
+      l.invariant.0,
+      λ u.
+          l.invariant.1 u
+          ∙ many-on (byte_for follows 5) (a.end - l.p) u l.p (drop l.p s) (a.end - (l.p + 1)) (omega arith) _ u (l.p + 1) _ (letter-on follows s u l.p (omega arith) e),
+    )
+
+pub returns : goal.returns
+returns c =
+    let l = c.loop-p in
+    let a = c.args in
+    λ u. sym (l.invariant.1 u ∙ many-none (byte_for follows 5) (a.end - l.p) u l.p (drop l.p a.s.now) (omega arith))
+
+pub returns-else-follows : goal.returns-else-follows
+returns-else-follows c =
+    let l = c.loop-p in
+    let a = c.args in
+    let s = a.s.now in
+    let e : follows (get_or s l.p 0) ≡ false = cc in
+    λ u.
+    ap (skipped u) c.fault.ensures
+    ∙ sym (l.invariant.1 u
+    ∙ many-off (byte_for follows 5) (a.end - l.p) u l.p (drop l.p s) (a.end - (l.p + 1)) (omega arith) 5 l.p (letter-off follows s u l.p (omega arith) e))

@@ -1,0 +1,23 @@
+-- `word::spells` meets its contract: what is left to compare decides. Assumes nothing.
+use Prim.Native.Nat.{◌+◌, ◌-◌, ◌≤◌}
+use mathlib.Core.Path.{◌≡◌, sym, ◌∙◌}
+use native.Mathlib.Omega.{arith}
+use Rattle.reader.proofs.word.Compared.{alike, alike_same, alike-none, alike-off, alike-on}
+use Rattle.reader.proofs.word.spells.Goals as goal
+
+pub loop-i-preserved : goal.loop-i-preserved
+loop-i-preserved c =
+    let a = c.args in
+    let l = c.loop-i in
+    let i = l.i in (
+      omega arith,
+      l.invariant.1 ∙ alike-on a.form a.s.now a.words.now (a.n - i) (a.n - i - 1) (a.at + i) (a.w + i) (omega arith) (omega arith) (omega arith) _ c.compared_byte-b.ensures c.if-b-words.false
+          ∙ alike_same a.form a.s.now a.words.now (a.n - i - 1) (a.at + i + 1) (a.w + i + 1) (a.n - (i + 1)) (a.at + (i + 1)) (a.w + (i + 1)) (omega arith) (omega arith) (omega arith),
+    )
+
+pub returns-then-b-words : goal.returns-then-b-words
+returns-then-b-words c =
+    let a = c.args in
+    let l = c.loop-i in
+    let i = l.i in
+    sym (l.invariant.1 ∙ alike-off a.form a.s.now a.words.now (a.n - i) (a.n - i - 1) (a.at + i) (a.w + i) (omega arith) (omega arith) (omega arith) _ c.compared_byte-b.ensures c.if-b-words.true)
