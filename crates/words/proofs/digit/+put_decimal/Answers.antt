@@ -10,7 +10,7 @@ use Rattle.words.specs.Digits.{decimal-one, decimal-more, wrote_one, wrote_as}
 use Rattle.words.proofs.digit.+put_decimal.Goals as goal
 
 pub bounds-out-at : goal.bounds-out-at
-bounds-out-at t c = let l = ap length (decimal-one c.args.n c.if-n-lt10.true) in omega (arith, c.requires.1)
+bounds-out-at t c = let l = ap length (decimal-one c.args.n c.if-n-lt10.true) in omega (arith, c.requires)
 
 pub returns-then-n-lt10 : goal.returns-then-n-lt10
 returns-then-n-lt10 t c = wrote_as (sym (decimal-one c.args.n c.if-n-lt10.true)) (wrote_one c.args.out.now c.args.at (48 + c.args.n))
