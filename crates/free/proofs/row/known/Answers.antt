@@ -1,0 +1,13 @@
+-- `row::known` meets its contract: the entry is that of a name found or of a binder passed, and is compared. Assumes nothing.
+use native.Mathlib.Omega.{arith}
+use Prim.Native.Nat.{ℕ}
+use mathlib.Core.Path.{◌≡◌}
+use Rattle.free.proofs.row.Meeting.{guess-inside, guess-names, guess-kept}
+use borrow.Author.Rules.{rules}
+use Rattle.free.proofs.row.known.Goals as goal
+
+pub returns-then-live : goal.returns-then-live
+returns-then-live c = guess-kept _ _ _ _ _ _ _ c.if-live.true c.live.ensures _ c.same_at.ensures
+
+pub same_at-requires : goal.same_at-requires
+same_at-requires c = guess-names _ _ _ _ _ _ _ c.if-live.true c.live.ensures c.requires

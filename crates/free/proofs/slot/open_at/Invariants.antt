@@ -1,0 +1,12 @@
+-- `slot::open_at` meets its contract: what has moved up so far, and what stands as it did. Assumes nothing.
+use Prim.Native.Nat.{◌≤◌, ◌-◌}
+use native.Mathlib.Omega.{arith}
+use lib.ListN.{length-set}
+use Rattle.free.proofs.slot.Opening.{Moved, moved_none, moved_more, moved_all}
+use Rattle.free.proofs.slot.open_at.Given as goal
+
+abbrev pub invariant-loop-j : goal.invariant-loop-j
+invariant-loop-j l = (l.i ≤ l.j) × (l.j ≤ l.n) × Moved l.initial.row l.row l.n l.j
+
+abbrev pub decreases-loop-j : goal.decreases-loop-j
+decreases-loop-j l = l.j
