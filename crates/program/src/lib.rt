@@ -1,4 +1,5 @@
-// What programs print: lines, the run of patchrun.
+// What programs read and print: the input, lines, the run of patchrun.
 #![tactic(auto)]
+pub mod input;
 pub mod line;
 pub mod run;

@@ -1,5 +1,6 @@
 // The calls by number, as the list has them, in the order of their shapes; and by name, as they are printed. Number 0 stands for all of them.
-use libc::STDOUT_FILENO;
+use std::io;
+use std::io::Write;
 
 pub const CHECK_TERM: u8 = 1;
 
@@ -39,53 +40,51 @@ pub const EXTRACT: u8 = 18;
 
 pub const EXTRACTOR: u8 = 19;
 
-pub fn print(text: &[u8]) {
-    io::write_all(STDOUT_FILENO, text);
+pub fn print<W: Write>(out: &mut W, text: &[u8]) -> io::Result<()> {
+    out.write_all(text)
 }
 
-pub fn print_name(call: u8) {
+pub fn print_name<W: Write>(out: &mut W, call: u8) -> io::Result<()> {
     if call < FREE_VARS {
-        print_without_output(call);
-        return;
+        return print_without_output(out, call);
     }
     if call < SUBSTITUTE {
-        print_with_output(call);
-        return;
+        return print_with_output(out, call);
     }
-    print_with_scratch(call);
+    print_with_scratch(out, call)
 }
 
-fn print_without_output(call: u8) {
+fn print_without_output<W: Write>(out: &mut W, call: u8) -> io::Result<()> {
     match call {
-        0 => print(b"all calls"),
-        1 => print(b"reader::check_term"),
-        2 => print(b"reader::check_formula"),
-        3 => print(b"proof::check_proof"),
-        4 => print(b"step::is_normal"),
-        5 => print(b"straight::is_straight"),
-        6 => print(b"term::child::child_fault"),
-        _ => print(b"term::child::child"),
-    }
-}
-
-fn print_with_output(call: u8) {
-    match call {
-        8 => print(b"free::free_vars"),
-        9 => print(b"term_text::pretty"),
-        10 => print(b"formula_text::pretty"),
-        11 => print(b"stored::store of a term"),
-        12 => print(b"stored::store of a proof"),
-        13 => print(b"stored::load of a term"),
-        _ => print(b"stored::load of a proof"),
+        0 => print(out, b"all calls"),
+        1 => print(out, b"reader::check_term"),
+        2 => print(out, b"reader::check_formula"),
+        3 => print(out, b"proof::check_proof"),
+        4 => print(out, b"step::is_normal"),
+        5 => print(out, b"straight::is_straight"),
+        6 => print(out, b"term::child::child_fault"),
+        _ => print(out, b"term::child::child"),
     }
 }
 
-fn print_with_scratch(call: u8) {
+fn print_with_output<W: Write>(out: &mut W, call: u8) -> io::Result<()> {
     match call {
-        15 => print(b"substitution::substitute"),
-        16 => print(b"step::step"),
-        17 => print(b"reduction::normalize_bounded"),
-        18 => print(b"extract::extract"),
-        _ => print(b"extract::extractor::Extractor::extract, two by each Extractor"),
+        8 => print(out, b"free::free_vars"),
+        9 => print(out, b"term_text::pretty"),
+        10 => print(out, b"formula_text::pretty"),
+        11 => print(out, b"stored::store of a term"),
+        12 => print(out, b"stored::store of a proof"),
+        13 => print(out, b"stored::load of a term"),
+        _ => print(out, b"stored::load of a proof"),
+    }
+}
+
+fn print_with_scratch<W: Write>(out: &mut W, call: u8) -> io::Result<()> {
+    match call {
+        15 => print(out, b"substitution::substitute"),
+        16 => print(out, b"step::step"),
+        17 => print(out, b"reduction::normalize_bounded"),
+        18 => print(out, b"extract::extract"),
+        _ => print(out, b"extract::extractor::Extractor::extract, two by each Extractor"),
     }
 }

@@ -5,9 +5,11 @@
 ghost use Rattle.std.specs.Prelude.{◌≤◌};
 
 use call_names::{CHILD, EXTRACTOR, print, print_name};
-use libc::{STDIN_FILENO, STDOUT_FILENO};
 use list::{NUMBERS, field, number, record_length};
+use program::input::read_full;
 use replay::{asked_right, part_right};
+use std::io;
+use std::io::Write;
 
 mod call_names;
 mod calls;
@@ -95,36 +97,37 @@ fn replay_all(
     }
 }
 
-fn print_line(call: u8, right: u64, records: u64) {
-    print_name(call);
-    print(b": ");
-    io::print_decimal(STDOUT_FILENO, right);
-    print(b" of ");
-    io::print_decimal(STDOUT_FILENO, records);
-    print(b" right\n");
+fn print_line<W: Write>(out: &mut W, call: u8, right: u64, records: u64) -> io::Result<()> {
+    print_name(out, call)?;
+    print(out, b": ")?;
+    write!(out, "{right}")?;
+    print(out, b" of ")?;
+    write!(out, "{records}")?;
+    print(out, b" right\n")
 }
 
-fn print_all(records: &[u64; 32], right: &[u64; 32]) {
+fn print_all<W: Write>(out: &mut W, records: &[u64; 32], right: &[u64; 32]) -> io::Result<()> {
     let mut call = 0;
     while call <= EXTRACTOR {
         let k = call as usize;
-        print_line(call, right[k], records[k]);
+        print_line(out, call, right[k], records[k])?;
         call += 1;
     }
+    Ok(())
 }
 
-fn replay_and_print(list: &[u8]) {
+fn replay_and_print<W: Write>(printed: &mut W, list: &[u8]) -> io::Result<()> {
     // More than any call asks for.
     let mut out = [0u8; 20992];
     let mut scratch = [0u8; 8448];
     let mut records = [0u64; 32];
     let mut right = [0u64; 32];
     replay_all(list, &mut out, &mut scratch, &mut records, &mut right);
-    print_all(&records, &right);
+    print_all(printed, &records, &right)
 }
 
-fn main() {
+fn main(rt: HostRuntime) -> io::Result<()> {
     let mut list = [0u8; 300000];
-    let n = io::read_full(STDIN_FILENO, &mut list);
-    replay_and_print(&list[..n]);
+    let n = read_full(&mut rt.reader(), &mut list)?;
+    replay_and_print(&mut io::writer(&rt), &list[..n])
 }
