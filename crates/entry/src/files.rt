@@ -9,32 +9,28 @@ ghost use Rattle.entry.specs.Told.{told_answer};
 use crate::tell::tell;
 use rules::Kind;
 
-#[unsafe(no_mangle)]
-pub extern "C" fn patch_store_term(term: &[u8], out: &mut [u8], answer: &mut [u64; 16])
+pub fn patch_store_term(term: &[u8], out: &mut [u8], answer: &mut [u64; 16])
     ensures answer_after { answer.new ≡ told_answer (answered (store_call limits Term term.now out.old).answer) }
     ensures out_after { out.new ≡ (store_call limits Term term.now out.old).output }
 {
     tell(stored::store(Kind::Term, term, out), answer);
 }
 
-#[unsafe(no_mangle)]
-pub extern "C" fn patch_store_proof(proof: &[u8], out: &mut [u8], answer: &mut [u64; 16])
+pub fn patch_store_proof(proof: &[u8], out: &mut [u8], answer: &mut [u64; 16])
     ensures answer_after { answer.new ≡ told_answer (answered (store_call limits Proof proof.now out.old).answer) }
     ensures out_after { out.new ≡ (store_call limits Proof proof.now out.old).output }
 {
     tell(stored::store(Kind::Proof, proof, out), answer);
 }
 
-#[unsafe(no_mangle)]
-pub extern "C" fn patch_load_term(file: &[u8], out: &mut [u8], answer: &mut [u64; 16])
+pub fn patch_load_term(file: &[u8], out: &mut [u8], answer: &mut [u64; 16])
     ensures answer_after { answer.new ≡ told_answer (answered (load_call limits Term file.now out.old).answer) }
     ensures out_after { out.new ≡ (load_call limits Term file.now out.old).output }
 {
     tell(stored::load(Kind::Term, file, out), answer);
 }
 
-#[unsafe(no_mangle)]
-pub extern "C" fn patch_load_proof(file: &[u8], out: &mut [u8], answer: &mut [u64; 16])
+pub fn patch_load_proof(file: &[u8], out: &mut [u8], answer: &mut [u64; 16])
     ensures answer_after { answer.new ≡ told_answer (answered (load_call limits Proof file.now out.old).answer) }
     ensures out_after { out.new ≡ (load_call limits Proof file.now out.old).output }
 {

@@ -23,37 +23,32 @@ pub mod straight_terms;
 pub mod tell;
 pub mod tell_steps;
 
-#[unsafe(no_mangle)]
-pub extern "C" fn patch_check_formula(formula: &[u8], answer: &mut [u64; 16])
+pub fn patch_check_formula(formula: &[u8], answer: &mut [u64; 16])
     ensures { answer.new ≡ told_answer (answered (check_formula_call limits formula.now)) }
 {
     tell(reader::check_formula(formula), answer);
 }
 
-#[unsafe(no_mangle)]
-pub extern "C" fn patch_check_term(term: &[u8], answer: &mut [u64; 16])
+pub fn patch_check_term(term: &[u8], answer: &mut [u64; 16])
     ensures { answer.new ≡ told_answer (answered (check_term_call limits term.now)) }
 {
     tell(reader::check_term(term), answer);
 }
 
-#[unsafe(no_mangle)]
-pub extern "C" fn patch_check_proof(proof: &[u8], answer: &mut [u64; 16])
+pub fn patch_check_proof(proof: &[u8], answer: &mut [u64; 16])
     ensures { answer.new ≡ told_answer (answered (check_proof_call limits proof.now)) }
 {
     tell(proof::check_proof(proof), answer);
 }
 
-#[unsafe(no_mangle)]
-pub extern "C" fn patch_formula_text(formula: &[u8], out: &mut [u8], answer: &mut [u64; 16])
+pub fn patch_formula_text(formula: &[u8], out: &mut [u8], answer: &mut [u64; 16])
     ensures answer_after { answer.new ≡ told_answer (answered (formula_text_call limits formula.now out.old).answer) }
     ensures out_after { out.new ≡ (formula_text_call limits formula.now out.old).output }
 {
     tell(formula_text::pretty(formula, out), answer);
 }
 
-#[unsafe(no_mangle)]
-pub extern "C" fn patch_term_text(term: &[u8], out: &mut [u8], answer: &mut [u64; 16])
+pub fn patch_term_text(term: &[u8], out: &mut [u8], answer: &mut [u64; 16])
     ensures answer_after { answer.new ≡ told_answer (answered (text_call limits term.now out.old).answer) }
     ensures out_after { out.new ≡ (text_call limits term.now out.old).output }
 {
@@ -61,23 +56,20 @@ pub extern "C" fn patch_term_text(term: &[u8], out: &mut [u8], answer: &mut [u64
 }
 
 // An exported function cannot hand back a part of the caller's bytes, so it tells where the part stands.
-#[unsafe(no_mangle)]
-pub extern "C" fn patch_child(term: &[u8], k: usize, answer: &mut [u64; 16])
+pub fn patch_child(term: &[u8], k: usize, answer: &mut [u64; 16])
     ensures { answer.new ≡ told_piece (piece_of (locate_call limits term.now k)) }
 {
     tell_piece(child::locate(term, k), answer);
 }
 
-#[unsafe(no_mangle)]
-pub extern "C" fn patch_free_vars(term: &[u8], out: &mut [u8], answer: &mut [u64; 16])
+pub fn patch_free_vars(term: &[u8], out: &mut [u8], answer: &mut [u64; 16])
     ensures answer_after { answer.new ≡ told_answer (answered (free_vars_call limits term.now out.old).answer) }
     ensures out_after { out.new ≡ (free_vars_call limits term.now out.old).output }
 {
     tell(free::free_vars(term, out), answer);
 }
 
-#[unsafe(no_mangle)]
-pub extern "C" fn patch_substitute(
+pub fn patch_substitute(
     term: &[u8],
     name: &[u8],
     value: &[u8],
@@ -95,8 +87,7 @@ pub extern "C" fn patch_substitute(
     );
 }
 
-#[unsafe(no_mangle)]
-pub extern "C" fn patch_step(
+pub fn patch_step(
     term: &[u8],
     out: &mut [u8],
     scratch: &mut [u8],
@@ -109,8 +100,7 @@ pub extern "C" fn patch_step(
     tell_step(step::step(term, out, scratch), answer);
 }
 
-#[unsafe(no_mangle)]
-pub extern "C" fn patch_normalize_bounded(
+pub fn patch_normalize_bounded(
     term: &[u8],
     limit: u32,
     out: &mut [u8],
@@ -127,8 +117,7 @@ pub extern "C" fn patch_normalize_bounded(
     );
 }
 
-#[unsafe(no_mangle)]
-pub extern "C" fn patch_is_normal(term: &[u8], answer: &mut [u64; 16])
+pub fn patch_is_normal(term: &[u8], answer: &mut [u64; 16])
     ensures { answer.new ≡ told_normal (normal_answered (is_normal_call limits term.now)) }
 {
     tell_normal(step::is_normal(term), answer);

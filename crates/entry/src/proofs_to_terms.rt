@@ -9,8 +9,7 @@ use crate::tell::tell_extraction;
 use extract::extract;
 
 // The cut entries are the call's own, so no row of them is lent, and none can be too short.
-#[unsafe(no_mangle)]
-pub extern "C" fn patch_extract(
+pub fn patch_extract(
     proof: &[u8],
     counter: u32,
     out: &mut [u8],

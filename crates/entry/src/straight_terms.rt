@@ -7,8 +7,7 @@ ghost use Rattle.entry.specs.Straight.{told_verdict};
 
 use crate::tell::tell_verdict;
 
-#[unsafe(no_mangle)]
-pub extern "C" fn patch_is_straight(term: &[u8], answer: &mut [u64; 16])
+pub fn patch_is_straight(term: &[u8], answer: &mut [u64; 16])
     ensures { answer.new ≡ told_verdict (verdict (is_straight_call limits term.now)) }
 {
     tell_verdict(straight::is_straight(term), answer);
