@@ -15,10 +15,8 @@ const MOST_BYTES: usize = 120;
 
 const HEAD: &str = "\
 -- What the Rust as published answers, held against the definitions: every case is right. Printed by host/cases; not to be edited.
-use mathlib.Core.Path.{_≡_, refl}
-use mathlib.Core.Bool.{true, false}
-use mathlib.Core.List.{List, [], _∷_}
-use Rattle·cases·specs.specs.Rust.{Case, freeNames, put, printed, printedFormula, isNormal, steps, reduces, extracts, right, wrong}
+use Rattle.std.specs.Prelude.{◌≡◌, refl, true, false, List, [], ◌∷◌}
+use Rattle.cases.specs.Rust.{Case, free_names, put, printed, printed_formula, is_normal_term, steps, reduces, extracts, right, wrong}
 
 abbrev pub cases : List Case
 cases =
@@ -51,7 +49,7 @@ fn free_names(term: &Term) -> String {
     for name in names {
         put_name(&name, &mut list);
     }
-    format!("freeNames {} {}", term_hex(term), hex(&list))
+    format!("free_names {} {}", term_hex(term), hex(&list))
 }
 
 fn substitution(term: &Term, name: &str, value: &Term) -> String {
@@ -61,7 +59,7 @@ fn substitution(term: &Term, name: &str, value: &Term) -> String {
 
 fn stepped(term: &Term) -> String {
     match step(term) {
-        None => format!("isNormal {}", term_hex(term)),
+        None => format!("is_normal_term {}", term_hex(term)),
         Some(next) => format!("steps {} {}", term_hex(term), term_hex(&next)),
     }
 }
@@ -108,7 +106,7 @@ fn round(rng: &mut Rng) -> Vec<String> {
     let shown = term(rng, 2);
     made.push(format!("printed {} {}", term_hex(&shown), hex(shown.pretty().as_bytes())));
     let formula = make::formula(rng, 3);
-    made.push(format!("printedFormula {} {}", hex(&formula_bytes(&formula)), hex(formula.pretty().as_bytes())));
+    made.push(format!("printed_formula {} {}", hex(&formula_bytes(&formula)), hex(formula.pretty().as_bytes())));
     made.push(stepped(&term(rng, 3)));
     made.push(stepped(&make::in_turn(rng)));
     made.push(stepped(&make::half_way(rng)));
