@@ -12,10 +12,6 @@ PROGRAM := host/target/program
 TRIED := host/target/tried
 WARN := -Iinclude -Wall -Wextra -Wpedantic -Werror
 
-# rt waits until all of a batch is checked before it starts the next: four checks for each processor keep it busy meanwhile, or as many as
-# there are 1.5 GB of memory for.
-export RT_JOBS ?= $(shell awk -v n=$$(nproc) '/MemAvailable/ { m = int($$2 / 1500000); print m < n ? n : m < 4 * n ? m : 4 * n }' /proc/meminfo)
-
 # The prover writes some hundred files for each check: an eighth of its time on a disk, and next to none in memory, where 4 GB are free there.
 SHARED := $(shell df -Pk /dev/shm 2>/dev/null | awk 'NR == 2 && $$4 > 4000000 { print "/dev/shm" }')
 export TMPDIR ?= $(if $(SHARED),$(SHARED),/tmp)
@@ -26,8 +22,8 @@ SOAK := $(if $(ON_AARCH64),soak,plain_soak)
 
 .PHONY: test hosted beside ported replayed linked library program run try bench soak plain_soak stack cases vectors
 
-# rt ci proves every crate from nothing; the static library is then built from what it has just proved. Its last line, the verdict, is kept
-# back until the runs over that library have passed too, so that it is the last line of all and nothing but the entry points is proved twice.
+# rt ci proves every crate, tries every edit and runs every program. Its last line, the verdict, is kept back until the runs over the static
+# library have passed too, so that it is the last line of all. An edit that cannot be tried is a failure too, which rt ci only tells.
 # What needs nothing of rt runs beside it, where rt leaves a processor idle.
 test:
 	@mkdir -p $(dir $(VERDICT))
@@ -35,6 +31,7 @@ test:
 	@nice -n 19 $(MAKE) --no-print-directory beside >$(BESIDE) 2>&1 & beside=$$!; \
 	    rt ci 2>&1 | tee $(VERDICT) | sed -u '$$d' || { wait $$beside; tail -n 1 $(VERDICT); exit 1; }; \
 	    wait $$beside || { cat $(BESIDE); exit 1; }; cat $(BESIDE)
+	@! grep -E '^rt: ok.*, [0-9]+ bad' $(VERDICT)
 	@$(MAKE) --no-print-directory ported
 	@tail -n 1 $(VERDICT)
 
@@ -49,7 +46,7 @@ beside:
 	@cargo run $(CARGO) -p apart -- model
 	@cargo build $(CARGO) --target-dir $(SANITIZED_BUILD) -p apart
 
-# rt proves the entry points again to make the library, on one processor; what needs no library runs beside it.
+# rt checks the entry points to make the library, on one processor; what needs no library runs beside it.
 ported: program
 	@$(MAKE) --no-print-directory --jobs=2 --output-sync $(if $(ON_AARCH64),$(SANITIZED),library) replayed
 	@$(MAKE) --no-print-directory linked
@@ -74,7 +71,7 @@ $(LIBRARY): host/library.sh crates.txt $(shell find crates -type f)
 
 program:
 	@mkdir -p $(dir $(PROGRAM))
-	@rt check patchrun >$(PROGRAM) 2>&1 || { cat $(PROGRAM); exit 1; }
+	@cd crates/patchrun && rt run <stdin >$(CURDIR)/$(PROGRAM) 2>&1 || { cat $(CURDIR)/$(PROGRAM); exit 1; }
 
 # A stored `((\x. x) ())`, reduced: its text, then the counts.
 run: program
@@ -109,8 +106,8 @@ stack: library
 
 # The list of the Rust's answers that crates/cases proves the rules by.
 cases:
-	@cargo run $(CARGO) -p cases > host/target/cases.antt
-	@mv host/target/cases.antt crates/cases/specs/RustCases.antt
+	@cargo run $(CARGO) -p cases > host/target/cases
+	@mv host/target/cases crates/cases/specs/RustCases.antt
 
 # The list of answers that the program crates/vectors replays, and what it prints if all are right.
 vectors:
