@@ -31,9 +31,9 @@ ordered-gather ns (var x) l o = go (among x ns)
 ordered-gather ns (leaf k) l o = o
 ordered-gather ns (one k e) l o = ordered-gather ns e l o
 ordered-gather ns (two k a b) l o = ordered-gather ns b _ (ordered-gather ns a l o)
-ordered-gather ns (abs x e) l o = ordered-gather _ e l o
-ordered-gather ns (both k x y e b) l o = ordered-gather _ b _ (ordered-gather ns e l o)
-ordered-gather ns (branch x y e a b) l o = ordered-gather _ b _ (ordered-gather _ a _ (ordered-gather ns e l o))
+ordered-gather ns (abs x e) l o = ordered-gather (x ∷ ns) e l o
+ordered-gather ns (both k x y e b) l o = ordered-gather (y ∷ x ∷ ns) b _ (ordered-gather ns e l o)
+ordered-gather ns (branch x y e a b) l o = ordered-gather (y ∷ ns) b _ (ordered-gather (x ∷ ns) a _ (ordered-gather ns e l o))
 
 -- ---- the members, as tests: l is in the list, n among the binders passed, x and y the binders here, e a b in the parts
 

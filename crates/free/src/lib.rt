@@ -1,5 +1,6 @@
 // The free names of a term: gathered in one walk, and written in their order.
 #![tactic(auto)]
+
 ghost use Rattle.std.specs.Prelude.{◌≡◌, List};
 ghost use Rattle.rules.specs.Name.{Name, encode_names};
 ghost use Rattle.rules.specs.Term.{Term};

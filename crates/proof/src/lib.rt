@@ -1,5 +1,6 @@
 // Reads encoded proofs: accepted with their count of rules, or refused by number and place.
 #![tactic(auto)]
+
 ghost use Rattle.std.specs.Prelude.{◌≡◌};
 ghost use Rattle.rules.specs.Limits.{limits};
 ghost use Rattle.rules.specs.Refusal.{mapped, answered};

@@ -1,6 +1,6 @@
 -- Where a term steps: the first redex from the left, its place, and the term around it. The rules' `step` is the contraction of
 -- that redex in its place. By induction on the term. Assumes nothing.
-use Rattle.std.specs.Prelude.{ℕ, ◌+◌, ◌-◌, ◌≡◌, refl}
+use Rattle.std.specs.Prelude.{ℕ, ◌+◌, ◌≡◌, refl}
 use Rattle.std.proofs.Common.{sym}
 use Rattle.std.proofs.Math.Option.{Option, none, some}
 use Rattle.rules.specs.Term.{Term, var, leaf, one, two, abs, both, branch, inl, inr, fst, snd, abort, promote, derelict, let_a_pair, copy, size}

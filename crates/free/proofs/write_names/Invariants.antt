@@ -1,10 +1,8 @@
 -- `free::write_names` meets its contract: the names passed stand in the output. Assumes nothing.
 use Prim.Native.Nat.{◌≤◌, ◌-◌}
-use mathlib.Core.Path.{◌≡◌, refl, ◌∙◌}
-use native.Mathlib.Omega.{arith}
-use lib.ListN.{length, get_or}
-use Rattle.term.proofs.node.Names.{name-room}
-use Rattle.free.proofs.Listing.{Listing, listed-none, entry-name, entry-room, listed_more, listed-all}
+use mathlib.Core.Path.{◌≡◌}
+use lib.ListN.{length}
+use Rattle.free.proofs.Listing.{Listing}
 use Rattle.free.proofs.write_names.Given as goal
 
 abbrev pub invariant-loop-i : goal.invariant-loop-i

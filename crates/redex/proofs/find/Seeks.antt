@@ -1,6 +1,6 @@
 -- The search at a node, by how many parts it enters: what it wants of the first part decides whether the node is the redex; else
 -- the parts are searched in order. By cases on the shapes of terms. Assumes nothing.
-use Prim.Native.Nat.{ℕ, ◌+◌, ◌-◌}
+use Prim.Native.Nat.{ℕ, ◌+◌}
 use mathlib.Core.Path.{◌≡◌, refl, ap, ◌∙◌}
 use mathlib.Core.Bool.{Bool}
 use mathlib.Core.Option.{Option, none, some}
@@ -95,14 +95,14 @@ opened (one promote e) = into_one e [] refl refl (one_plain (one promote e) e []
 opened (one fst e) = into_one e [] refl refl (one-itself (one fst e) e [] (one fst) 1 refl refl _ (wants-pair e _ (λ a b. refl)))
 opened (one snd e) = into_one e [] refl refl (one-itself (one snd e) e [] (one snd) 1 refl refl _ (wants-pair e _ (λ a b. refl)))
 opened (one derelict e) = into_one e [] refl refl (one-itself (one derelict e) e [] (one derelict) 1 refl refl _ (wants-promote e _ (λ v. refl)))
-opened (two pair a b) = into_two a b refl refl (two-itself (two pair a b) a b _ _ 1 refl refl _ (wants-nothing a))
-opened (two app a b) = into_two a b refl refl (two-itself (two app a b) a b _ _ 1 refl refl _ (wants-abs a b))
-opened (two discard a b) = into_two a b refl refl (two-itself (two discard a b) a b _ _ 1 refl refl _ (wants-promote a _ (λ v. refl)))
+opened (two pair a b) = into_two a b refl refl (two-itself (two pair a b) a b (λ z. two pair z b) (two pair a) 1 refl refl _ (wants-nothing a))
+opened (two app a b) = into_two a b refl refl (two-itself (two app a b) a b (λ z. two app z b) (two app a) 1 refl refl _ (wants-abs a b))
+opened (two discard a b) = into_two a b refl refl (two-itself (two discard a b) a b (λ z. two discard z b) (two discard a) 1 refl refl _ (wants-promote a _ (λ v. refl)))
 opened (abs x e) = into_one e [] refl refl (one_plain (abs x e) e [] (abs x) (1 + name_bytes x) refl (name-long x))
 opened (both let_a_pair x y e b) =
-    into_two e b refl refl (two-itself (both let_a_pair x y e b) e b _ _ (1 + name_bytes x + name_bytes y) refl (names-long 4 x y) _ (wants-pair e _ (λ a c. refl)))
+    into_two e b refl refl (two-itself (both let_a_pair x y e b) e b (λ z. both let_a_pair x y z b) (both let_a_pair x y e) (1 + name_bytes x + name_bytes y) refl (names-long 4 x y) _ (wants-pair e _ (λ a c. refl)))
 opened (both copy x y e b) =
-    into_one e (b ∷ []) refl refl (one-itself (both copy x y e b) e (b ∷ []) _ (1 + name_bytes x + name_bytes y) refl (names-long 17 x y) _ (wants-promote e _ (λ v. refl)))
+    into_one e (b ∷ []) refl refl (one-itself (both copy x y e b) e (b ∷ []) (λ z. both copy x y z b) (1 + name_bytes x + name_bytes y) refl (names-long 17 x y) _ (wants-promote e _ (λ v. refl)))
 opened (branch x y e l r) =
     into_one e (l ∷ r ∷ []) refl refl
-    (one-itself (branch x y e l r) e (l ∷ r ∷ []) _ (1 + name_bytes x + name_bytes y) refl (names-long 9 x y) _ (wants-injection e _ _ (λ v. refl) (λ v. refl)))
+    (one-itself (branch x y e l r) e (l ∷ r ∷ []) (λ z. branch x y z l r) (1 + name_bytes x + name_bytes y) refl (names-long 9 x y) _ (wants-injection e _ _ (λ v. refl) (λ v. refl)))

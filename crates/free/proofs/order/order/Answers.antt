@@ -1,9 +1,5 @@
 -- `order::order` meets its contract: what is left to compare decides. Assumes nothing.
-use Prim.Native.Nat.{◌≤◌, ◌-◌}
-use mathlib.Core.Path.{◌≡◌, refl}
 use native.Mathlib.Omega.{arith}
-use lib.ListN.{length, drop}
-use Rattle.free.specs.Order.{order_of}
 use Rattle.free.proofs.order.Orders.{order-longer, order-less, order-more, order-next, order-begins, order_same}
 use Rattle.free.proofs.order.order.Goals as goal
 

@@ -1,6 +1,4 @@
 -- `order::order_at` meets its contract: the bytes of a name are those behind its length. Assumes nothing.
-use native.Mathlib.Omega.{arith}
-use borrow.Author.Rules.{rules}
 use Rattle.term.proofs.node.Names.{name-room}
 use Rattle.free.proofs.order.Orders.{of_parts}
 use Rattle.free.proofs.order.order_at.Goals as goal

@@ -1,8 +1,7 @@
 -- `order::same_at` meets its contract: where lengths or last bytes differ the names do, and else all bytes are compared. Assumes nothing.
 use native.Mathlib.Omega.{arith}
 use Rattle.term.proofs.node.Names.{name-room}
-use Rattle.free.proofs.order.Comparing.{other_length, other_last, all-bytes}
-use borrow.Author.Rules.{rules}
+use Rattle.free.proofs.order.Comparing.{other_length, other_last}
 use Rattle.free.proofs.order.same_at.Goals as goal
 
 pub bounds-s-last : goal.bounds-s-last

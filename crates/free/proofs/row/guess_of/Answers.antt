@@ -1,9 +1,6 @@
 -- `row::guess_of` meets its contract: a rest by the number of guesses is below it. Assumes nothing.
-use Prim.Native.Nat.{◌+◌, ◌/◌}
 use native.Mathlib.Omega.{arith}
-use lib.ListN.{get_or}
 use Rattle.term.proofs.node.Names.{name-room}
-use borrow.Author.Rules.{rules}
 use Rattle.free.proofs.row.guess_of.Goals as goal
 
 pub bounds-s-last : goal.bounds-s-last

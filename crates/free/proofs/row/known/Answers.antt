@@ -1,9 +1,5 @@
 -- `row::known` meets its contract: the entry is that of a name found or of a binder passed, and is compared. Assumes nothing.
-use native.Mathlib.Omega.{arith}
-use Prim.Native.Nat.{ℕ}
-use mathlib.Core.Path.{◌≡◌}
-use Rattle.free.proofs.row.Meeting.{guess-inside, guess-names, guess-kept}
-use borrow.Author.Rules.{rules}
+use Rattle.free.proofs.row.Meeting.{guess-names, guess-kept}
 use Rattle.free.proofs.row.known.Goals as goal
 
 pub returns-then-live : goal.returns-then-live

@@ -1,8 +1,6 @@
 -- `slot::open_at` meets its contract: what has moved up so far, and what stands as it did. Assumes nothing.
-use Prim.Native.Nat.{◌≤◌, ◌-◌}
-use native.Mathlib.Omega.{arith}
-use lib.ListN.{length-set}
-use Rattle.free.proofs.slot.Opening.{Moved, moved_none, moved_more, moved_all}
+use Prim.Native.Nat.{◌≤◌}
+use Rattle.free.proofs.slot.Opening.{Moved}
 use Rattle.free.proofs.slot.open_at.Given as goal
 
 abbrev pub invariant-loop-j : goal.invariant-loop-j

@@ -1,8 +1,6 @@
 -- `slot::passed` meets its contract: the binders that are left decide. Assumes nothing.
-use Prim.Native.Nat.{◌≤◌, ◌-◌}
 use native.Mathlib.Omega.{arith}
-use Rattle.free.specs.Rows.{binders}
-use Rattle.free.proofs.slot.Scanning.{Left, low_small, left-all, left-none, entry, left-found, left_less}
+use Rattle.free.proofs.slot.Scanning.{entry, left-found, left_less}
 use Rattle.free.proofs.slot.passed.Goals as goal
 
 pub loop-i-preserved : goal.loop-i-preserved

@@ -1,8 +1,7 @@
 -- `slot::passed` meets its contract: the binders that are left decide. Assumes nothing.
 use Prim.Native.Nat.{◌≤◌, ◌-◌}
-use native.Mathlib.Omega.{arith}
 use Rattle.free.specs.Rows.{binders}
-use Rattle.free.proofs.slot.Scanning.{Left, low_small, left-all, left-none, entry, left-found, left_less}
+use Rattle.free.proofs.slot.Scanning.{Left}
 use Rattle.free.proofs.slot.passed.Given as goal
 
 abbrev pub invariant-loop-i : goal.invariant-loop-i

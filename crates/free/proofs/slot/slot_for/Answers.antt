@@ -1,8 +1,6 @@
 -- `slot::slot_for` meets its contract: each comparison leaves the slot between two bounds, until they meet. Assumes nothing.
-use Prim.Native.Nat.{◌≤◌, ◌-◌}
 use native.Mathlib.Omega.{arith}
-use borrow.Author.Rules.{rules}
-use Rattle.free.proofs.slot.Halves.{Aims, aims-all, middle, aims-right, aims-left, hits, misses}
+use Rattle.free.proofs.slot.Halves.{aims-right, aims-left, hits, misses}
 use Rattle.free.proofs.slot.slot_for.Goals as goal
 
 pub loop-lo-preserved : goal.loop-lo-preserved
