@@ -1,5 +1,6 @@
 // Substitution: the places of the name are found in one walk, and the value is spliced in at them.
 #![tactic(auto)]
+
 ghost use Rattle.std.specs.Prelude.{◌≡◌};
 ghost use Rattle.rules.specs.Limits.{limits};
 ghost use Rattle.rules.specs.Refusal.{answered};

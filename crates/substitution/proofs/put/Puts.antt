@@ -12,7 +12,7 @@ use borrow.Author.Tests.{leb-true, le-leb, lt-leb}
 use Rattle.rules.specs.Basic.{Bytes, ◌≤?◌, if◌then◌else◌}
 use Rattle.rules.specs.Limits.{limits, output_room}
 use Rattle.rules.specs.Name.{Name}
-use Rattle.rules.specs.Term.{Term, encode, nodes, size, fits}
+use Rattle.rules.specs.Term.{Term, encode, nodes, size}
 use Rattle.rules.specs.Free.{occurrences}
 use Rattle.rules.specs.Substitution.{subst}
 use Rattle.laws.specs.free.Same.{both_true}

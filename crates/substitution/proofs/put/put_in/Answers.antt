@@ -1,7 +1,6 @@
 -- `put::put_in` meets its contract: the sizes are those of the new whole, and the runs are the bytes of the result.
 -- Assumes nothing.
 use Rattle.substitution.proofs.put.Puts.{nodes-room, bytes-room, too_many, too_long, splicing, put_whole}
-use borrow.Author.Rules.{rules}
 use Rattle.substitution.proofs.put.put_in.Goals as goal
 
 pub grown-requires : goal.grown-requires
@@ -20,4 +19,4 @@ pub returns-then-total-gt-MOST_NODES : goal.returns-then-total-gt-MOST_NODES
 returns-then-total-gt-MOST_NODES c = λ x e v j. too_many j c.grown-total.ensures c.if-total-gt-MOST_NODES.true
 
 pub splice-tally-requires : goal.splice-tally-requires
-splice-tally-requires c = let w = c.requires in splicing w.0.3 c.grown-total.ensures c.if-total-gt-MOST_NODES.false c.grown.ensures c.if-grown-gt-MOST_BYTES.false w.1
+splice-tally-requires c = splicing c.requires.putting.3 c.grown-total.ensures c.if-total-gt-MOST_NODES.false c.grown.ensures c.if-grown-gt-MOST_BYTES.false c.requires.room

@@ -1,11 +1,7 @@
 -- `splice::splice` meets its contract: whatever the places that are left give, all give, and each turn moves one run and one value.
 -- Assumes nothing.
-use Prim.Native.Nat.{◌-◌}
-use mathlib.Core.Path.{◌∙◌}
 use native.Mathlib.Omega.{arith}
-use lib.ListN.{length}
-use borrow.Author.Rules.{rules}
-use Rattle.substitution.proofs.splice.Splicing.{Going, begin, run_room, value_room, turn, last-room, done}
+use Rattle.substitution.proofs.splice.Splicing.{begin, run_room, value_room, turn, last-room, done}
 use Rattle.substitution.proofs.splice.splice.Goals as goal
 
 pub loop-k-init : goal.loop-k-init
