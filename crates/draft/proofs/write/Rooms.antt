@@ -1,11 +1,10 @@
 -- What the steps of writing a part need: room for the head and for each part, and legal parts. Assumes nothing.
 use Prim.Native.Nat.{ℕ, zero, suc, ◌+◌, ◌-◌, ◌<◌, ◌≤◌}
 use mathlib.Core.Path.{◌≡◌, refl, ap, ◌∙◌}
-use mathlib.Core.List.{List, [], ◌∷◌}
+use mathlib.Core.List.{List}
 use native.Mathlib.Omega.{arith}
 use lib.ListN.{length}
 use Rattle.rules.specs.Basic.{Bytes}
-use Rattle.rules.specs.Name.{Name, name_most}
 use Rattle.rules.specs.Term.{Term, var, leaf, one, two, abs, both, branch, encode, size}
 use Rattle.rules.specs.Legal.{Legal}
 use Rattle.buffer.specs.Wrote.{Wrote}
