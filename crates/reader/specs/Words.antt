@@ -3,7 +3,6 @@
 use Rattle.std.specs.Prelude.{ℕ, ◌≡◌, List, [], ◌∷◌, length, take, drop}
 use Rattle.rules.specs.Basic.{Bytes}
 use Rattle.rules.specs.Name.{Name, lower_of, lower, Spelling}
-use Rattle.rules.specs.Layout.{Layout}
 use Rattle.reader.specs.Form.{Form, Term, Formula, layout_of}
 
 abbrev pub spelling_of : Form → Spelling

@@ -1,5 +1,6 @@
 // A checked term where it stands: one look at a node, what binders cover, where parts end; the call child.
 #![tactic(auto)]
+
 pub mod binder;
 pub mod child;
 pub mod node;

@@ -1,7 +1,7 @@
 -- What the words are: two to eight small letters, by a test of each. So a name that ends in a digit is none; and one that is has no other fault,
 -- whence it cannot be told whether 15 is tested before or after the other refusals of a name. Assumes nothing.
 use Rattle.std.specs.Prelude.{ℕ, ◌<◌, ◌≡◌, refl, Bool, true, false, ◌&&◌, List, [], ◌∷◌, ◌++◌, length}
-use Rattle.std.proofs.Common.{sym, ap, ◌∙◌, true≢false, arith}
+use Rattle.std.proofs.Common.{sym, ap, ◌∙◌, true≢false}
 use Rattle.std.proofs.lemmas.Bool.{lt-leb}
 use Rattle.rules.specs.Basic.{between, ◌≤?◌}
 use Rattle.rules.specs.Name.{Name, same, among, leads, follows, words, is_a_word}

@@ -9,7 +9,7 @@ use Rattle.rules.specs.Basic.{◌‥◌}
 use Rattle.rules.specs.Name.{Name, same}
 use Rattle.rules.specs.Term.{Term, var, leaf, one, two, abs, both, branch}
 use Rattle.rules.specs.Free.{occurrences}
-use Rattle.rules.specs.Straight.{Binder, binders, count, stands, plain, Each, Once, Straight}
+use Rattle.rules.specs.Straight.{Binder, binders, count, plain, Each, Once, Straight}
 use Rattle.laws.specs.free.Same.{same-equal, same-itself}
 use Rattle.laws.specs.straight.Weights.{weigh, uses_of, stands_of, uses-weigh, stands-weigh}
 use Rattle.laws.specs.straight.FreeAfter.{flag, shown, shown-most, free-most}

@@ -9,7 +9,7 @@ use Rattle.rules.specs.Term.{Term, nodes, size, fits}
 use Rattle.rules.specs.declared.Rule.{Rule}
 use Rattle.rules.specs.declared.Rule.TheVariants.{App, Let, Case, Fst, Snd, Derelict, Copy, Discard}
 use Rattle.rules.specs.Step.{Stepped, normal, found, step, half_fits, step_fits}
-use Rattle.rules.specs.Straight.{plain, Straight}
+use Rattle.rules.specs.Straight.{Straight}
 use Rattle.laws.specs.free.Same.{both_true}
 use Rattle.laws.specs.straight.Promise.{Loses, StraightStep}
 use Rattle.laws.specs.straight.Weights.{Weight, weigh, stands_of, node_count_of, bytes_of, uses_of, nodes-weigh, bytes-weigh, stands-weigh}

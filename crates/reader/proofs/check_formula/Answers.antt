@@ -1,6 +1,5 @@
 -- `check_formula` meets its contract: the call is its one input's answer. Assumes nothing.
 use Rattle.rules.specs.Calls.{check_formula_call}
-use borrow.Author.Rules.{rules}
 use Rattle.reader.proofs.check_formula.Goals as goal
 
 pub returns : goal.returns

@@ -2,7 +2,6 @@
 use native.Mathlib.Omega.{arith}
 use mathlib.Core.Path.{sym, ◌∙◌}
 use Rattle.reader.proofs.Whole.{whole_long, whole-bad, whole-more, whole-good}
-use borrow.Author.Rules.{rules}
 use Rattle.reader.proofs.check_within.Goals as goal
 
 pub returns-else-next-s : goal.returns-else-next-s

@@ -4,7 +4,6 @@ use mathlib.Core.Path.{sym, ap, ◌∙◌}
 use Rattle.reader.specs.View.{skipped}
 use Rattle.reader.specs.Tables.{letter-classes}
 use Rattle.reader.proofs.Bare.{bare-empty, bare-long, bare-good, bare-bad}
-use borrow.Author.Rules.{rules}
 use Rattle.reader.proofs.name_input.Goals as goal
 
 pub returns-in-Fault : goal.returns-in-Fault

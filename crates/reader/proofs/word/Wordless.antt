@@ -11,7 +11,7 @@ use Rattle.rules.specs.Basic.{Bytes}
 use Rattle.rules.specs.Name.{Name, lower_of, is_a_word, Spelling}
 use Rattle.laws.specs.reading.Words.{ends-in-digit}
 use Rattle.reader.specs.Form.{Form, Term, Formula}
-use Rattle.reader.specs.Words.{spelling_of, byte_compared, compared}
+use Rattle.reader.specs.Words.{spelling_of, compared}
 use Rattle.reader.specs.Classes.{starts_of, Alphabet}
 use Rattle.reader.proofs.class.Views.{rest_in}
 use Rattle.reader.proofs.word.Compared.{allowed-is}

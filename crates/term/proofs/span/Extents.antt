@@ -5,7 +5,7 @@ use mathlib.Core.List.{List, [], ◌∷◌, ◌++◌, append-nil}
 use native.Mathlib.Omega.{arith}
 use lib.ListN.{length}
 use Rattle.rules.specs.Name.{Name}
-use Rattle.rules.specs.Term.{Term, encode, nodes, parts}
+use Rattle.rules.specs.Term.{Term, encode, parts}
 use Rattle.laws.specs.size.Parts.{nodes_of_all, parts-nodes}
 use Rattle.term.specs.Node.{encode_all}
 use Rattle.term.specs.Place.{TermAt, TermsAt, NameAt, NamesAt}

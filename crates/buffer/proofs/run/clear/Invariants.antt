@@ -1,10 +1,8 @@
 -- `run::clear` meets its contract: what is left to set to zero makes up the whole. Assumes nothing.
 use Prim.Native.Nat.{◌≤◌, ◌-◌}
-use mathlib.Core.Path.{◌≡◌, refl, ◌∙◌}
-use native.Mathlib.Omega.{arith}
-use lib.ListN.{length, replicate, length-set}
+use mathlib.Core.Path.{◌≡◌}
+use lib.ListN.{length, replicate}
 use lib.Seq.{sets}
-use Rattle.buffer.proofs.run.Bytes.{clear-more, clear-end}
 use Rattle.buffer.proofs.run.clear.Given as goal
 
 abbrev pub invariant-loop-i : goal.invariant-loop-i

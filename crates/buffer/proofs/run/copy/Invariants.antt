@@ -1,10 +1,8 @@
 -- `run::copy` meets its contract: what is left to copy makes up the whole. Assumes nothing.
 use Prim.Native.Nat.{◌≤◌, ◌-◌, ◌+◌}
-use mathlib.Core.Path.{◌≡◌, refl, ◌∙◌}
-use native.Mathlib.Omega.{arith}
-use lib.ListN.{length, get_or, length-set}
-use lib.Seq.{sets, slice, length-slice}
-use Rattle.buffer.proofs.run.Bytes.{copy_more, copy-end}
+use mathlib.Core.Path.{◌≡◌}
+use lib.ListN.{length}
+use lib.Seq.{sets, slice}
 use Rattle.buffer.proofs.run.copy.Given as goal
 
 abbrev pub invariant-loop-i : goal.invariant-loop-i

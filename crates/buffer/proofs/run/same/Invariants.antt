@@ -1,10 +1,8 @@
 -- `run::same` meets its contract: what is left to compare decides. Assumes nothing.
 use Prim.Native.Nat.{◌≤◌, ◌-◌}
-use mathlib.Core.Path.{◌≡◌, refl, sym}
-use native.Mathlib.Omega.{arith}
+use mathlib.Core.Path.{◌≡◌}
 use lib.ListN.{length, drop}
 use Rattle.rules.specs.Name.{same}
-use Rattle.buffer.proofs.run.Bytes.{same_len, same-miss, same_more, same_end}
 use Rattle.buffer.proofs.run.same.Given as goal
 
 abbrev pub invariant-loop-i : goal.invariant-loop-i

@@ -1,15 +1,14 @@
 -- `ahead::name_end` meets its contract: each test says a field of it. Assumes nothing.
-use Prim.Native.Nat.{ℕ, ◌+◌, ◌-◌, ◌<◌, ◌≤◌}
+use Prim.Native.Nat.{◌+◌, ◌<◌, ◌≤◌}
 use native.Mathlib.Omega.{arith}
 use mathlib.Core.Path.{◌≡◌, sym, ap, ◌∙◌}
 use mathlib.Core.Bool.{true, not}
-use lib.ListN.{get_or, take, drop}
+use lib.ListN.{get_or}
 use Rattle.reader.specs.Words.{spelling_of}
 use Rattle.reader.specs.Classes.{starts_of}
 use Rattle.reader.proofs.ahead.Further.{short}
 use Rattle.reader.proofs.word.Compared.{allowed-is}
 use Rattle.reader.proofs.word.Wordless.{started-allowed}
-use borrow.Author.Rules.{rules}
 use Rattle.reader.proofs.ahead.name_end.Goals as goal
 
 pub is_plain-requires : goal.is_plain-requires

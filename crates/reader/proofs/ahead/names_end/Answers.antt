@@ -3,7 +3,6 @@ use native.Mathlib.Omega.{arith}
 use Rattle.reader.specs.Words.{spelling_of}
 use Rattle.reader.proofs.ahead.Named.{none-to, one-to, then_to}
 use Rattle.reader.proofs.ahead.Further.{short}
-use borrow.Author.Rules.{rules}
 use Rattle.reader.proofs.ahead.names_end.Goals as goal
 
 pub returns-then-names-eq0 : goal.returns-then-names-eq0

@@ -1,7 +1,6 @@
 -- `pass_ones` meets its contract: one node is still to be read after each that is passed. Assumes nothing.
 use Prim.Native.Nat.{◌-◌, ◌≤◌}
-use native.Mathlib.Omega.{arith}
-use Rattle.reader.proofs.ahead.Ones.{Passes, passes_none, passes-more}
+use Rattle.reader.proofs.ahead.Ones.{Passes}
 use Rattle.reader.proofs.ahead.pass_ones.Given as goal
 
 abbrev pub invariant-loop-p : goal.invariant-loop-p

@@ -8,7 +8,6 @@ use Rattle.reader.specs.View.{view}
 use Rattle.reader.proofs.node.Depth.{same}
 use Rattle.reader.proofs.node.Node.{node-out}
 use Rattle.reader.proofs.node.Rest.{rest-is, rest-one}
-use borrow.Author.Rules.{rules}
 use Rattle.reader.proofs.ahead.read_from.Goals as goal
 
 pub returns : goal.returns

@@ -1,7 +1,6 @@
 -- `class::letter_table` meets its contract: letters put into zeros, and those that begin a word. Assumes nothing.
 use mathlib.Core.Path.{ap, ◌∙◌}
 use Rattle.reader.specs.Tables.{beginnings_in, table_of_letters}
-use borrow.Author.Rules.{rules}
 use Rattle.reader.proofs.class.letter_table.Goals as goal
 
 pub returns : goal.returns

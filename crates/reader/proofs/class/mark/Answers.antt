@@ -1,10 +1,6 @@
 -- `class::mark` meets its contract: what is left to write makes up the whole. Assumes nothing.
-use Prim.Native.Nat.{◌-◌}
 use native.Mathlib.Omega.{arith}
-use mathlib.Core.Path.{◌≡◌, refl}
-use lib.ListN.{replicate}
-use lib.Seq.{sets}
-use Rattle.reader.proofs.class.Marks.{mark-more, mark-end}
+use Rattle.reader.proofs.class.Marks.{mark-more}
 use Rattle.reader.proofs.class.mark.Goals as goal
 
 pub loop-b-preserved : goal.loop-b-preserved

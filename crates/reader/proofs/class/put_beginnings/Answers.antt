@@ -1,7 +1,6 @@
 -- `class::put_beginnings` meets its contract: it is marked as the definition has it. Assumes nothing.
 use mathlib.Core.Path.{refl}
 use Rattle.reader.specs.Tables.{beginnings_in}
-use borrow.Author.Rules.{rules}
 use Rattle.reader.proofs.class.put_beginnings.Goals as goal
 
 pub returns : goal.returns

@@ -5,7 +5,6 @@ use lib.ListN.{replicate}
 use lib.Seq.{sets}
 use Rattle.rules.specs.Basic.{Bytes}
 use Rattle.reader.specs.Tables.{letter, letters_in}
-use borrow.Author.Rules.{rules}
 use Rattle.reader.proofs.class.put_letters.Goals as goal
 
 pub returns : goal.returns

@@ -1,10 +1,8 @@
 -- `class::put_tags` meets its contract: what is left to write makes up the whole. Assumes nothing.
 use Prim.Native.Nat.{◌-◌}
-use native.Mathlib.Omega.{arith}
-use mathlib.Core.Path.{◌≡◌, refl}
+use mathlib.Core.Path.{◌≡◌}
 use lib.ListN.{length, drop}
 use lib.Seq.{sets}
-use Rattle.reader.proofs.class.Marks.{tags-more, tags-end}
 use Rattle.reader.proofs.class.put_tags.Given as goal
 
 abbrev pub invariant-loop-b : goal.invariant-loop-b

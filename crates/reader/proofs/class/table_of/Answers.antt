@@ -1,6 +1,5 @@
 -- `class::table_of` meets its contract: the tables are right. Assumes nothing.
 use Rattle.reader.specs.Tables.{term-classes, formula-classes}
-use borrow.Author.Rules.{rules}
 use Rattle.reader.proofs.class.table_of.Goals as goal
 
 pub returns-in-Formula : goal.returns-in-Formula

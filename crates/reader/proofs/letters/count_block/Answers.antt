@@ -1,9 +1,8 @@
 -- `count_block` meets its contract: what is counted and what is left make up the whole. Assumes nothing.
-use borrow.Author.Rules.{rules}
-use Prim.Native.Nat.{◌+◌, ◌-◌, ◌≤◌}
+use Prim.Native.Nat.{◌+◌, ◌-◌}
 use native.Mathlib.Omega.{arith}
 use mathlib.Core.Path.{◌≡◌, ap, ◌∙◌}
-use lib.ListN.{length, get_or}
+use lib.ListN.{get_or}
 use Rattle.rules.specs.Name.{follows}
 use Rattle.reader.specs.Letters.{letters_from}
 use Rattle.reader.proofs.letters.Counts.{count_none, count_next, one-most}

@@ -1,8 +1,7 @@
 -- `count_letters` meets its contract: what is counted and what is left make up the whole. Assumes nothing.
-use Prim.Native.Nat.{◌+◌, ◌-◌, ◌≤◌}
+use Prim.Native.Nat.{◌-◌}
 use native.Mathlib.Omega.{arith}
 use mathlib.Core.Path.{◌≡◌, ap, ◌∙◌}
-use lib.ListN.{length}
 use Rattle.reader.specs.Letters.{letters_from}
 use Rattle.reader.proofs.letters.Counts.{count_none, count_most, count-split, grown, summed}
 use Rattle.reader.proofs.letters.count_letters.Goals as goal

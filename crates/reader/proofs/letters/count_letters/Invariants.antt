@@ -1,10 +1,8 @@
 -- `count_letters` meets its contract: what is counted and what is left make up the whole. Assumes nothing.
 use Prim.Native.Nat.{◌+◌, ◌-◌, ◌≤◌}
-use native.Mathlib.Omega.{arith}
-use mathlib.Core.Path.{◌≡◌, ap, ◌∙◌}
+use mathlib.Core.Path.{◌≡◌}
 use lib.ListN.{length}
 use Rattle.reader.specs.Letters.{letters_from}
-use Rattle.reader.proofs.letters.Counts.{count_none, count_most, count-split, grown, summed}
 use Rattle.reader.proofs.letters.count_letters.Given as goal
 
 abbrev pub invariant-loop-i : goal.invariant-loop-i

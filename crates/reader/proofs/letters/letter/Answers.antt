@@ -3,7 +3,6 @@ use Prim.Native.Nat.{ℕ}
 use mathlib.Core.Path.{sym, ap, ◌∙◌}
 use Rattle.rules.specs.Basic.{if◌then◌else◌, ◌==◌, between}
 use Rattle.reader.proofs.letters.Counts.{by-ranges}
-use borrow.Author.Rules.{rules}
 use Rattle.reader.proofs.letters.letter.Goals as goal
 
 pub returns : goal.returns

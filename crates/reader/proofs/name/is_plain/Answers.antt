@@ -5,7 +5,6 @@ use mathlib.Core.Path.{sym, ◌∙◌}
 use borrow.Author.Tests.{ltb-true}
 use Rattle.reader.specs.Words.{spelling_of}
 use Rattle.reader.proofs.word.Wordless.{started-allowed, digit-allowed}
-use borrow.Author.Rules.{rules}
 use Rattle.reader.proofs.name.is_plain.Goals as goal
 
 pub returns : goal.returns

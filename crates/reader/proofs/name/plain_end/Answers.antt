@@ -6,7 +6,6 @@ use Rattle.reader.specs.View.{skipped}
 use Rattle.reader.specs.Words.{spelling_of}
 use Rattle.reader.proofs.class.Name.{spelled-on, name-on}
 use Rattle.reader.proofs.ahead.Further.{short}
-use borrow.Author.Rules.{rules}
 use Rattle.reader.proofs.name.plain_end.Goals as goal
 
 pub is_plain-requires : goal.is_plain-requires

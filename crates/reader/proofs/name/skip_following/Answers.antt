@@ -1,14 +1,13 @@
 -- `name::skip_following` meets its contract: what is left to read from p on is what was to be read from `at` on. Assumes nothing.
-use Prim.Native.Nat.{ℕ, ◌+◌, ◌-◌, ◌≤◌}
+use Prim.Native.Nat.{◌+◌, ◌-◌}
 use native.Mathlib.Omega.{arith}
-use mathlib.Core.Path.{◌≡◌, refl, sym, ap, ◌∙◌}
+use mathlib.Core.Path.{◌≡◌, sym, ap, ◌∙◌}
 use mathlib.Core.Bool.{true, false}
-use lib.ListN.{length, get_or, drop}
+use lib.ListN.{get_or, drop}
 use Rattle.rules.specs.Name.{follows}
-use Rattle.rules.specs.Reading.{byte_for, many}
-use Rattle.reader.specs.View.{view, skipped}
+use Rattle.rules.specs.Reading.{byte_for}
+use Rattle.reader.specs.View.{skipped}
 use Rattle.reader.proofs.class.Views.{letter-on, letter-off, many-on, many-off, many-none}
-use borrow.Author.Rules.{rules}
 use Rattle.reader.proofs.name.skip_following.Goals as goal
 
 pub loop-p-preserved : goal.loop-p-preserved

@@ -1,14 +1,10 @@
 -- `name::skip_following` meets its contract: what is left to read from p on is what was to be read from `at` on. Assumes nothing.
-use Prim.Native.Nat.{ℕ, ◌+◌, ◌-◌, ◌≤◌}
-use native.Mathlib.Omega.{arith}
-use mathlib.Core.Path.{◌≡◌, refl, sym, ap, ◌∙◌}
-use mathlib.Core.Bool.{true, false}
-use lib.ListN.{length, get_or, drop}
+use Prim.Native.Nat.{ℕ, ◌-◌, ◌≤◌}
+use mathlib.Core.Path.{◌≡◌}
+use lib.ListN.{length, drop}
 use Rattle.rules.specs.Name.{follows}
 use Rattle.rules.specs.Reading.{byte_for, many}
-use Rattle.reader.specs.View.{view, skipped}
-use Rattle.reader.proofs.class.Views.{letter-on, letter-off, many-on, many-off, many-none}
-use borrow.Author.Rules.{rules}
+use Rattle.reader.specs.View.{view}
 use Rattle.reader.proofs.name.skip_following.Given as goal
 
 abbrev pub invariant-loop-p : goal.invariant-loop-p

@@ -6,7 +6,6 @@ use lib.ListN.{get_or}
 use Rattle.rules.specs.Name.{leads}
 use Rattle.reader.specs.View.{skipped}
 use Rattle.reader.proofs.class.Name.{letters-on, letters-off}
-use borrow.Author.Rules.{rules}
 use Rattle.reader.proofs.name.skip_letters.Goals as goal
 
 pub returns-else-leads : goal.returns-else-leads

@@ -5,7 +5,6 @@ use Rattle.reader.specs.View.{skipped}
 use Rattle.reader.specs.Words.{spelling_of}
 use Rattle.reader.proofs.class.Name.{name_out, name-small, name-big, name-short, name-on}
 use Rattle.reader.proofs.ahead.Further.{short}
-use borrow.Author.Rules.{rules}
 use Rattle.reader.proofs.name.skip_name.Goals as goal
 
 pub returns : goal.returns

@@ -1,15 +1,14 @@
 -- `name::skip_names` meets its contract: what is left to read from p on is what was to be read from `at` on. Assumes nothing.
-use Prim.Native.Nat.{ℕ, ◌-◌, ◌≤◌}
+use Prim.Native.Nat.{ℕ, ◌-◌}
 use native.Mathlib.Omega.{arith}
-use mathlib.Core.Path.{◌≡◌, refl, sym, ap, ◌∙◌}
-use lib.ListN.{length, drop}
-use Rattle.rules.specs.Reading.{times, name}
+use mathlib.Core.Path.{sym, ap, ◌∙◌}
+use lib.ListN.{drop}
+use Rattle.rules.specs.Reading.{name}
 use Rattle.laws.specs.reading.Steady.{steady-name}
 use Rattle.reader.specs.Words.{spelling_of}
-use Rattle.reader.specs.View.{view, skipped}
+use Rattle.reader.specs.View.{skipped}
 use Rattle.reader.specs.Viewed.{view-bad, Passed, passed}
 use Rattle.reader.proofs.class.Views.{times-on, times-off, times_none}
-use borrow.Author.Rules.{rules}
 use Rattle.reader.proofs.name.skip_names.Goals as goal
 
 pub loop-left-preserved : goal.loop-left-preserved

@@ -1,15 +1,10 @@
 -- `name::skip_names` meets its contract: what is left to read from p on is what was to be read from `at` on. Assumes nothing.
-use Prim.Native.Nat.{ℕ, ◌-◌, ◌≤◌}
-use native.Mathlib.Omega.{arith}
-use mathlib.Core.Path.{◌≡◌, refl, sym, ap, ◌∙◌}
+use Prim.Native.Nat.{ℕ, ◌≤◌}
+use mathlib.Core.Path.{◌≡◌}
 use lib.ListN.{length, drop}
 use Rattle.rules.specs.Reading.{times, name}
-use Rattle.laws.specs.reading.Steady.{steady-name}
 use Rattle.reader.specs.Words.{spelling_of}
-use Rattle.reader.specs.View.{view, skipped}
-use Rattle.reader.specs.Viewed.{view-bad, Passed, passed}
-use Rattle.reader.proofs.class.Views.{times-on, times-off, times_none}
-use borrow.Author.Rules.{rules}
+use Rattle.reader.specs.View.{view}
 use Rattle.reader.proofs.name.skip_names.Given as goal
 
 abbrev pub invariant-loop-left : goal.invariant-loop-left

@@ -7,7 +7,6 @@ use Rattle.reader.specs.View.{skipped}
 use Rattle.reader.specs.Words.{spelling_of}
 use Rattle.reader.proofs.class.Name.{spelled-off, spelled-on, spelled-word}
 use Rattle.reader.proofs.word.Compared.{allowed-is}
-use borrow.Author.Rules.{rules}
 use Rattle.reader.proofs.name.skip_spelled.Goals as goal
 
 pub returns-else-is_word : goal.returns-else-is_word

@@ -1,14 +1,11 @@
 -- `read_row` meets its contract: whatever the nodes that are still to be read come to, the whole comes to. Assumes nothing.
-use Prim.Native.Nat.{◌+◌, ◌-◌, ◌*◌, ◌/◌, ◌≤◌}
-use native.Mathlib.Omega.{arith}
-use mathlib.Core.Path.{◌≡◌, sym, ◌∙◌}
+use Prim.Native.Nat.{◌+◌, ◌-◌, ◌*◌, ◌≤◌}
+use mathlib.Core.Path.{◌≡◌}
 use lib.ListN.{drop}
 use Rattle.rules.specs.Reading.{times, node}
 use Rattle.reader.specs.Form.{layout_of}
 use Rattle.reader.specs.View.{view}
-use Rattle.reader.proofs.node.Rest.{Rest, rest-is, rest-none, rest-same}
-use Rattle.reader.proofs.node.Turn.{turn-out, turn-full, turn-unknown, few-parts, turn-off, turn_on}
-use borrow.Author.Rules.{rules}
+use Rattle.reader.proofs.node.Rest.{Rest}
 use Rattle.reader.proofs.node.read_row.Given as goal
 
 abbrev pub invariant-loop-met : goal.invariant-loop-met

@@ -1,10 +1,8 @@
 -- `word::is_among` meets its contract: the words that are not compared yet decide. Assumes nothing.
 use Prim.Native.Nat.{◌-◌, ◌≤◌}
-use mathlib.Core.Path.{sym, ◌∙◌}
-use native.Mathlib.Omega.{arith}
 use lib.ListN.{length, take, drop}
 use Rattle.reader.specs.Words.{compared}
-use Rattle.reader.proofs.word.Rows.{Decides, decides-all, decides-none, decides-found, decides-later}
+use Rattle.reader.proofs.word.Rows.{Decides}
 use Rattle.reader.proofs.word.is_among.Given as goal
 
 abbrev pub invariant-loop-w : goal.invariant-loop-w

@@ -4,13 +4,12 @@ use mathlib.Core.Path.{◌≡◌, refl, sym, ap, ◌∙◌}
 use mathlib.Core.Bool.{Bool, false}
 use native.Mathlib.Omega.{arith}
 use lib.ListN.{length, take, drop}
-use Rattle.rules.specs.Basic.{Bytes, say}
+use Rattle.rules.specs.Basic.{Bytes}
 use Rattle.rules.specs.Name.{among, words, is_a_word}
 use Rattle.reader.specs.Form.{Form}
-use Rattle.reader.specs.Words.{compared, InRow}
+use Rattle.reader.specs.Words.{compared}
 use Rattle.reader.proofs.word.Compared.{compared-long}
 use Rattle.reader.proofs.word.Rows.{of_length, word_of, none_of}
-use borrow.Author.Rules.{rules}
 use Rattle.reader.proofs.word.is_listed.Goals as goal
 
 -- what is said of the words of k letters is said of all

@@ -1,8 +1,8 @@
 -- `word::spells` meets its contract: what is left to compare decides. Assumes nothing.
-use Prim.Native.Nat.{◌+◌, ◌-◌, ◌≤◌}
-use mathlib.Core.Path.{◌≡◌, sym, ◌∙◌}
+use Prim.Native.Nat.{◌+◌, ◌-◌}
+use mathlib.Core.Path.{sym, ◌∙◌}
 use native.Mathlib.Omega.{arith}
-use Rattle.reader.proofs.word.Compared.{alike, alike_same, alike-none, alike-off, alike-on}
+use Rattle.reader.proofs.word.Compared.{alike_same, alike-off, alike-on}
 use Rattle.reader.proofs.word.spells.Goals as goal
 
 pub loop-i-preserved : goal.loop-i-preserved

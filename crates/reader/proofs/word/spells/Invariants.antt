@@ -1,8 +1,7 @@
 -- `word::spells` meets its contract: what is left to compare decides. Assumes nothing.
 use Prim.Native.Nat.{◌+◌, ◌-◌, ◌≤◌}
-use mathlib.Core.Path.{◌≡◌, sym, ◌∙◌}
-use native.Mathlib.Omega.{arith}
-use Rattle.reader.proofs.word.Compared.{alike, alike_same, alike-none, alike-off, alike-on}
+use mathlib.Core.Path.{◌≡◌}
+use Rattle.reader.proofs.word.Compared.{alike}
 use Rattle.reader.proofs.word.spells.Given as goal
 
 abbrev pub invariant-loop-i : goal.invariant-loop-i

@@ -3,7 +3,6 @@ use mathlib.Core.Path.{refl, ap, ◌∙◌}
 use Prim.Native.Nat.{ℕ, ◌+◌}
 use native.Mathlib.Nat.{add_comm}
 use Rattle.term.proofs.child.Children.{part-ordered, part-within, part-is, part-starts, missing-is, missing-starts}
-use borrow.Author.Rules.{rules}
 use Rattle.term.proofs.child.child.Goals as goal
 
 pub returns-in-Missing : goal.returns-in-Missing

@@ -1,6 +1,5 @@
 -- `child::child_fault` meets its contract: it tells what kept a child from being located. Assumes nothing.
 use Rattle.term.proofs.child.Children.{part-well, missing-told}
-use borrow.Author.Rules.{rules}
 use Rattle.term.proofs.child.child_fault.Goals as goal
 
 pub returns-in-Missing : goal.returns-in-Missing

@@ -2,7 +2,6 @@
 use mathlib.Core.Path.{sym, ap, ◌∙◌}
 use Rattle.term.proofs.child.Children.{refused-term, some_read, no-child, some-before, some-child, child-part}
 use Rattle.term.specs.declared.child.Piece.TheVariants.{Missing}
-use borrow.Author.Rules.{rules}
 use Rattle.term.proofs.child.locate.Goals as goal
 
 pub parts_at-row-requires : goal.parts_at-row-requires

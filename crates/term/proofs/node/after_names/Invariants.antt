@@ -1,10 +1,9 @@
 -- `node::after_names` meets its contract: where the names that are left end, all of them end. Assumes nothing.
 use Prim.Native.Nat.{ℕ}
 use mathlib.Core.List.{List}
-use native.Mathlib.Omega.{arith}
 use Rattle.rules.specs.Name.{Name}
 use Rattle.term.specs.Place.{NamesAt}
-use Rattle.term.proofs.node.Names.{AfterIs, none_after, name-byte, name-next, name_done}
+use Rattle.term.proofs.node.Names.{AfterIs}
 use Rattle.term.proofs.node.after_names.Given as goal
 
 abbrev pub invariant-loop-left : goal.invariant-loop-left

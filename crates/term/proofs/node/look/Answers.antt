@@ -3,7 +3,6 @@ use native.Mathlib.Omega.{arith}
 use Rattle.term.proofs.node.Names.{some-single}
 use Rattle.term.proofs.node.Terms.{at-inside, at_small}
 use Rattle.term.proofs.node.Looks.{seen-bare, one_name, seen-var, seen-abs, two-names, seen-two}
-use borrow.Author.Rules.{rules}
 use Rattle.term.proofs.node.look.Goals as goal
 
 pub after_names-second-requires : goal.after_names-second-requires

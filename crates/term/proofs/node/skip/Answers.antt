@@ -1,8 +1,6 @@
 -- `node::skip` meets its contract: where the terms that are left end, all of them end. Assumes nothing.
-use Prim.Native.Nat.{ℕ, ◌-◌}
 use native.Mathlib.Omega.{arith}
-use lib.ListN.{length}
-use Rattle.term.proofs.node.Terms.{Some, SkipIs, some_first, some_fits, skip-none, at-inside, at_small, some-names, look_is, turn-some, turn-ahead, turn-skip}
+use Rattle.term.proofs.node.Terms.{some_first, some_fits, skip-none, at-inside, at_small, some-names, look_is, turn-some, turn-ahead, turn-skip}
 use Rattle.term.proofs.node.skip.Goals as goal
 
 pub after_names-i-requires : goal.after_names-i-requires

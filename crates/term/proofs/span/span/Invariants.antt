@@ -1,10 +1,8 @@
 -- `span::span` meets its contract: whatever the terms that are left have, all of them have that and what was met.
 -- Assumes nothing.
 use Prim.Native.Nat.{◌-◌}
-use native.Mathlib.Omega.{arith}
 use lib.ListN.{length}
-use Rattle.term.proofs.node.Terms.{some_first, some_fits, at-inside, at_small, some-names, look_is, turn-ahead}
-use Rattle.term.proofs.span.Extents.{Going, begin, done, turn}
+use Rattle.term.proofs.span.Extents.{Going}
 use Rattle.term.proofs.span.span.Given as goal
 
 abbrev pub invariant-loop-left : goal.invariant-loop-left

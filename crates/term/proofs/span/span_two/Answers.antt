@@ -1,6 +1,5 @@
 -- `span::span_two` meets its contract: each term starts where the one before it ends. Assumes nothing.
-use mathlib.Core.List.{[], ◌∷◌}
-use Rattle.term.proofs.node.Terms.{first}
+use mathlib.Core.List.{[]}
 use Rattle.term.proofs.span.Extents.{row-second, both-measured}
 use Rattle.term.proofs.span.span_two.Goals as goal
 

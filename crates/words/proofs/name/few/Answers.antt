@@ -2,7 +2,6 @@
 use native.Mathlib.Omega.{arith}
 use Rattle.rules.specs.Name.{atom_most}
 use Rattle.words.specs.Written.{more, copied, exact}
-use borrow.Author.Rules.{rules}
 use Rattle.words.proofs.name.few.Goals as goal
 
 pub returns : goal.returns

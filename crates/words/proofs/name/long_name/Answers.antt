@@ -4,7 +4,6 @@ use native.Mathlib.Omega.{arith}
 use lib.ListN.{get_or}
 use Rattle.rules.specs.Name.{name_most}
 use Rattle.words.specs.Written.{more, copied, exact}
-use borrow.Author.Rules.{rules}
 use Rattle.words.proofs.name.long_name.Goals as goal
 
 pub returns : goal.returns

@@ -3,7 +3,6 @@ use Prim.Native.Nat.{◌+◌}
 use native.Mathlib.Omega.{arith}
 use lib.ListN.{get_or}
 use Rattle.words.specs.Written.{copied}
-use borrow.Author.Rules.{rules}
 use Rattle.words.proofs.name.name.Goals as goal
 
 pub returns : goal.returns

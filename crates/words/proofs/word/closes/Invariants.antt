@@ -1,7 +1,5 @@
 -- `word::closes` meets its contract: of the brackets all but those left are printed. Assumes nothing.
-use mathlib.Core.Path.{refl, ◌∙◌}
-use native.Mathlib.Omega.{arith}
-use Rattle.words.specs.Written.{Closing, none_yet, still-room, some_more, all_closed}
+use Rattle.words.specs.Written.{Closing}
 use Rattle.words.proofs.word.closes.Given as goal
 
 abbrev pub invariant-loop-left : goal.invariant-loop-left

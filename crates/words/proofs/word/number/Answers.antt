@@ -1,7 +1,6 @@
 -- `word::number` meets its contract: eight bytes are written, of which the first n count. Assumes nothing.
 use Rattle.words.specs.Prints.{eight}
 use Rattle.words.specs.Written.{prints}
-use borrow.Author.Rules.{rules}
 use Rattle.words.proofs.word.number.Goals as goal
 
 pub returns : goal.returns

@@ -2,7 +2,6 @@
 use mathlib.Core.Path.{refl}
 use Rattle.words.specs.Prints.{eight}
 use Rattle.words.specs.Written.{with-space}
-use borrow.Author.Rules.{rules}
 use Rattle.words.proofs.word.spaced.Goals as goal
 
 pub returns : goal.returns

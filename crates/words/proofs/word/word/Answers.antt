@@ -4,7 +4,6 @@ use native.Mathlib.Omega.{arith}
 use lib.ListN.{length}
 use lib.Seq.{sets, take_all}
 use Rattle.words.specs.Written.{prints}
-use borrow.Author.Rules.{rules}
 use Rattle.words.proofs.word.word.Goals as goal
 
 pub returns : goal.returns

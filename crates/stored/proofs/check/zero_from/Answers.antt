@@ -1,0 +1,15 @@
+-- `check::zero_from` meets its contract: what was gathered and what is left decide together. Assumes nothing.
+use Prim.Native.Nat.{◌-◌}
+use mathlib.Core.Path.{◌≡◌, refl}
+use mathlib.Core.Bool.{◌&&◌}
+use native.Mathlib.Omega.{arith}
+use lib.Dec.{eqb}
+use lib.ListN.{length, drop}
+use Rattle.rules.specs.Stored.{all_zero}
+use Rattle.stored.specs.Weights.{zero_turn, zero-end}
+use Rattle.stored.proofs.check.zero_from.Goals as goal
+
+pub loop-i-preserved : goal.loop-i-preserved
+loop-i-preserved c =
+    let body = c.args.body.now in
+    zero_turn body c.loop-i.i c.loop-i.any _ (omega arith) c.loop-i.invariant

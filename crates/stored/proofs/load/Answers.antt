@@ -1,0 +1,85 @@
+-- `stored::load` meets its contract: room, the file's size, its blocks, their content, and only then the output. Assumes nothing.
+use Prim.Native.Nat.{◌≤◌}
+use mathlib.Core.Path.{refl, sym, ap, ◌∙◌}
+use native.Mathlib.Omega.{arith}
+use lib.ListN.{length, take}
+use lib.Seq.{length-take-le}
+use Rattle.rules.specs.Limits.{limits}
+use Rattle.rules.specs.Refusal.{refused}
+use Rattle.rules.specs.declared.Answer.{Answer}
+use Rattle.rules.specs.declared.Answer.TheVariants.{Refused}
+use Rattle.stored.specs.Answers.{accepted}
+use Rattle.stored.specs.Opening.{taken, amount}
+use Rattle.stored.specs.Storing.{read_short, load-short, load-size, load-blocks, load-content, load-good, size-right, ends}
+use borrow.Author.Rules.{rules}
+use Rattle.stored.proofs.load.Goals as goal
+
+pub put_content-requires : goal.put_content-requires
+put_content-requires c =
+    let a = c.args in
+    let o = c.open_blocks in
+    let n = c.in-Good.size in
+    let all : n ≤ length o.new.content = omega (arith, o.ensures.within, ap amount c.in-Good.is) in
+    let short = read_short limits a.kind 1 (take n o.new.content) (c.content_input.ensures ∙ ap accepted c.in-Good-content_input.is) in
+    (all, omega (arith, short, length-take-le n o.new.content all, c.if-out-lt-OUTPUT_ROOM.false))
+
+pub returns-in-Good-content_input : goal.returns-in-Good-content_input
+returns-in-Good-content_input c =
+    let a = c.args in
+    
+    let o = c.open_blocks in
+    
+    
+    let p = c.put_content.ensures in
+    let both =
+      ends
+      (load-good limits a.kind a.file.now a.out.now c.if-out-lt-OUTPUT_ROOM.false (sym c.size_wrong.ensures ∙ c.if-size_wrong.false)
+      (take c.in-Good.size o.new.content) (o.ensures.outcome ∙ ap (λ (r : Answer). taken r o.new.content) c.in-Good.is)
+      (c.content_input.ensures ∙ ap accepted c.in-Good-content_input.is))
+      p.answer
+      p.output in
+    record { value = both.0; out_after = both.1 }
+
+pub returns-in-Refused : goal.returns-in-Refused
+returns-in-Refused c =
+    let a = c.args in
+    
+    let o = c.open_blocks in
+    
+    let both =
+      ends
+      (load-blocks limits a.kind a.file.now a.out.now c.if-out-lt-OUTPUT_ROOM.false (sym c.size_wrong.ensures ∙ c.if-size_wrong.false) c.in-Refused.r
+      (o.ensures.outcome ∙ ap (λ (r : Answer). taken r o.new.content) c.in-Refused.is))
+      refl
+      refl in
+    record { value = both.0; out_after = both.1 }
+
+pub returns-then-size_wrong : goal.returns-then-size_wrong
+returns-then-size_wrong c =
+    let a = c.args in
+    let both =
+      ends
+      (load-size limits a.kind a.file.now a.out.now c.if-out-lt-OUTPUT_ROOM.false (sym c.size_wrong.ensures ∙ c.if-size_wrong.true))
+      c.refused.ensures
+      refl in
+    record { value = both.0; out_after = both.1 }
+
+pub returns-then-out-lt-OUTPUT_ROOM : goal.returns-then-out-lt-OUTPUT_ROOM
+returns-then-out-lt-OUTPUT_ROOM c =
+    let a = c.args in
+    let both =
+      ends (load-short limits a.kind a.file.now a.out.now c.if-out-lt-OUTPUT_ROOM.true) (ap Refused c.of_no_input.ensures) refl in
+    record { value = both.0; out_after = both.1 }
+
+pub returns-in-Refused-content_input : goal.returns-in-Refused-content_input
+returns-in-Refused-content_input c =
+    let a = c.args in
+    let o = c.open_blocks in
+    let both =
+      ends
+      (load-content limits a.kind a.file.now a.out.now c.if-out-lt-OUTPUT_ROOM.false (sym c.size_wrong.ensures ∙ c.if-size_wrong.false)
+      (take c.in-Good.size o.new.content) (o.ensures.outcome ∙ ap (λ (r : Answer). taken r o.new.content) c.in-Good.is) c.in-Refused-content_input.r
+      (c.content_input.ensures ∙ ap accepted c.in-Refused-content_input.is))
+      refl
+      refl in
+    record { value = both.0; out_after = both.1 }

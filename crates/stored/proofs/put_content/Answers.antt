@@ -1,0 +1,18 @@
+-- `stored::put_content` meets its contract: a copy, then zeros. Assumes nothing.
+use mathlib.Core.Path.{ap, ◌∙◌}
+use native.Mathlib.Nat.{zero-add}
+use native.Mathlib.Omega.{arith}
+use lib.Seq.{length-take-le}
+use Rattle.rules.specs.declared.Answer.TheVariants.{Good}
+use Rattle.buffer.specs.Writing.{filled-up}
+use borrow.Author.Rules.{rules}
+use Rattle.stored.proofs.put_content.Goals as goal
+
+pub returns : goal.returns
+returns c =
+    let w = c.copy-past.ensures in
+    let n = length-take-le c.args.size c.args.s.now c.requires.0 in
+    record {
+      output = filled-up w c.clear.ensures (omega (arith, n, c.requires));
+      answer = ap Good (w.ends ∙ zero-add _);
+    }
