@@ -63,7 +63,7 @@ pub fn between(tag: u8, out: &mut [u8], to: usize) -> usize
 // `λ`, the name and `. `
 pub fn bound_name(s: &[u8], x: usize, out: &mut [u8], to: usize) -> usize
     requires { NameIn s.now x × (to + get_or s.now x 0 + 28 ≤ length out.old) }
-    ensures { Prints out.old to (say "λ" ‥ name_at s.entry.now x ‥ say ". ") out.new result }
+    ensures { Prints out.old to (say "λ" ‥ name_at s.now x ‥ say ". ") out.new result }
 {
     let a = word(out, to, b"\xce\xbb\x00\x00\x00\x00\x00\x00", 2);
     named(s, x, out, a, b". \x00\x00\x00\x00\x00\x00", 2)

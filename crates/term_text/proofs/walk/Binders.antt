@@ -6,7 +6,7 @@ use mathlib.Core.List.{List, [], ◌∷◌, ◌++◌, append_assoc}
 use native.Mathlib.Omega.{arith}
 use lib.ListN.{length, get_or, length-append}
 use Rattle.rules.specs.Basic.{say}
-use Rattle.rules.specs.Name.{Name, encode_name, name_most}
+use Rattle.rules.specs.Name.{Name, encode_name}
 use Rattle.rules.specs.Term.{Term, both, branch, let_a_pair, copy, encode}
 use Rattle.rules.specs.Text.{text}
 use Rattle.words.specs.Prints.{Prints}
