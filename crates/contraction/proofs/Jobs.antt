@@ -5,7 +5,7 @@ use native.Mathlib.Omega.{arith}
 use lib.ListN.{length}
 use Rattle.rules.specs.Basic.{Bytes}
 use Rattle.rules.specs.Name.{Name}
-use Rattle.rules.specs.Term.{Term, one, two, both, promote, pair, let_a_pair, copy, nodes}
+use Rattle.rules.specs.Term.{Term, one, two, both, promote, pair, let_a_pair, copy}
 use Rattle.term.specs.Place.{TermAt}
 use Rattle.term.proofs.node.Terms.{at-end, first, others}
 use Rattle.term.specs.Measured.{Measured, Named}

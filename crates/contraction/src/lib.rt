@@ -1,5 +1,6 @@
 // The contraction of a redex where it stands: what it becomes is written by itself, and nothing around it is touched.
 #![tactic(auto)]
+
 ghost use Rattle.std.proofs.Math.Option.{Option};
 ghost use Rattle.rules.specs.declared.Rule.{Rule};
 ghost use Rattle.rules.specs.Term.{Term};
