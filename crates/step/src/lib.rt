@@ -1,5 +1,6 @@
 // One step of a term, and whether there is one: the public calls.
 #![tactic(auto)]
+
 ghost use Rattle.std.specs.Prelude.{◌≡◌, ◌≤◌, length};
 ghost use Rattle.rules.specs.Limits.{limits, scratch_room};
 ghost use Rattle.rules.specs.Term.{Term};
