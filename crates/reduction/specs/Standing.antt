@@ -1,6 +1,6 @@
 -- Where the search stands: the output holds what it has passed, the scratch, up to its end, the term at which it stands and all that
 -- follows, and the stack one mark for each node above. Assumes nothing: these are definitions.
-use Rattle.std.specs.Prelude.{ℕ, zero, suc, ◌+◌, ◌≤◌, ◌≡◌, true, false, List, [], ◌∷◌, ◌++◌, length, take, drop, get_or}
+use Rattle.std.specs.Prelude.{ℕ, zero, suc, ◌≤◌, ◌≡◌, true, false, List, [], ◌∷◌, ◌++◌, length, take, drop, get_or}
 use Rattle.rules.specs.Basic.{Bytes}
 use Rattle.rules.specs.Limits.{limits, output_room, scratch_room}
 use Rattle.rules.specs.Term.{Term, encode, size, fits}

@@ -1,5 +1,6 @@
 // Bounded reduction: a term is read once, steps are taken up to the limit, and the last term stands in the output with zeros behind it.
 #![tactic(auto)]
+
 ghost use Rattle.std.specs.Prelude.{◌≡◌, ◌≤◌, length};
 ghost use Rattle.rules.specs.Limits.{limits, scratch_room};
 ghost use Rattle.rules.specs.Term.{Term};

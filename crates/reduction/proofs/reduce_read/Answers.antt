@@ -1,0 +1,9 @@
+-- `reduction::reduce_read` meets its contract: the loop's answer, with zeros behind what it left. Assumes nothing.
+use Rattle.reduction.proofs.Ending.{stop, outgrow}
+use Rattle.reduction.proofs.reduce_read.Goals as goal
+
+pub returns-in-Outgrown : goal.returns-in-Outgrown
+returns-in-Outgrown c = λ t d. outgrow (c.repeat_steps.ensures t d) c.args.out.now c.repeat_steps.auto.out d.room c.in-Outgrown.is _ c.repeat_steps.new.scratch c.repeat_steps.auto.scratch c.leave-in-Outgrown.ensures.scratch_after c.leave-in-Outgrown.ensures.out_after
+
+pub returns-in-Stopped : goal.returns-in-Stopped
+returns-in-Stopped c = λ t d. stop (c.repeat_steps.ensures t d) c.args.out.now c.repeat_steps.auto.out d.room c.in-Stopped.is _ c.repeat_steps.new.scratch c.repeat_steps.auto.scratch c.leave.ensures.scratch_after c.leave.ensures.out_after
