@@ -2,4 +2,3 @@ pub mod Stems
 pub mod Opposites
 pub mod Axioms
 pub mod Seeking
-pub mod Tests

@@ -1,6 +1,1 @@
-pub mod Row
-pub mod Rules
 pub mod Filling
-pub mod Again
-pub mod Lent
-pub mod Local

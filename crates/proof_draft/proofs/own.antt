@@ -1,4 +1,1 @@
 pub mod Starting
-pub mod Walking
-pub mod Locals
-pub mod Drafting

@@ -1,5 +1,6 @@
 // From a checked proof to a draft: cut entries, the name of an Axiom, what a rule does, the walk.
 #![tactic(auto)]
+
 pub mod axiom;
 pub mod entry;
 pub mod own;

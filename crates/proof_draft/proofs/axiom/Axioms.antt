@@ -1,5 +1,5 @@
 -- The name that an Axiom takes: what each formula of `linear` gives by itself, and the first that gives one decides. Assumes nothing.
-use Prim.Native.Nat.{ℕ, ◌+◌, ◌-◌, ◌<◌, ◌≤◌}
+use Prim.Native.Nat.{ℕ, ◌+◌, ◌-◌, ◌<◌}
 use mathlib.Core.Path.{◌≡◌, refl, sym, ap, ◌∙◌}
 use mathlib.Core.List.{List, [], ◌∷◌}
 use mathlib.Core.Option.{Option, none, some}
@@ -133,7 +133,3 @@ module _ (s : Bytes) (row : List CutEntry) (k : ℕ) where
           let u = first encode_formula s i n f fs v in
           t fs es (others encode_formula s i n f fs v j (skip-one encode_formula s i j d f u)) w
           ∙ sym (axiom-split es f fs ∙ ap (λ (q : Option Name). or_else q (axiom_name es fs)) (sym (g f es u w)))
-
--- the row has room for the entries
-pub entries-room : {s : Bytes} {row : List CutEntry} {k i n : ℕ} → Row s row k i n → k ≤ length row
-entries-room (l, es, v, w) = w.room

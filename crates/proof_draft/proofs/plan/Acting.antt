@@ -1,9 +1,8 @@
 -- What a rule does, by its tag and its count of premises, is what extraction makes of it: by the rule, and by its premises. Assumes nothing.
-use Prim.Native.Nat.{ℕ, zero, suc, ◌+◌, ◌<◌, ◌≤◌}
-use mathlib.Core.Path.{◌≡◌, refl, sym, ap, ◌∙◌}
+use Prim.Native.Nat.{ℕ, suc, ◌+◌}
+use mathlib.Core.Path.{◌≡◌, refl, ap, ◌∙◌}
 use mathlib.Core.List.{List}
 use native.Mathlib.Omega.{arith}
-use borrow.Author.Tests.{ne_eqb, le-leb, lt-leb}
 use lib.ListN.{length}
 use Rattle.rules.specs.Basic.{Bytes}
 use Rattle.rules.specs.Formula.{Formula}
@@ -13,45 +12,9 @@ use Rattle.rules.specs.Extraction.{terms, Entries, extract}
 use Rattle.draft.specs.Made.{over}
 use Rattle.proof.specs.Shape.{listed, rule_tag, Sees}
 use Rattle.proof.specs.declared.rule.Looked.{Looked}
-use Rattle.proof_draft.specs.Acts.{Act, cut_act, pair_act, first_act, act_of, plan_by, Overs, Acts}
+use Rattle.proof_draft.specs.Acts.{act_of, plan_by, Overs, Acts}
 use Rattle.proof_draft.specs.Planning.{Tells}
 use Rattle.proof_draft.specs.declared.plan.Plan.{Plan}
-
--- ---- the numbers, as the code tests them
-
-pub cut-other : (m : ℕ) → (m ≡ 2 → ⊥) → (0, 0, 0) ≡ cut_act m
-cut-other zero a = refl
-cut-other (suc zero) a = refl
-cut-other (suc (suc zero)) a = absurd (a refl)
-cut-other (suc (suc (suc m))) a = refl
-
-pub pair-other : (i m : ℕ) → (m ≡ 1 → ⊥) → (m ≡ 2 → ⊥) → (0, i, 0) ≡ pair_act i m
-pair-other i zero a b = refl
-pair-other i (suc zero) a b = absurd (a refl)
-pair-other i (suc (suc zero)) a b = absurd (b refl)
-pair-other i (suc (suc (suc m))) a b = refl
-
-pub first_read : (k n m : ℕ) → (m ≡ 0 → ⊥) → (3, k, n) ≡ first_act k n m
-first_read k n zero a = absurd (a refl)
-first_read k n (suc m) a = refl
-
-pub first-bare : (k n m : ℕ) → m ≡ 0 → k ≤ 5 → (1, k, 0) ≡ first_act k n m
-first-bare k n m e h = rw (e, le-leb k 5 h) refl
-
-pub first_leaf : (k n m : ℕ) → m ≡ 0 → 5 < k → (0, 0, 0) ≡ first_act k n m
-first_leaf k n m e h = rw (e, lt-leb k 5 h) refl
-
-pub act-other : (t m : ℕ) → (t ≡ 1 → ⊥) → (t ≡ 2 → ⊥) → (t ≡ 3 → ⊥) → (t ≡ 5 → ⊥) → (t ≡ 7 → ⊥) → (t ≡ 8 → ⊥) → (t ≡ 9 → ⊥) → (t ≡ 10 → ⊥) → (t ≡ 11 → ⊥)
-    → (t ≡ 13 → ⊥) → (t ≡ 14 → ⊥) → (t ≡ 15 → ⊥) → first_act 12 0 m ≡ act_of t m
-act-other t m a b c d e f g h i j k l =
-    rw (ne_eqb t 1 a, ne_eqb t 2 b, ne_eqb t 3 c, ne_eqb t 5 d, ne_eqb t 7 e, ne_eqb t 8 f, ne_eqb t 9 g, ne_eqb t 10 h, ne_eqb t 11 i, ne_eqb t 13 j, ne_eqb t 14 k, ne_eqb t 15 l) refl
-
--- a plan, by the act
-pub acts-so : (q : Looked) {r : Plan} {a b : Act} → r ≡ plan_by q a → a ≡ b → r ≡ plan_by q b
-acts-so q e f = e ∙ ap (λ (z : Act). plan_by q z) f
-
-pub by-tag : (q : Looked) {r : Plan} (t : ℕ) → q.tag ≡ t → r ≡ plan_by q (act_of t q.premises) → r ≡ plan_by q (act_of q.tag q.premises)
-by-tag q t e f = f ∙ ap (λ (i : ℕ). plan_by q (act_of i q.premises)) (sym e)
 
 -- ---- what extraction makes
 

@@ -12,7 +12,7 @@ use Rattle.laws.specs.reading.Lists.{total}
 use Rattle.draft.specs.Draft.{Rows, Drafts}
 use Rattle.draft.specs.Made.{most_number}
 use Rattle.draft.specs.Steady.{drafts-unit, drafts-trivial}
-use Rattle.proof.specs.Place.{ProofAt, ProofsAt, proofs_long}
+use Rattle.proof.specs.Place.{ProofsAt, proofs_long}
 use Rattle.proof.specs.Shape.{listed, premises_of}
 use Rattle.proof_draft.specs.declared.entry.CutEntry.{CutEntry}
 use Rattle.proof_draft.specs.declared.plan.Plan.{Plan}
@@ -41,9 +41,6 @@ leaf-part (suc (suc i)) h w = absurd (omega (arith, h))
 module _ {s : Bytes} {at : ℕ} {cs : List CutEntry} {k : ℕ} {ws : List ℕ} {used n : ℕ} where
   pub starts-inside : Starts s at cs k ws used n → at < length s
   starts-inside (p, es, w) = at-inside proofs-spelt s at p w.proof
-
-  pub starts-here : Starts s at cs k ws used n → (p : Proof) × ProofAt s at p
-  starts-here (p, es, w) = (p, w.proof)
 
   pub starts-open : Starts s at cs k ws used n → Open ws used × (n + 2 < most_number)
   starts-open (p, es, w) =
