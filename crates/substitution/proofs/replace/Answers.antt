@@ -5,10 +5,17 @@ use Rattle.substitution.proofs.Works.{putting, end-within, done, outgrown}
 use Rattle.substitution.proofs.replace.Goals as goal
 
 pub clear-requires-in-Written : goal.clear-requires-in-Written
-clear-requires-in-Written c = let (t, v, j) = c.requires in end-within j (c.put_in.ensures _ t v (putting j refl (c.find_places-found.ensures t (whole t _ j.term_in.bytes)).1)) c.in-Written.is c.past-size.ensures
+clear-requires-in-Written c =
+    let (t, v, j) = c.requires in
+    end-within j (c.put_in.ensures _ t v (putting j refl (c.find_places-found.ensures t (whole t _ j.term_in.bytes)).1)) c.in-Written.is c.past-size.ensures
 
 pub put_in-requires : goal.put_in-requires
-put_in-requires c = let (t, v, j) = c.requires in record { putting = (_, t, v, putting j refl (c.find_places-found.ensures t (whole t _ j.term_in.bytes)).1); room = j.out-room }
+put_in-requires c =
+    let (t, v, j) = c.requires in
+    record {
+      putting = (_, t, v, putting j refl (c.find_places-found.ensures t (whole t _ j.term_in.bytes)).1);
+      room = j.out-room;
+    }
 
 pub returns-in-Outgrown : goal.returns-in-Outgrown
 returns-in-Outgrown c = λ t v j. outgrown j (c.put_in.ensures _ t v (putting j refl (c.find_places-found.ensures t (whole t _ j.term_in.bytes)).1)) c.in-Outgrown.is _ c.of_no_input.ensures _ _ c.clear.ensures

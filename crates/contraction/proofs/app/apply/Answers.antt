@@ -73,13 +73,29 @@ put_here-requires c =
     let j = c.requires.redex.3 in
     let g = c.after_names-body.ensures in
     let k = c.find_in-found.ensures.kept _ (app-body j g) in
-    record { by_index = (_, _, _, _, _, app-placing j g k (c.span-value.ensures _ (app-argument j g k)) (sym (ends-in j g k c.ends_body.ensures) ∙ c.if-ends_body.false)); room = c.requires.row.1 }
+    record {
+      by_index = (_, _, _, _, _, app-placing j g k (c.span-value.ensures _ (app-argument j g k)) (sym (ends-in j g k c.ends_body.ensures) ∙ c.if-ends_body.false));
+      room = c.requires.row.1;
+    }
 
 pub returns : goal.returns
-returns c = record { contracts = λ x e a j. let g = c.after_names-body.ensures in let k = c.find_in-found.ensures.kept _ (app-body j g) in c.put_here.ensures _ _ _ _ _ (app-placing j g k (c.span-value.ensures _ (app-argument j g k)) (sym (ends-in j g k c.ends_body.ensures) ∙ c.if-ends_body.false)); row_2 = c.find_in-found.ensures.row }
+returns c =
+    record {
+      contracts = λ x e a j.
+          let g = c.after_names-body.ensures in
+          let k = c.find_in-found.ensures.kept _ (app-body j g) in
+          c.put_here.ensures _ _ _ _ _ (app-placing j g k (c.span-value.ensures _ (app-argument j g k)) (sym (ends-in j g k c.ends_body.ensures) ∙ c.if-ends_body.false));
+      row_2 = c.find_in-found.ensures.row;
+    }
 
 pub returns-then-ends_body : goal.returns-then-ends_body
-returns-then-ends_body c = record { contracts = λ x e a j. let g = c.after_names-body.ensures in tail-stays j g (c.find_in-found.ensures.kept _ (app-body j g)) (sym (ends-in j g (c.find_in-found.ensures.kept _ (app-body j g)) c.ends_body.ensures) ∙ c.if-ends_body.true) c.requires.row.1 c.copy-size.ensures; row_2 = c.find_in-found.ensures.row }
+returns-then-ends_body c =
+    record {
+      contracts = λ x e a j.
+          let g = c.after_names-body.ensures in
+          tail-stays j g (c.find_in-found.ensures.kept _ (app-body j g)) (sym (ends-in j g (c.find_in-found.ensures.kept _ (app-body j g)) c.ends_body.ensures) ∙ c.if-ends_body.true) c.requires.row.1 c.copy-size.ensures;
+      row_2 = c.find_in-found.ensures.row;
+    }
 
 pub span-value-requires : goal.span-value-requires
 span-value-requires c =

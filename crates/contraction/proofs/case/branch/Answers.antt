@@ -13,19 +13,27 @@ bounds-s-scrutinee c =
     scrutinee-inside j.stands (c.span_names-names.ensures _ _ (branch-names _ _ _ _ _ j.stands))
 
 pub find_in-found-requires-2 : goal.find_in-found-requires-2
-find_in-found-requires-2 c = let j = c.requires.redex.6 in
+find_in-found-requires-2 c =
+    let j = c.requires.redex.6 in
     let m = c.span_names-names.ensures _ _ (branch-names _ _ _ _ _ j.stands) in
     let h = c.span-value.ensures _ (case-value j m) in
     let g = c.span-other-2.ensures _ (case-left j m h) in
     let i = case-inside j m in
-    record { term_at = (_, case-right j m h g, (branches-few j m).1); name_le_past = (i.2, omega (arith, i), right-short j m h g, c.requires.row.0) }
+    record {
+      term_at = (_, case-right j m h g, (branches-few j m).1);
+      name_le_past = (i.2, omega (arith, i), right-short j m h g, c.requires.row.0);
+    }
 
 pub find_in-found-requires : goal.find_in-found-requires
-find_in-found-requires c = let j = c.requires.redex.6 in
+find_in-found-requires c =
+    let j = c.requires.redex.6 in
     let m = c.span_names-names.ensures _ _ (branch-names _ _ _ _ _ j.stands) in
     let h = c.span-value.ensures _ (case-value j m) in
     let i = case-inside j m in
-    record { term_at = (_, case-left j m h, (branches-few j m).0); name_le_past = (i.1, omega (arith, i), left-short j m h, c.requires.row.0) }
+    record {
+      term_at = (_, case-left j m h, (branches-few j m).0);
+      name_le_past = (i.1, omega (arith, i), left-short j m h, c.requires.row.0);
+    }
 
 pub overflow_add-at : goal.overflow_add-at
 overflow_add-at c = omega (arith, inside c.requires.redex.6)
@@ -46,41 +54,53 @@ overflow_add-middle c =
     omega (arith, case-inside j (c.span_names-names.ensures _ _ (branch-names _ _ _ _ _ j.stands)))
 
 pub overflow_sub-kept : goal.overflow_sub-kept
-overflow_sub-kept c = let j = c.requires.redex.6 in
+overflow_sub-kept c =
+    let j = c.requires.redex.6 in
     let m = c.span_names-names.ensures _ _ (branch-names _ _ _ _ _ j.stands) in
     let h = c.span-value.ensures _ (case-value j m) in
     let o = c.find_in-found.ensures.kept _ (case-left j m h) in
     omega (arith, left-nodes j m h o (c.span-other.ensures _ (left_other j m h o)))
 
 pub overflow_sub-kept-2 : goal.overflow_sub-kept-2
-overflow_sub-kept-2 c = let j = c.requires.redex.6 in
+overflow_sub-kept-2 c =
+    let j = c.requires.redex.6 in
     let m = c.span_names-names.ensures _ _ (branch-names _ _ _ _ _ j.stands) in
     let h = c.span-value.ensures _ (case-value j m) in
     omega (arith, right-nodes j m h (c.span-other-2.ensures _ (case-left j m h)))
 
 pub overflow_sub-rest : goal.overflow_sub-rest
-overflow_sub-rest c = let j = c.requires.redex.6 in
+overflow_sub-rest c =
+    let j = c.requires.redex.6 in
     let m = c.span_names-names.ensures _ _ (branch-names _ _ _ _ _ j.stands) in
     omega (arith, case-nodes j m (c.span-value.ensures _ (case-value j m)))
 
 pub overflow_sub-rest-2 : goal.overflow_sub-rest-2
-overflow_sub-rest-2 c = let j = c.requires.redex.6 in
+overflow_sub-rest-2 c =
+    let j = c.requires.redex.6 in
     let m = c.span_names-names.ensures _ _ (branch-names _ _ _ _ _ j.stands) in
     omega (arith, case-nodes j m (c.span-value.ensures _ (case-value j m)))
 
 pub put_here-requires-2 : goal.put_here-requires-2
-put_here-requires-2 c = let j = c.requires.redex.6 in
+put_here-requires-2 c =
+    let j = c.requires.redex.6 in
     let m = c.span_names-names.ensures _ _ (branch-names _ _ _ _ _ j.stands) in
     let h = c.span-value.ensures _ (case-value j m) in
     let g = c.span-other-2.ensures _ (case-left j m h) in
-    record { by_index = (_, _, _, _, _, right-placing j m h g (c.find_in-found-2.ensures.kept _ (case-right j m h g))); room = c.requires.row.1 }
+    record {
+      by_index = (_, _, _, _, _, right-placing j m h g (c.find_in-found-2.ensures.kept _ (case-right j m h g)));
+      room = c.requires.row.1;
+    }
 
 pub put_here-requires : goal.put_here-requires
-put_here-requires c = let j = c.requires.redex.6 in
+put_here-requires c =
+    let j = c.requires.redex.6 in
     let m = c.span_names-names.ensures _ _ (branch-names _ _ _ _ _ j.stands) in
     let h = c.span-value.ensures _ (case-value j m) in
     let o = c.find_in-found.ensures.kept _ (case-left j m h) in
-    record { by_index = (_, _, _, _, _, left-placing j m h o (c.span-other.ensures _ (left_other j m h o))); room = c.requires.row.1 }
+    record {
+      by_index = (_, _, _, _, _, left-placing j m h o (c.span-other.ensures _ (left_other j m h o)));
+      room = c.requires.row.1;
+    }
 
 pub returns : goal.returns
 returns c = record {
@@ -107,13 +127,15 @@ returns-then-s-scrutinee-eq-INL c = record {
 }
 
 pub span-other-requires : goal.span-other-requires
-span-other-requires c = let j = c.requires.redex.6 in
+span-other-requires c =
+    let j = c.requires.redex.6 in
     let m = c.span_names-names.ensures _ _ (branch-names _ _ _ _ _ j.stands) in
     let h = c.span-value.ensures _ (case-value j m) in
     (_, left_other j m h (c.find_in-found.ensures.kept _ (case-left j m h)))
 
 pub span-other-requires-2 : goal.span-other-requires-2
-span-other-requires-2 c = let j = c.requires.redex.6 in
+span-other-requires-2 c =
+    let j = c.requires.redex.6 in
     let m = c.span_names-names.ensures _ _ (branch-names _ _ _ _ _ j.stands) in
     (_, case-left j m (c.span-value.ensures _ (case-value j m)))
 

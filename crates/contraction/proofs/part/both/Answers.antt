@@ -6,7 +6,10 @@ use Rattle.contraction.proofs.part.both.Goals as goal
 pub in_turn-put-requires : goal.in_turn-put-requires
 in_turn-put-requires c =
     let j = c.requires.by_index.7 in
-    record { turns = (_, _, _, _, turning j (c.find_in-found.ensures.kept _ j.body_at)); row = (c.find_in-found.ensures.row, array-room, c.requires.row.1) }
+    record {
+      turns = (_, _, _, _, turning j (c.find_in-found.ensures.kept _ j.body_at));
+      row = (c.find_in-found.ensures.row, array-room, c.requires.row.1);
+    }
 
 pub returns : goal.returns
 returns c =

@@ -9,7 +9,10 @@ pub both-requires : goal.both-requires
 both-requires c =
     let j = c.requires.redex.4 in
     let m = c.span_names-names.ensures _ _ (both-names _ _ _ _ _ j.stands) in
-    record { by_index = (_, _, _, _, _, _, _, copy-pairing j m (c.span-source.ensures _ (copy-source j m))); row = c.requires.row }
+    record {
+      by_index = (_, _, _, _, _, _, _, copy-pairing j m (c.span-source.ensures _ (copy-source j m)));
+      row = c.requires.row;
+    }
 
 pub overflow_add-at : goal.overflow_add-at
 overflow_add-at c = omega (arith, inside c.requires.redex.4)

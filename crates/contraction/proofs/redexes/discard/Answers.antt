@@ -9,10 +9,14 @@ pub overflow_add-at : goal.overflow_add-at
 overflow_add-at c = omega (arith, inside c.requires.3, (in_two c.requires.3).ends)
 
 pub overflow_sub-result : goal.overflow_sub-result
-overflow_sub-result c = let j = c.requires.3 in omega (arith, gone-nodes j (in_two j) (c.span-gone.ensures _ (first_part j (in_two j))))
+overflow_sub-result c =
+    let j = c.requires.3 in
+    omega (arith, gone-nodes j (in_two j) (c.span-gone.ensures _ (first_part j (in_two j))))
 
 pub overflow_sub-result-2 : goal.overflow_sub-result-2
-overflow_sub-result-2 c = let j = c.requires.3 in omega (arith, gone-nodes j (in_two j) (c.span-gone.ensures _ (first_part j (in_two j))))
+overflow_sub-result-2 c =
+    let j = c.requires.3 in
+    omega (arith, gone-nodes j (in_two j) (c.span-gone.ensures _ (first_part j (in_two j))))
 
 pub returns : goal.returns
 returns c l v e j made = second-stays j (in_two j) (c.span-gone.ensures _ (first_part j (in_two j))) (of-discard v e) _ made

@@ -6,16 +6,22 @@ use Rattle.contraction.proofs.Staying.{in_pair, kept-nodes, first-room, first-ke
 use Rattle.contraction.proofs.redexes.first.Goals as goal
 
 pub copy-size-requires : goal.copy-size-requires
-copy-size-requires c = let j = c.requires.by_index.3 in first-room j (in_pair j) (c.span_two-row.ensures _ _ (in_pair j).row) c.requires.room
+copy-size-requires c =
+    let j = c.requires.by_index.3 in
+    first-room j (in_pair j) (c.span_two-row.ensures _ _ (in_pair j).row) c.requires.room
 
 pub overflow_add-a : goal.overflow_add-a
 overflow_add-a c = omega (arith, inside c.requires.by_index.3, (in_pair c.requires.by_index.3).ends)
 
 pub overflow_sub-result : goal.overflow_sub-result
-overflow_sub-result c = let j = c.requires.by_index.3 in omega (arith, kept-nodes j (in_pair j) (c.span_two-row.ensures _ _ (in_pair j).row))
+overflow_sub-result c =
+    let j = c.requires.by_index.3 in
+    omega (arith, kept-nodes j (in_pair j) (c.span_two-row.ensures _ _ (in_pair j).row))
 
 pub overflow_sub-result-2 : goal.overflow_sub-result-2
-overflow_sub-result-2 c = let j = c.requires.by_index.3 in omega (arith, kept-nodes j (in_pair j) (c.span_two-row.ensures _ _ (in_pair j).row))
+overflow_sub-result-2 c =
+    let j = c.requires.by_index.3 in
+    omega (arith, kept-nodes j (in_pair j) (c.span_two-row.ensures _ _ (in_pair j).row))
 
 pub returns : goal.returns
 returns c l a b j = first-kept j (in_pair j) (c.span_two-row.ensures _ _ (in_pair j).row) (of-fst a b) c.requires.room c.copy-size.ensures

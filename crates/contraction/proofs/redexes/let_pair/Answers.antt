@@ -11,7 +11,10 @@ both-requires c =
     let j = c.requires.redex.5 in
     let m = c.span_names-names.ensures _ _ (both-names _ _ _ _ _ j.stands) in
     let h = c.span-first.ensures _ (let-first j m) in
-    record { by_index = (_, _, _, _, _, _, _, let-pairing j m h (c.span-second.ensures _ (let-second j m h))); row = c.requires.row }
+    record {
+      by_index = (_, _, _, _, _, _, _, let-pairing j m h (c.span-second.ensures _ (let-second j m h)));
+      row = c.requires.row;
+    }
 
 pub overflow_add-at : goal.overflow_add-at
 overflow_add-at c = omega (arith, inside c.requires.redex.5)

@@ -9,10 +9,14 @@ pub overflow_add-at : goal.overflow_add-at
 overflow_add-at c = omega (arith, inside c.requires.3, (in_pair c.requires.3).ends)
 
 pub overflow_sub-result : goal.overflow_sub-result
-overflow_sub-result c = let j = c.requires.3 in omega (arith, gone-nodes j (in_pair j) (c.span-gone.ensures _ (first_part j (in_pair j))))
+overflow_sub-result c =
+    let j = c.requires.3 in
+    omega (arith, gone-nodes j (in_pair j) (c.span-gone.ensures _ (first_part j (in_pair j))))
 
 pub overflow_sub-result-2 : goal.overflow_sub-result-2
-overflow_sub-result-2 c = let j = c.requires.3 in omega (arith, gone-nodes j (in_pair j) (c.span-gone.ensures _ (first_part j (in_pair j))))
+overflow_sub-result-2 c =
+    let j = c.requires.3 in
+    omega (arith, gone-nodes j (in_pair j) (c.span-gone.ensures _ (first_part j (in_pair j))))
 
 pub returns : goal.returns
 returns c l a b j made = second-stays j (in_pair j) (c.span-gone.ensures _ (first_part j (in_pair j))) (of-snd a b) _ made

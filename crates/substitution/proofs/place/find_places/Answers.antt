@@ -3,4 +3,6 @@ use Rattle.substitution.proofs.place.Finds.{begins}
 use Rattle.substitution.proofs.place.find_places.Goals as goal
 
 pub find-found-requires : goal.find-found-requires
-find-found-requires c = let (_, w, n) = c.requires.term_at in begins _ w n c.requires.s_len_bound.0 c.requires.s_len_bound.1
+find-found-requires c =
+    let (_, w, n) = c.requires.term_at in
+    begins _ w n c.requires.s_len_bound.0 c.requires.s_len_bound.1

@@ -19,7 +19,10 @@ find_places-found-requires c =
     let b = c.requires.row in
     let p = c.put_in.ensures _ _ _ (first-job w.4) in
     let q = half-within w.4 p c.in-Written.is c.past-size.ensures b.1 in
-    record { term_at = (_, whole _ _ (half_is w.4 p c.in-Written.is c.past-size.ensures b.1), q.0); s_len_bound = (q.1, b.0) }
+    record {
+      term_at = (_, whole _ _ (half_is w.4 p c.in-Written.is c.past-size.ensures b.1), q.0);
+      s_len_bound = (q.1, b.0);
+    }
 
 pub put_in-put-requires : goal.put_in-put-requires
 put_in-put-requires c =
@@ -27,10 +30,17 @@ put_in-put-requires c =
     let b = c.requires.row in
     let p = c.put_in.ensures _ _ _ (first-job w.4) in
     let f = (c.find_places-found.ensures _ (whole _ _ (half_is w.4 p c.in-Written.is c.past-size.ensures b.1))).1 in
-    record { putting = (_, _, w.3, second-job w.4 p c.in-Written.is c.past-size.ensures b.1 _ b.0 f); room = b.2 }
+    record {
+      putting = (_, _, w.3, second-job w.4 p c.in-Written.is c.past-size.ensures b.1 _ b.0 f);
+      room = b.2;
+    }
 
 pub returns-in-Outgrown : goal.returns-in-Outgrown
-returns-in-Outgrown c = record { puts = λ x e v w j. half-outgrown j (c.put_in.ensures _ _ _ (first-job j)) _ _ c.in-Outgrown.is; row_2 = c.requires.row.0 }
+returns-in-Outgrown c =
+    record {
+      puts = λ x e v w j. half-outgrown j (c.put_in.ensures _ _ _ (first-job j)) _ _ c.in-Outgrown.is;
+      row_2 = c.requires.row.0;
+    }
 
 pub returns-in-Written : goal.returns-in-Written
 returns-in-Written c =

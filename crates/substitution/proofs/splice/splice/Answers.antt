@@ -14,10 +14,16 @@ pub returns : goal.returns
 returns c = done c.loop-k.invariant c.loop-k-test.false c.run.ensures
 
 pub run-requires : goal.run-requires
-run-requires c = let r = last-room c.loop-k.invariant c.loop-k-test.false in (r.0, omega arith, r.1, omega (arith, r.2))
+run-requires c =
+    let r = last-room c.loop-k.invariant c.loop-k-test.false in
+    (r.0, omega arith, r.1, omega (arith, r.2))
 
 pub run-tally-requires : goal.run-tally-requires
-run-tally-requires c = let r = run_room c.loop-k.invariant c.loop-k-test.true in (r.0, r.1, r.2, omega (arith, r.3))
+run-tally-requires c =
+    let r = run_room c.loop-k.invariant c.loop-k-test.true in
+    (r.0, r.1, r.2, omega (arith, r.3))
 
 pub value-tally-requires : goal.value-tally-requires
-value-tally-requires c = let r = value_room c.loop-k.invariant c.loop-k-test.true c.run-tally.ensures in (omega (arith, r.0), r.1, omega (arith, r.2))
+value-tally-requires c =
+    let r = value_room c.loop-k.invariant c.loop-k-test.true c.run-tally.ensures in
+    (omega (arith, r.0), r.1, omega (arith, r.2))
