@@ -5,7 +5,7 @@ use Rattle.std.proofs.Math.Option.{Option, none, some}
 use Rattle.std.proofs.Common.{arith}
 use Rattle.rules.specs.Basic.{if◌then◌else◌, ◌‥◌}
 use Rattle.rules.specs.Limits.{most_counter}
-use Rattle.rules.specs.Name.{Name, lower, leads, name_spelling}
+use Rattle.rules.specs.Name.{Name, leads, name_spelling}
 use Rattle.rules.specs.Legal.{LegalName, LegalFormula, Legal, LegalFormulas, LegalRule, LegalProof, LegalPremises}
 use Rattle.rules.specs.Formula.{Formula, atom, constant, exponential, connective, Sign, plain, negated, Tensor, Par, With, Plus, Lolli}
 use Rattle.rules.specs.Term.{Term, leaf, Leaf, unit, trivial, One, inl, inr, promote, derelict}

@@ -1,5 +1,6 @@
 // Extraction of terms from proofs: a walk over the checked proof makes a draft of the term (crates/proof_draft/src/walk.rt), and the term is measured and written from the draft.
 #![tactic(auto)]
+
 ghost use Rattle.std.specs.Prelude.{◌≡◌, List, [], ◌≤◌, length};
 ghost use Rattle.rules.specs.Limits.{limits, entry_room, most_counter};
 ghost use Rattle.rules.specs.Proof.{Proof};

@@ -2,10 +2,9 @@
 -- Assumes nothing.
 use Prim.Native.Nat.{ℕ, ◌*◌, ◌<◌, ◌≤◌}
 use mathlib.Core.Path.{◌≡◌, refl, sym, ap, subst, ◌∙◌}
-use mathlib.Core.Bool.{Bool, true, false, not, ◌&&◌}
+use mathlib.Core.Bool.{Bool, true, false, ◌&&◌}
 use mathlib.Core.List.{List, []}
 use native.Mathlib.Omega.{arith}
-use lib.Dec.{T}
 use lib.ListN.{length, replicate, length-replicate}
 use borrow.Author.Tests.{lt-leb}
 use Rattle.rules.specs.Basic.{Bytes, if◌then◌else◌, ◌≤?◌}
@@ -159,21 +158,10 @@ module _ (n room : ℕ) (p out scratch : Bytes) where
                     };
               }
 
-holds : (t : Bool) → T t → t ≡ true
-holds true _ = refl
-holds false h = absurd h
-
-fails : (t : Bool) → T (not t) → t ≡ false
-fails true h = absurd h
-fails false _ = refl
-
 -- what the walk asks, and what it gives, where the call did not end before
-module _ {n m : ℕ} {p out scratch : Bytes} (ys : List CutEntry) {b : Ended} (e : length ys ≡ m) (s : Begins n m p out scratch b) (g : T b.goes) where
+module _ {n m : ℕ} {p out scratch : Bytes} (ys : List CutEntry) {b : Ended} (e : length ys ≡ m) (s : Begins n m p out scratch b) (g : b.goes ≡ true) where
   walks-on : Walks n m p out scratch
-  walks-on = s.walks (holds b.goes g)
-
-  pub walk-needs : ((v : Proof) × Checked p out limits.rules v × (entry_room limits ≤ length ys) × (n ≤ most_counter))
-  walk-needs = (walks-on.value, walks-on.checked, subst (λ (k : ℕ). entry_room limits ≤ k) (sym e) walks-on.enough, walks-on.low)
+  walks-on = s.walks g
 
   pub walk-gives : {r : Ended} {out' scratch' : Bytes} {zs : List CutEntry} → zs ≡ zeroed none r.clears ys
       → ((v : Proof) → Checked p out limits.rules v → Closes n (length ys) (extract terms v [] n) out scratch r out' scratch')
@@ -184,10 +172,10 @@ module _ {n m : ℕ} {p out scratch : Bytes} (ys : List CutEntry) {b : Ended} (e
       let a = w.means c.made out' scratch' c.finished in
       over-row n p out scratch r ys e (long-row n p out scratch m w.enough c.is a.0 a.1.0 a.1.1) zs q
 
-pub stop-gives : {n m : ℕ} {p out scratch : Bytes} {b : Ended} (ys : List CutEntry) → length ys ≡ m → Begins n m p out scratch b → T (not b.goes)
+pub stop-gives : {n m : ℕ} {p out scratch : Bytes} {b : Ended} (ys : List CutEntry) → length ys ≡ m → Begins n m p out scratch b → b.goes ≡ false
     → Extracts (extract_call limits n p out scratch (pairs ys)) b.answer out scratch (pairs ys) b.counter
 stop-gives {n} {m} {p} {out} {scratch} {b} ys e s g =
-    let (c, x) = s.stops (fails b.goes g) in
+    let (c, x) = s.stops g in
     over-row n p out scratch b ys e x ys (sym (ap (λ (k : ℕ). zeroed none k ys) c))
 
 -- no more entries are set to zeros than there are
