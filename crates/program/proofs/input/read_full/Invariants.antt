@@ -1,0 +1,9 @@
+-- `input::read_full` ends and stays within the room: each turn reads at least a byte of what the room still holds.
+use Rattle.std.proofs.Common.{length, ◌-◌, ◌≤◌}
+use Rattle.program.proofs.input.read_full.Given as goal
+
+abbrev pub invariant-loop-n : goal.invariant-loop-n
+invariant-loop-n g l = l.n ≤ length l.room
+
+abbrev pub decreases-loop-n : goal.decreases-loop-n
+decreases-loop-n g l = length l.initial.room - l.n
