@@ -2,7 +2,7 @@
 -- Assumes nothing.
 use Prim.Native.Nat.{ℕ, ◌+◌, ◌-◌, ◌<◌, ◌≤◌}
 use native.Mathlib.Omega.{arith}
-use mathlib.Core.Path.{◌≡◌, refl, sym, ap, ◌∙◌}
+use mathlib.Core.Path.{◌≡◌, sym, ap, ◌∙◌}
 use lib.ListN.{drop}
 use Rattle.rules.specs.Basic.{Bytes}
 use Rattle.rules.specs.Limits.{limits}
@@ -74,9 +74,6 @@ module _ (s : Bytes) (n : ℕ) (from : Reached) where
 
   pub going-none : n ≡ 0 → Row (To from)
   going-none z d e = sym (many-none (proof_at limits d) s from n z)
-
-  pub going_start : Far s from → (n ≡ 0 → ⊥) → Going s n from from n
-  going_start far some = record { far = far; onward = omega arith; counted = omega arith; waits = omega arith; same = λ d e. refl }
 
   -- the next premise
   module _ {q : Reached} {left : ℕ} (g : Going s n from q left) (a : Reading) (says : (d : ℕ) → limits.rules ≤ q.rules + d → a ≡ seen (found (proof_at limits d) s q)) where

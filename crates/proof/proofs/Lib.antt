@@ -1,4 +1,3 @@
 -- What the proofs of several functions use.
-mod Telling
 mod Above
 mod Whole

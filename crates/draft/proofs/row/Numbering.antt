@@ -1,6 +1,6 @@
 -- How many digits a number has, and what stands behind a stem. Assumes nothing.
-use Prim.Native.Nat.{ℕ, zero, suc, ◌+◌, ◌-◌, ◌/◌, ◌%◌, ◌^◌, ◌<◌, ◌≤◌}
-use mathlib.Core.Path.{◌≡◌, refl, ap, ◌∙◌}
+use Prim.Native.Nat.{ℕ, zero, suc, ◌+◌, ◌/◌, ◌%◌, ◌^◌, ◌<◌, ◌≤◌}
+use mathlib.Core.Path.{◌≡◌, ap, ◌∙◌}
 use mathlib.Core.List.{[], ◌∷◌, ◌++◌, append_assoc}
 use native.Mathlib.Omega.{arith}
 use lib.ListN.{length, set, length-append}
@@ -57,13 +57,6 @@ three-digits n h l = last-two n h ∙ ap (λ (s : Bytes). s ++ last_two n) (deci
 
 pub count-some : (n : ℕ) → n < 2 ^ 64 → length (decimal n) ≤ 20
 count-some n h = decimal-few 19 n (omega arith)
-
-pub numbered-none : (n : ℕ) → n ≡ 0 → numbered n ≡ []
-numbered-none n e = rw e
-
-pub numbered-some : (n : ℕ) → (n ≡ 0 → ⊥) → numbered n ≡ decimal (n - 1)
-numbered-some zero h = absurd (h refl)
-numbered-some (suc n) h = let e : suc n - 1 ≡ n = omega arith in rw e
 
 pub numbered-few : (n : ℕ) → n < 2 ^ 64 → length (numbered n) ≤ 20
 numbered-few zero h = omega arith

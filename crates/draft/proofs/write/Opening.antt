@@ -1,9 +1,8 @@
 -- A part opened: its row, its two parts, and what they have to do with its bytes and its size. Assumes nothing.
-use Prim.Native.Nat.{ℕ, suc, ◌+◌, ◌-◌, ◌*◌, ◌<◌, ◌≤◌}
+use Prim.Native.Nat.{ℕ, suc, ◌+◌, ◌-◌, ◌<◌}
 use mathlib.Core.Path.{◌≡◌, sym}
 use mathlib.Core.List.{List}
 use native.Mathlib.Omega.{arith}
-use lib.ListN.{length}
 use Rattle.rules.specs.Basic.{Bytes}
 use Rattle.rules.specs.Term.{Term}
 use Rattle.draft.specs.Draft.{Row, row_at, shape_of, shaped, drafted, Drafts}
@@ -34,10 +33,6 @@ module _ {s : Bytes} {ws : List ℕ} {n : ℕ} {t : Term} where
 
   pub opened : (p : ℕ) → (p ≡ 0 → ⊥) → (p ≡ 1 → ⊥) → Drafts s ws n p t → Opened s ws n (row_at ws (p - 2)) t
   opened p a b x = let e : p ≡ suc (suc (p - 2)) = omega (arith, a, b) in from_row (p - 2) (rw e at x)
-
-  -- its row stands in the list, and its parts come before it
-  pub row_in : (p : ℕ) → (p ≡ 0 → ⊥) → (p ≡ 1 → ⊥) → Drafts s ws n p t → (p - 2) * 5 + 5 ≤ length ws
-  row_in p a b x = omega (arith, x.rows.room, x.among, a, b)
 
   pub first-before : (p : ℕ) → (p ≡ 0 → ⊥) → (p ≡ 1 → ⊥) → Drafts s ws n p t → (row_at ws (p - 2)).first < p
   first-before p a b x = omega (arith, x.rows.firsts (p - 2) (omega (arith, x.among, a, b)), a, b)

@@ -25,21 +25,6 @@ capped-sum (suc zero) h a b = omega arith
 capped-sum (suc (suc zero)) h a b = omega arith
 capped-sum (suc (suc (suc c))) h a b = omega arith
 
-pub total-none : (c h a b : ℕ) → c ≡ 0 → h ≤ cap → h ≡ capped (summed c h a b)
-total-none c h a b e l = rw e (omega arith)
-
-pub total-one : (c h a b : ℕ) → c ≡ 1 → capped (h + a) ≡ capped (summed c h a b)
-total-one c h a b e = rw e
-
-pub total-two : (c h a b : ℕ) → c ≡ 2 → capped (h + a + b) ≡ capped (summed c h a b)
-total-two c h a b e = rw e
-
-pub total-three : (c h a b : ℕ) → (c ≡ 0 → ⊥) → (c ≡ 1 → ⊥) → (c ≡ 2 → ⊥) → capped (h + a + b + b) ≡ capped (summed c h a b)
-total-three zero h a b x y z = absurd (x refl)
-total-three (suc zero) h a b x y z = absurd (y refl)
-total-three (suc (suc zero)) h a b x y z = absurd (z refl)
-total-three (suc (suc (suc c))) h a b x y z = refl
-
 -- what is measured is at most the cap
 module _ {s : Bytes} {ws : List ℕ} {n : ℕ} {zs : List ℕ} (k : Countable ws n zs) (i : ℕ) (h : i < n) (d : Measured s ws n (i + 2) zs) where
   bytes_most : (j : ℕ) → j < i + 2 → get_or zs (j * 2) 0 ≤ cap
@@ -152,9 +137,6 @@ few-nodes copying = omega arith
 few-nodes (wrapping k) = omega arith
 few-nodes (joining k) = omega arith
 
-pub four-long : (zs : List ℕ) → length (set (set (set (set zs 0 1) 1 1) 2 1) 3 1) ≡ length zs
-four-long zs = simp length-set
-
 -- a limit below the cap is kept or broken by the capped size as by the size itself
 limit-same : (n : ℕ) (b : Bool) → leb n limits.nodes ≡ b → leb (capped n) limits.nodes ≡ leb n limits.nodes
 limit-same n true e = le-leb (capped n) limits.nodes (omega (arith, leb-true n limits.nodes e)) ∙ sym e
@@ -168,10 +150,3 @@ pub short-enough : (b m : ℕ) (t : Term) → b ≡ capped (size t) → m ≡ ca
 unfolding fits
 short-enough b m t e f h =
     ap (λ (k : ℕ). leb k limits.nodes) f ∙ limit-same (nodes t) (leb (nodes t) limits.nodes) refl ∙ rw (le-leb (size t) limits.bytes (omega arith)) (sym (and-true (leb (nodes t) limits.nodes)))
-
--- the words of a row's parts stand in the list
-pub first-in : {ws : List ℕ} {n : ℕ} {zs : List ℕ} → Countable ws n zs → (i : ℕ) → i < n → (row_at ws i).first * 2 + 2 ≤ length zs
-first-in k i h = omega (arith, k.rows.firsts i h, k.room)
-
-pub second-in : {ws : List ℕ} {n : ℕ} {zs : List ℕ} → Countable ws n zs → (i : ℕ) → i < n → (row_at ws i).second * 2 + 2 ≤ length zs
-second-in k i h = omega (arith, k.rows.seconds i h, k.room)

@@ -31,9 +31,6 @@ module _ (s : Bytes) (most : Most) (from : Reached) (n : ℕ) where
     pub few : left ≤ n + 3 * (count - from.formulas)
     pub same : Rest formulas most.formulas s left count next ≡ Rest formulas most.formulas s n from.formulas from.next
 
-  pub passing-start : from.next ≤ length s → Passing from.next from.formulas n
-  passing-start h = record { inside = h; counted = omega arith; few = omega arith; same = refl }
-
   module _ {next count left : ℕ} (w : Passing next count left) where
     pub passing-done : left ≤ 0 → To (record { next = next; rules = from.rules; formulas = count }) ≡ seen (found (row_of (within most) n) s from)
     passing-done z =

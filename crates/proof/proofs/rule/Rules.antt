@@ -65,9 +65,6 @@ carries-nothing (plain k) a b = refl
 carries-nothing (cut f) a b = absurd (a refl)
 carries-nothing (focus k n) a b = absurd (b refl)
 
-pub is_cut : (x : Rule) → rule_tag x ≡ 2 → (f : Formula) × (x ≡ cut f)
-is_cut x e = carries-formula x (sym (number_at x 2 (sym e)))
-
 -- ---- at a place
 
 module _ (s : Bytes) (i : ℕ) (p : Proof) (w : ProofAt s i p) where

@@ -1,4 +1,4 @@
--- What reading a rule's tag finds, by the tests that the code makes: one test at each byte, which antt computes, says what a tag carries.
+-- What reading a rule's tag finds, by the tests that the code makes: no byte, one tag too many, or what the tag carries.
 -- Assumes nothing.
 use Prim.Native.Nat.{ℕ, ◌+◌, ◌<◌, ◌≤◌}
 use native.Mathlib.Omega.{arith}
@@ -7,23 +7,15 @@ use mathlib.Core.Bool.{Bool, true, false}
 use mathlib.Core.List.{[], ◌∷◌}
 use mathlib.Core.Option.{Option, none, some}
 use lib.ListN.{length, get_or, drop}
-use borrow.Author.Tests.{lt-ltb, le-ltb, ltb-true, eqb-true}
+use borrow.Author.Tests.{lt-ltb, le-ltb, ltb-true}
 use Rattle.rules.specs.Basic.{Bytes, if◌then◌else◌, ◌<?◌, ◌==◌}
 use Rattle.rules.specs.Layout.{head_by_tag}
 use Rattle.rules.specs.Proof.{RuleHead, a_plain, a_cut, a_focus, rule_heads}
 use Rattle.rules.specs.Reading.{Got, got, bad, byte, listed, tag}
-use Rattle.laws.specs.Below.{below}
 use Rattle.laws.specs.reading.Holds.{Holds, chosen, told as read}
 use Rattle.laws.specs.reading.Steady.{steady-got, steady-tag}
 use Rattle.proof.specs.Seen.{Tag, Plain, Cut, Focus, NoTag, carries, carried_of, tag_seen}
 use Rattle.reader.proofs.class.Views.{rest_in, rest_out}
-
--- what a tag carries, by the tests of the code
-abbrev pub carried_tests : ℕ → ℕ
-carried_tests b = if b == 2 then 2 else (if b == 16 then 3 else (if b == 17 then 3 else (if b <? 1 then 0 else (if 18 <? b then 0 else 1))))
-
-pub carried-is : (b : ℕ) → b < 256 → carried_of (head_by_tag rule_heads b) ≡ carried_tests b
-carried-is b h = eqb-true _ _ (below (λ b. carried_of (head_by_tag rule_heads b) == carried_tests b) 256 refl b h)
 
 abbrev pub shown : (at carried : ℕ) → Tag
 shown at k = if k == 0 then NoTag 4 at else (if k == 1 then Plain else (if k == 2 then Cut else Focus))

@@ -1,4 +1,4 @@
--- Entries that are set to zeros one after the other: the row keeps its length, one more is set after those that were, and all of them are a row of zeros. By induction on how many.
+-- Entries that are set to zeros one after the other: one more is set after those that were, and all of them are a row of zeros. By induction on how many.
 -- Assumes nothing.
 use mathlib.Core.Path.{◌≡◌, refl, ap, ◌∙◌}
 use Prim.Native.Nat.{ℕ, zero, suc, ◌+◌}
@@ -8,11 +8,6 @@ use lib.ListN.{length, set, replicate}
 use Rattle.rules.specs.Calls.{Entry, no_entry}
 use Rattle.proof_draft.specs.declared.entry.CutEntry.{CutEntry}
 use Rattle.proof_draft.specs.Entries.{none, zeroed, pairs}
-
-pub length-zeroed : {B : Type 0} (z : B) (n : ℕ) (es : List B) → length (zeroed z n es) ≡ length es
-length-zeroed z zero es = refl
-length-zeroed z (suc n) [] = refl
-length-zeroed z (suc n) (e ∷ es) = ap suc (length-zeroed z n es)
 
 zeroed-last : {B : Type 0} (z : B) (n : ℕ) (es : List B) → set (zeroed z n es) n z ≡ zeroed z (suc n) es
 zeroed-last z zero [] = refl

@@ -6,7 +6,7 @@ use mathlib.Core.List.{List}
 use mathlib.Core.Option.{none, some}
 use native.Mathlib.Omega.{arith}
 use lib.ListN.{get_or}
-use borrow.Author.Tests.{eq-eqb, ne_eqb}
+use borrow.Author.Tests.{ne_eqb}
 use Rattle.rules.specs.Basic.{Bytes, if◌then◌else◌, ◌==◌}
 use Rattle.rules.specs.Formula.{Formula, atom, constant, exponential, connective, plain, negated, One, Bottom, Top, Zero, OfCourse, WhyNot, Tensor, Par, With, Plus, Lolli}
 use Rattle.rules.specs.Term.{Term, leaf, unit, two, pair}
@@ -42,11 +42,6 @@ module _ {s : Bytes} {ws ws' : List ℕ} {used n end : ℕ} where
       })
 
 module _ {s : Bytes} {ws : List ℕ} {used n end part : ℕ} {t : Term} (kind number : ℕ) (o : Open ws used) (d : Drafts s ws used part t) where
-  pub put-pass : kind ≡ 12 → Put s ws ws used n end (over s kind number t, n) (record { next = end; used = used; counter = n; part = part })
-  put-pass e =
-      put_is (ap (λ (b : Bool). (if b then t else made s kind t t number 0, n)) (sym (eq-eqb kind 12 e)))
-      (record { next = refl; counter = refl; part = d; small = o.small; few = omega arith; low = omega arith; still = λ i u x. x })
-
   pub put-over : {ws' : List ℕ} {r : Drafted} → (kind ≡ 12 → ⊥) → number < most_number → Added ws used kind part part number 0 ws' → r ≡ made_row end used n
       → Put s ws ws' used n end (over s kind number t, n) r
   put-over e h w i =
