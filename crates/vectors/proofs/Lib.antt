@@ -1,3 +1,0 @@
-pub mod Prefix
-pub mod Cell
-pub mod Extracting
