@@ -2,6 +2,7 @@
 // An entry tells its answer in an array of 16 numbers, whose length is part of its type, so no caller can lend too few and the entry needs no
 // refusal of its own. What the numbers are is defined in specs/Told.antt and the files beside it.
 #![tactic(auto)]
+
 ghost use Rattle.std.specs.Prelude.{◌≡◌};
 ghost use Rattle.rules.specs.Limits.{limits};
 ghost use Rattle.rules.specs.Refusal.{answered};
@@ -87,12 +88,7 @@ pub fn patch_substitute(
     );
 }
 
-pub fn patch_step(
-    term: &[u8],
-    out: &mut [u8],
-    scratch: &mut [u8],
-    answer: &mut [u64; 16],
-)
+pub fn patch_step(term: &[u8], out: &mut [u8], scratch: &mut [u8], answer: &mut [u64; 16])
     ensures answer_after { answer.new ≡ told_step (step_answered (step_call limits term.now out.old scratch.old).answer) }
     ensures out_after { out.new ≡ (step_call limits term.now out.old scratch.old).output }
     ensures scratch_after { scratch.new ≡ (step_call limits term.now out.old scratch.old).scratch }

@@ -7,8 +7,6 @@ pub mod Put
 pub mod Contraction
 pub mod OneStep
 pub mod StepKept
-pub mod Reducing
 pub mod Decides
 pub mod Substituted
-pub mod Calling
 pub mod Needed

@@ -1,7 +1,6 @@
 pub mod SubstNone
 pub mod SubstFree
 pub mod SubstReach
-pub mod SubstAmong
 pub mod SubstLegal
 pub mod Swap
 pub mod NotFree

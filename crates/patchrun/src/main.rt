@@ -1,5 +1,6 @@
 // Reads one stored term from standard input, and writes what is printed for it. All that is printed is computed by `printed`.
 #![tactic(auto)]
+
 use program::input::read_full;
 use program::run::{PRINTED_ROOM, printed};
 use rules::{BLOCK_BYTES, STORED_ROOM};

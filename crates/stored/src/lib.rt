@@ -1,5 +1,6 @@
 // The stored form: a term or a proof as blocks, each with its check.
 #![tactic(auto)]
+
 ghost use Rattle.std.specs.Prelude.{◌≡◌, ◌≤◌, length, take};
 ghost use Rattle.rules.specs.Limits.{limits, stored_room};
 ghost use Rattle.rules.specs.Refusal.{answered};

@@ -1,5 +1,6 @@
 // Whether a term is straight (demand 3).
 #![tactic(auto)]
+
 ghost use Rattle.std.specs.Prelude.{◌≡◌};
 ghost use Rattle.rules.specs.Limits.{limits};
 ghost use Rattle.rules.specs.Name.{Name};

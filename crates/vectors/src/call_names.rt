@@ -85,6 +85,9 @@ fn print_with_scratch<W: Write>(out: &mut W, call: u8) -> io::Result<()> {
         16 => print(out, b"step::step"),
         17 => print(out, b"reduction::normalize_bounded"),
         18 => print(out, b"extract::extract"),
-        _ => print(out, b"extract::extractor::Extractor::extract, two by each Extractor"),
+        _ => print(
+            out,
+            b"extract::extractor::Extractor::extract, two by each Extractor",
+        ),
     }
 }

@@ -2,6 +2,7 @@
 // The list (stdin) is printed by `make vectors`: the answers are the Rust's own, and of refusals those of the model of the rules.
 // A call more is a number and a name in call_names, a line in its shape in calls, and its answer where host/cases prints the list.
 #![tactic(auto)]
+
 ghost use Rattle.std.specs.Prelude.{◌≤◌};
 
 use call_names::{CHILD, EXTRACTOR, print, print_name};

@@ -1,15 +1,12 @@
 -- How long the text of a formula and of a term can be, and that it fits the buffer that is asked for; by induction on it.
 -- Assumes nothing.
-use Rattle.std.specs.Prelude.{ℕ, ◌+◌, ◌*◌, ◌≤◌, ◌≡◌, length}
-use Rattle.std.proofs.Common.{ap, arith, length-append}
-use Rattle.rules.specs.Basic.{Bytes, say}
+use Rattle.std.specs.Prelude.{◌+◌, ◌*◌, ◌≤◌, length}
+use Rattle.std.proofs.Common.{arith, length-append}
+use Rattle.rules.specs.Basic.{say}
 use Rattle.rules.specs.Limits.{Limits, limits, wide_limits, text_room, formula_text_room}
-use Rattle.rules.specs.Refusal.{good}
 use Rattle.rules.specs.Formula.{Formula, atom, constant, exponential, connective, Sign, plain, negated, Constant, One, Bottom, Top, Zero, Exponential, OfCourse, WhyNot, Connective, Tensor, Par, With, Plus, Lolli, encode_formula, formula_nodes}
 use Rattle.rules.specs.Term.{Term, var, leaf, one, two, abs, both, branch, Leaf, unit, trivial, One as OneKind, inl, inr, fst, snd, abort, promote, derelict, pair, app, discard, let_a_pair, copy, encode, nodes}
 use Rattle.rules.specs.Text.{sign_text, constant_text, exponential_text, connective_text, text_of_formula, leaf_text, one_text, text}
-use Rattle.rules.specs.Reading.{read_term, read_formula}
-use Rattle.laws.specs.reading.Decoding.{TermIn, term-sound, FormulaIn, formula-sound}
 
 sign-short : (k : Sign) → length (say (sign_text k)) ≤ 3
 sign-short plain = omega arith
@@ -77,17 +74,3 @@ limits-fit = record { formula = omega arith; term = omega arith }
 
 pub wide-limits-fit : TextsFit wide_limits
 wide-limits-fit = record { formula = omega arith; term = omega arith }
-
-module _ (L : Limits) (w : TextsFit L) (s : Bytes) where
-  pub formula-text-fits : (f : Formula) → FormulaIn L s f → length (text_of_formula f) ≤ formula_text_room L
-  formula-text-fits f a = omega (arith, formula-text-size f, a.short, ap length a.bytes, a.few, w.formula)
-
-  pub term-text-fits : (t : Term) → TermIn L s t → length (text t) ≤ text_room L
-  term-text-fits t a = omega (arith, term-text-size t, a.short, ap length a.bytes, a.few, w.term)
-
-  -- of what is read
-  pub read-formula-text-fits : (i : ℕ) (f : Formula) → read_formula L i s ≡ good f → length (text_of_formula f) ≤ formula_text_room L
-  read-formula-text-fits i f e = formula-text-fits f (formula-sound L i s f e)
-
-  pub read-term-text-fits : (i : ℕ) (t : Term) → read_term L i s ≡ good t → length (text t) ≤ text_room L
-  read-term-text-fits i t e = term-text-fits t (term-sound L i s t e)

@@ -1,4 +1,4 @@
--- One step of a straight term leaves a straight term that fits the limits: `StraightStep`, from the weights that the step takes out.
+-- What a step of a straight term takes out, by its weights: two nodes and more, and what is left fits the limits.
 -- Assumes nothing.
 use Rattle.std.specs.Prelude.{ℕ, ◌+◌, ◌≤◌, ◌<◌, ◌≡◌, refl, true, ◌&&◌, List, [], ◌∷◌, length, leb}
 use Rattle.std.proofs.Common.{ap₂, ◌∙◌, arith, leb-true, le-leb}
@@ -8,15 +8,12 @@ use Rattle.rules.specs.Name.{Name}
 use Rattle.rules.specs.Term.{Term, nodes, size, fits}
 use Rattle.rules.specs.declared.Rule.{Rule}
 use Rattle.rules.specs.declared.Rule.TheVariants.{App, Let, Case, Fst, Snd, Derelict, Copy, Discard}
-use Rattle.rules.specs.Step.{Stepped, normal, found, step, half_fits, step_fits}
-use Rattle.rules.specs.Straight.{Straight}
+use Rattle.rules.specs.Step.{half_fits, step_fits}
 use Rattle.laws.specs.free.Same.{both_true}
-use Rattle.laws.specs.straight.Promise.{Loses, StraightStep}
-use Rattle.laws.specs.straight.Weights.{Weight, weigh, stands_of, node_count_of, bytes_of, uses_of, nodes-weigh, bytes-weigh, stands-weigh}
+use Rattle.laws.specs.straight.Promise.{Loses}
+use Rattle.laws.specs.straight.Weights.{Weight, weigh, stands_of, node_count_of, bytes_of, uses_of, nodes-weigh, bytes-weigh}
 use Rattle.laws.specs.straight.Counted.{Counted}
-use Rattle.laws.specs.straight.Agree.{straight-counted, counted-straight}
 use Rattle.laws.specs.straight.Contraction.{Takes, gone, weigh_half, Taken}
-use Rattle.laws.specs.straight.OneStep.{Meets, taken}
 
 -- The names that go take as many binders as uses, and a node each.
 gone-alike : (z : Name) (xs : List Name) → gone (stands_of z) xs ≡ gone (uses_of z) xs
@@ -42,7 +39,7 @@ kept t r h u c m =
 pub taken-nodes : (t : Term) (r : Rule) (h : Option Term) (u : Term) → (m : Taken t r h u) → nodes t ≡ nodes u + (2 + length m.names)
 taken-nodes t r h u m = omega (arith, m.weighs node_count_of, nodes-weigh t, nodes-weigh u, gone-nodes m.names)
 
-loses : (r : Rule) (xs : List Name) (n m : ℕ) → Takes r xs → n ≡ m + (2 + length xs) → Loses r n m
+pub loses : (r : Rule) (xs : List Name) (n m : ℕ) → Takes r xs → n ≡ m + (2 + length xs) → Loses r n m
 loses App xs n m h k = omega arith
 loses Let xs n m h k = omega arith
 loses Derelict xs n m h k = omega arith
@@ -70,26 +67,3 @@ taken-bytes t r h u m = omega (arith, m.weighs bytes_of, bytes-weigh t, bytes-we
 pub taken-fits : (L : Limits) (t : Term) (r : Rule) (h : Option Term) (u : Term) → Taken t r h u → fits L t ≡ true → step_fits L h u ≡ true
 taken-fits L t r h u m f =
     ap₂ ◌&&◌ (half-fits L t h m.halfway f) (fits-less L t u (omega (arith, taken-nodes t r h u m)) (omega (arith, taken-bytes t r h u m)) f)
-
--- ONE STEP OF A STRAIGHT TERM
-meets-map : (P Q : Rule → Option Term → Term → Type 0) (s : Stepped) → ((r : Rule) (h : Option Term) (u : Term) → P r h u → Q r h u) → Meets P s → Meets Q s
-meets-map P Q normal f h = tt
-meets-map P Q (found r p h u) f m = f r h u m
-
-pub one-step : (t : Term) → Straight t → Meets (StraightStep t) (step t)
-one-step t s =
-    let c = straight-counted t s in
-    meets-map (Taken t) (StraightStep t) (step t)
-    (λ r h u m.
-    record {
-      straight = counted-straight u (kept t r h u c m);
-      unbound = m.frees;
-      binders = λ x. omega (arith, m.weighs (stands_of x), stands-weigh x t, stands-weigh x u);
-      nodes = loses r m.names (nodes t) (nodes u) m.rule (taken-nodes t r h u m);
-      bytes = taken-bytes t r h u m;
-      fits = λ L. taken-fits L t r h u m;
-    })
-    (taken t c)
-
-pub found-step : (t : Term) (r : Rule) (p : ℕ) (h : Option Term) (u : Term) → Straight t → step t ≡ found r p h u → StraightStep t r h u
-found-step t r p h u s e = rw e at (one-step t s)

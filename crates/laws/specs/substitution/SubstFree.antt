@@ -57,7 +57,7 @@ module _ (x z : Name) (v : Term) where
   under true false false t u k s h = omega arith
   under false false d t u k s h = h
 
-  counted : (t : Term) → Counted t (subst x v t) (reach x z t)
+  pub counted : (t : Term) → Counted t (subst x v t) (reach x z t)
   unfolding subst occurrences reach
   counted (var y) = at-var y (same x y) (same z x) refl refl
   counted (leaf k) = none_kept (same z x)
@@ -83,7 +83,3 @@ module _ (x z : Name) (v : Term) where
         kept-sum (same z x) (occurrences z e) (m + n),
         kept-sum (same z x) m n,
       )
-
--- how often z is free after a substitution
-pub subst-occurrences : (x z : Name) (v t : Term) → occurrences z (subst x v t) ≡ (if same z x then 0 else occurrences z t) + reach x z t * occurrences z v
-subst-occurrences x z v t = counted x z v t

@@ -5,13 +5,11 @@ use native.Mathlib.Omega.{arith}
 use lib.ListN.{length, take}
 use lib.Seq.{length-take-le}
 use Rattle.rules.specs.Limits.{limits}
-use Rattle.rules.specs.Refusal.{refused}
 use Rattle.rules.specs.declared.Answer.{Answer}
 use Rattle.rules.specs.declared.Answer.TheVariants.{Refused}
 use Rattle.stored.specs.Answers.{accepted}
 use Rattle.stored.specs.Opening.{taken, amount}
-use Rattle.stored.specs.Storing.{read_short, load-short, load-size, load-blocks, load-content, load-good, size-right, ends}
-use borrow.Author.Rules.{rules}
+use Rattle.stored.specs.Storing.{read_short, load-short, load-size, load-blocks, load-content, load-good, ends}
 use Rattle.stored.proofs.load.Goals as goal
 
 pub put_content-requires : goal.put_content-requires
@@ -26,49 +24,44 @@ put_content-requires c =
 pub returns-in-Good-content_input : goal.returns-in-Good-content_input
 returns-in-Good-content_input c =
     let a = c.args in
-    
     let o = c.open_blocks in
-    
-    
     let p = c.put_content.ensures in
     let both =
-      ends
-      (load-good limits a.kind a.file.now a.out.now c.if-out-lt-OUTPUT_ROOM.false (sym c.size_wrong.ensures ∙ c.if-size_wrong.false)
-      (take c.in-Good.size o.new.content) (o.ensures.outcome ∙ ap (λ (r : Answer). taken r o.new.content) c.in-Good.is)
-      (c.content_input.ensures ∙ ap accepted c.in-Good-content_input.is))
-      p.answer
-      p.output in
+    ends
+    (load-good limits a.kind a.file.now a.out.now c.if-out-lt-OUTPUT_ROOM.false (sym c.size_wrong.ensures ∙ c.if-size_wrong.false)
+    (take c.in-Good.size o.new.content) (o.ensures.outcome ∙ ap (λ (r : Answer). taken r o.new.content) c.in-Good.is)
+    (c.content_input.ensures ∙ ap accepted c.in-Good-content_input.is))
+    p.answer
+    p.output in
     record { value = both.0; out_after = both.1 }
 
 pub returns-in-Refused : goal.returns-in-Refused
 returns-in-Refused c =
     let a = c.args in
-    
     let o = c.open_blocks in
-    
     let both =
-      ends
-      (load-blocks limits a.kind a.file.now a.out.now c.if-out-lt-OUTPUT_ROOM.false (sym c.size_wrong.ensures ∙ c.if-size_wrong.false) c.in-Refused.r
-      (o.ensures.outcome ∙ ap (λ (r : Answer). taken r o.new.content) c.in-Refused.is))
-      refl
-      refl in
+    ends
+    (load-blocks limits a.kind a.file.now a.out.now c.if-out-lt-OUTPUT_ROOM.false (sym c.size_wrong.ensures ∙ c.if-size_wrong.false) c.in-Refused.r
+    (o.ensures.outcome ∙ ap (λ (r : Answer). taken r o.new.content) c.in-Refused.is))
+    refl
+    refl in
     record { value = both.0; out_after = both.1 }
 
 pub returns-then-size_wrong : goal.returns-then-size_wrong
 returns-then-size_wrong c =
     let a = c.args in
     let both =
-      ends
-      (load-size limits a.kind a.file.now a.out.now c.if-out-lt-OUTPUT_ROOM.false (sym c.size_wrong.ensures ∙ c.if-size_wrong.true))
-      c.refused.ensures
-      refl in
+    ends
+    (load-size limits a.kind a.file.now a.out.now c.if-out-lt-OUTPUT_ROOM.false (sym c.size_wrong.ensures ∙ c.if-size_wrong.true))
+    c.refused.ensures
+    refl in
     record { value = both.0; out_after = both.1 }
 
 pub returns-then-out-lt-OUTPUT_ROOM : goal.returns-then-out-lt-OUTPUT_ROOM
 returns-then-out-lt-OUTPUT_ROOM c =
     let a = c.args in
     let both =
-      ends (load-short limits a.kind a.file.now a.out.now c.if-out-lt-OUTPUT_ROOM.true) (ap Refused c.of_no_input.ensures) refl in
+    ends (load-short limits a.kind a.file.now a.out.now c.if-out-lt-OUTPUT_ROOM.true) (ap Refused c.of_no_input.ensures) refl in
     record { value = both.0; out_after = both.1 }
 
 pub returns-in-Refused-content_input : goal.returns-in-Refused-content_input
@@ -76,10 +69,10 @@ returns-in-Refused-content_input c =
     let a = c.args in
     let o = c.open_blocks in
     let both =
-      ends
-      (load-content limits a.kind a.file.now a.out.now c.if-out-lt-OUTPUT_ROOM.false (sym c.size_wrong.ensures ∙ c.if-size_wrong.false)
-      (take c.in-Good.size o.new.content) (o.ensures.outcome ∙ ap (λ (r : Answer). taken r o.new.content) c.in-Good.is) c.in-Refused-content_input.r
-      (c.content_input.ensures ∙ ap accepted c.in-Refused-content_input.is))
-      refl
-      refl in
+    ends
+    (load-content limits a.kind a.file.now a.out.now c.if-out-lt-OUTPUT_ROOM.false (sym c.size_wrong.ensures ∙ c.if-size_wrong.false)
+    (take c.in-Good.size o.new.content) (o.ensures.outcome ∙ ap (λ (r : Answer). taken r o.new.content) c.in-Good.is) c.in-Refused-content_input.r
+    (c.content_input.ensures ∙ ap accepted c.in-Refused-content_input.is))
+    refl
+    refl in
     record { value = both.0; out_after = both.1 }

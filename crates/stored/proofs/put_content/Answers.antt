@@ -5,7 +5,6 @@ use native.Mathlib.Omega.{arith}
 use lib.Seq.{length-take-le}
 use Rattle.rules.specs.declared.Answer.TheVariants.{Good}
 use Rattle.buffer.specs.Writing.{filled-up}
-use borrow.Author.Rules.{rules}
 use Rattle.stored.proofs.put_content.Goals as goal
 
 pub returns : goal.returns

@@ -5,7 +5,6 @@ use native.Mathlib.Omega.{arith}
 use Rattle.rules.specs.declared.Answer.TheVariants.{Good}
 use Rattle.stored.specs.Blocks.{length-stored}
 use Rattle.buffer.specs.Writing.{filled-up}
-use borrow.Author.Rules.{rules}
 use Rattle.stored.proofs.put_stored.Goals as goal
 
 pub clear-requires : goal.clear-requires

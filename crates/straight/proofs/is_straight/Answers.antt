@@ -1,7 +1,6 @@
 -- `straight::is_straight` meets its contract: the reader's answer says which term it is. Assumes nothing.
 use mathlib.Core.Path.{sym, ◌∙◌}
 use Rattle.straight.proofs.Calling.{bad-term, some-term, good-term}
-use borrow.Author.Rules.{rules}
 use Rattle.straight.proofs.is_straight.Goals as goal
 
 pub all_pass-requires : goal.all_pass-requires

@@ -1,8 +1,6 @@
 -- `straight::passes` meets its contract: the tag says whether the node binds names. Assumes nothing.
-use native.Mathlib.Omega.{arith}
 use Rattle.term.proofs.node.Terms.{at-inside}
 use Rattle.straight.proofs.Nodes.{some-abs, so-abs, some-let, so-let, so-plain}
-use borrow.Author.Rules.{rules}
 use Rattle.straight.proofs.passes.Goals as goal
 
 pub abs_passes-requires : goal.abs_passes-requires

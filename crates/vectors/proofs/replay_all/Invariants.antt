@@ -1,8 +1,6 @@
 -- `vectors::replay_all` is safe and ends: it counts its turns up to a bound, and what is lent keeps its length. Assumes nothing.
 use Prim.Native.Nat.{◌-◌}
-use mathlib.Core.Path.{◌≡◌, refl, ◌∙◌}
-use native.Mathlib.Omega.{arith}
-use borrow.Author.Rules.{rules}
+use mathlib.Core.Path.{◌≡◌}
 use lib.ListN.{length}
 use Rattle.vectors.proofs.replay_all.Given as goal
 

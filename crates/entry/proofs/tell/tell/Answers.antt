@@ -1,6 +1,5 @@
 -- `tell::tell` meets its contract: in each arm the numbers are those of the constructor that the match found. Assumes nothing.
 use mathlib.Core.Path.{sym, ap, ◌∙◌}
-use borrow.Author.Rules.{rules}
 use Rattle.entry.specs.Told.{told_answer}
 use Rattle.entry.proofs.tell.tell.Goals as goal
 

@@ -1,7 +1,6 @@
 -- `tell::tell_extraction` meets its contract: in each arm the numbers are those of the constructor that the match found.
 -- Assumes nothing.
 use mathlib.Core.Path.{sym, ap, ◌∙◌}
-use borrow.Author.Rules.{rules}
 use Rattle.entry.specs.Extraction.{told_extraction}
 use Rattle.entry.proofs.tell.tell_extraction.Goals as goal
 

@@ -1,7 +1,6 @@
 -- `tell::tell_piece` meets its contract: in each arm the numbers are those of the constructor that the match found. Assumes nothing.
-use mathlib.Core.Path.{sym, ap, subst, ◌∙◌}
-use borrow.Author.Rules.{rules}
-use Rattle.entry.specs.Child.{ordered, told_piece}
+use mathlib.Core.Path.{sym, ap, ◌∙◌}
+use Rattle.entry.specs.Child.{told_piece}
 use Rattle.entry.proofs.tell.tell_piece.Goals as goal
 
 pub returns-in-Missing : goal.returns-in-Missing

@@ -1,6 +1,5 @@
 -- `tell::tell_refusal` meets its contract: the numbers are the refusal's own. Assumes nothing.
 use mathlib.Core.Path.{refl}
-use borrow.Author.Rules.{rules}
 use Rattle.entry.specs.Told.{told_refusal}
 use Rattle.entry.proofs.tell.tell_refusal.Goals as goal
 

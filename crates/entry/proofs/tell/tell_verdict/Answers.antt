@@ -1,7 +1,6 @@
 -- `tell::tell_verdict` meets its contract: in each arm the numbers are those of the constructor that the match found.
 -- Assumes nothing.
 use mathlib.Core.Path.{sym, ap, ◌∙◌}
-use borrow.Author.Rules.{rules}
 use Rattle.straight.specs.declared.Verdict.TheVariants.{Good}
 use Rattle.entry.specs.Straight.{told_verdict}
 use Rattle.entry.proofs.tell.tell_verdict.Goals as goal

@@ -1,7 +1,6 @@
 -- `tell_steps::tell_normal` meets its contract: in each arm the numbers are those of the constructor that the match found. Assumes nothing.
 use mathlib.Core.Path.{sym, ap, ◌∙◌}
 use Rattle.entry.specs.Steps.{told_normal}
-use borrow.Author.Rules.{rules}
 use Rattle.entry.proofs.tell_steps.tell_normal.Goals as goal
 
 pub returns-in-Known : goal.returns-in-Known

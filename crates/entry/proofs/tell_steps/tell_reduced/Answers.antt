@@ -1,7 +1,6 @@
 -- `tell_steps::tell_reduced` meets its contract: in each arm the numbers are those of the constructor that the match found. Assumes nothing.
 use mathlib.Core.Path.{sym, ap, ◌∙◌}
 use Rattle.entry.specs.Steps.{told_reduced}
-use borrow.Author.Rules.{rules}
 use Rattle.entry.proofs.tell_steps.tell_reduced.Goals as goal
 
 pub returns-in-Refused : goal.returns-in-Refused

@@ -1,6 +1,5 @@
 -- `tell_steps::tell_reduction` meets its contract: the numbers are the reduction's own. Assumes nothing.
 use Rattle.entry.specs.Steps.{told_reduction}
-use borrow.Author.Rules.{rules}
 use Rattle.entry.proofs.tell_steps.tell_reduction.Goals as goal
 
 pub returns : goal.returns

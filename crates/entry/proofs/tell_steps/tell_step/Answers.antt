@@ -1,7 +1,6 @@
 -- `tell_steps::tell_step` meets its contract: in each arm the numbers are those of the constructor that the match found. Assumes nothing.
 use mathlib.Core.Path.{sym, ap, ◌∙◌}
 use Rattle.entry.specs.Steps.{told_step}
-use borrow.Author.Rules.{rules}
 use Rattle.entry.proofs.tell_steps.tell_step.Goals as goal
 
 pub returns-in-Found : goal.returns-in-Found

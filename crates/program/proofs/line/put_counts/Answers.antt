@@ -1,5 +1,4 @@
 -- `line::put_counts` meets its contract: three times three fields, and the end of the line. Assumes nothing.
-use borrow.Author.Rules.{rules}
 use Rattle.program.proofs.line.Counted.{counted}
 use Rattle.program.proofs.line.put_counts.Goals as goal
 

@@ -5,7 +5,6 @@ use lib.ListN.{length}
 use lib.Seq.{take-length}
 use Rattle.buffer.specs.Writing.{chain}
 use Rattle.words.specs.Digits.{decimal-few, wrote_as}
-use borrow.Author.Rules.{rules}
 use Rattle.program.proofs.line.put_field.Goals as goal
 
 pub put_decimal-requires : goal.put_decimal-requires

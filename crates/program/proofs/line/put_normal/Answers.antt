@@ -5,7 +5,6 @@ use mathlib.Core.List.{[], ◌∷◌}
 use Rattle.rules.specs.Basic.{say, ◌‥◌}
 use Rattle.rules.specs.Program.{yes_no}
 use Rattle.words.specs.Digits.{wrote_as}
-use borrow.Author.Rules.{rules}
 use Rattle.program.proofs.line.put_normal.Goals as goal
 
 pub returns : goal.returns

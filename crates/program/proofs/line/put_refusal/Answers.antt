@@ -1,11 +1,8 @@
 -- `line::put_refusal` meets its contract: two fields and the end of the line. Assumes nothing.
 use native.Mathlib.Omega.{arith}
-use mathlib.Core.Path.{◌∙◌}
-use lib.ListN.{length-set}
 use Rattle.rules.specs.Program.{refusal_line}
 use Rattle.buffer.specs.Writing.{chain}
 use Rattle.words.specs.Digits.{wrote_one}
-use borrow.Author.Rules.{rules}
 use Rattle.program.proofs.line.put_refusal.Goals as goal
 
 pub returns : goal.returns

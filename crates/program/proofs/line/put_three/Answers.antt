@@ -1,7 +1,6 @@
 -- `line::put_three` meets its contract: three writes, one after the other. Assumes nothing.
 use native.Mathlib.Omega.{arith}
 use Rattle.buffer.specs.Writing.{chain}
-use borrow.Author.Rules.{rules}
 use Rattle.program.proofs.line.put_three.Goals as goal
 
 pub returns : goal.returns

@@ -3,7 +3,6 @@ use mathlib.Core.Path.{sym, ◌∙◌}
 use native.Mathlib.Omega.{arith}
 use Rattle.program.proofs.run.Starting.{starts-line, starts-as}
 use Rattle.program.proofs.run.Files.{opens, unopened}
-use borrow.Author.Rules.{rules}
 use Rattle.program.proofs.run.print_file.Goals as goal
 
 pub print_reduced-requires : goal.print_reduced-requires

@@ -1,6 +1,6 @@
 -- `run::print_reduced` meets its contract: what reduction leaves when it stops can be read again, so its text and the counts are printed. Assumes nothing.
 use Prim.Native.Nat.{◌+◌, ◌≤◌}
-use mathlib.Core.Path.{sym, ◌∙◌}
+use mathlib.Core.Path.{sym}
 use native.Mathlib.Omega.{arith}
 use lib.ListN.{length, take, length-set}
 use lib.Seq.{length-take-le}
@@ -9,7 +9,6 @@ use Rattle.rules.specs.Term.{Term}
 use Rattle.program.proofs.run.Starting.{starts-line, starts-as}
 use Rattle.program.proofs.run.Stopping.{Told, told, refused-told}
 use Rattle.program.proofs.run.Texts.{never-refused, text-short, both-lines}
-use borrow.Author.Rules.{rules}
 use Rattle.program.proofs.run.print_reduced.Goals as goal
 use Rattle.program.proofs.run.print_reduced.Goals.{In-Stopped, In-Good}
 

@@ -1,7 +1,5 @@
 -- `run::printed` meets its contract: zeros behind what is printed. Assumes nothing.
-use native.Mathlib.Omega.{arith}
-use Rattle.program.proofs.run.Starting.{starts-inside, starts-filled}
-use borrow.Author.Rules.{rules}
+use Rattle.program.proofs.run.Starting.{starts-filled}
 use Rattle.program.proofs.run.printed.Goals as goal
 
 pub returns : goal.returns

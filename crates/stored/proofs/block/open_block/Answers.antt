@@ -5,8 +5,7 @@ use native.Mathlib.Omega.{arith}
 use lib.Seq.{length-take-le}
 use Rattle.rules.specs.Limits.{limits}
 use Rattle.rules.specs.Stored.{used_bytes_in}
-use Rattle.stored.specs.Opening.{used_le, fault-is, block_refused, block-opened}
-use borrow.Author.Rules.{rules}
+use Rattle.stored.specs.Opening.{fault-is, block_refused, block-opened}
 use Rattle.stored.proofs.block.open_block.Goals as goal
 
 pub returns : goal.returns

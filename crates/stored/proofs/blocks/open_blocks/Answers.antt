@@ -1,15 +1,14 @@
 -- `blocks::open_blocks` meets its contract: what is gathered and what is left make up the whole. Assumes nothing.
 use Prim.Native.Nat.{ℕ, ◌+◌, ◌-◌, ◌*◌, ◌/◌, ◌≤◌}
-use mathlib.Core.Path.{◌≡◌, refl, sym, ap, ◌∙◌}
-use mathlib.Core.List.{[], ◌++◌, append-nil}
-use native.Mathlib.Nat.{sub-zero}
+use mathlib.Core.Path.{◌≡◌, refl, ap, ◌∙◌}
+use mathlib.Core.List.{◌++◌, append-nil}
 use native.Mathlib.Omega.{arith}
 use lib.ListN.{length, take, drop}
 use Rattle.rules.specs.Basic.{Bytes}
 use Rattle.rules.specs.Refusal.{good}
 use Rattle.rules.specs.Limits.{limits, block_bytes, block_content}
 use Rattle.rules.specs.Stored.{opened_blocks}
-use Rattle.stored.specs.Gathering.{behind, behind-nil, block-at, length-block-at, copied, wrote-take, stops, goes_on}
+use Rattle.stored.specs.Gathering.{behind, block-at, length-block-at, copied, wrote-take, stops, goes_on}
 use Rattle.stored.specs.Opening.{amount}
 use Rattle.stored.proofs.blocks.open_blocks.Goals as goal
 

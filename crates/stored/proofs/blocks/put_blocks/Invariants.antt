@@ -1,14 +1,10 @@
 -- `blocks::put_blocks` meets its contract: what is left to write makes up the whole. Assumes nothing.
-use Prim.Native.Nat.{ℕ, ◌+◌, ◌-◌, ◌*◌, ◌≤◌}
-use mathlib.Core.Path.{◌≡◌, refl, sym, ap, ◌∙◌}
-use native.Mathlib.Omega.{arith}
-use mathlib.Core.List.{[]}
-use native.Mathlib.Nat.{sub-zero}
-use lib.ListN.{length, drop, length-drop}
-use lib.Seq.{sets, length-take-le}
+use Prim.Native.Nat.{◌-◌, ◌*◌, ◌≤◌}
+use mathlib.Core.Path.{◌≡◌}
+use lib.ListN.{length}
+use lib.Seq.{sets}
 use Rattle.rules.specs.Limits.{limits, block_bytes, block_count_for}
 use Rattle.rules.specs.Stored.{blocks, stored}
-use Rattle.stored.specs.Blocks.{length-stored, length-middle, more-blocks}
 use Rattle.stored.proofs.blocks.put_blocks.Given as goal
 
 abbrev pub invariant-loop-number : goal.invariant-loop-number

@@ -6,7 +6,6 @@ use lib.ListN.{take}
 use lib.Seq.{length-take-le, take-take}
 use Rattle.rules.specs.Stored.{weighed}
 use Rattle.stored.specs.Weights.{weighed-clean}
-use borrow.Author.Rules.{rules}
 use Rattle.stored.proofs.check.check_of.Goals as goal
 
 pub returns-then-clean : goal.returns-then-clean

@@ -1,7 +1,5 @@
 -- `check::put_check` meets its contract: two bytes behind the body. Assumes nothing.
-use mathlib.Core.Path.{sym}
 use Rattle.stored.specs.Blocks.{put_last}
-use borrow.Author.Rules.{rules}
 use Rattle.stored.proofs.check.put_check.Goals as goal
 
 pub returns : goal.returns

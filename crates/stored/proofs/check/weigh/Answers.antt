@@ -1,9 +1,9 @@
 -- `check::weigh` meets its contract: the two sums are those of the bytes that are passed, from the end. Assumes nothing.
-use Prim.Native.Nat.{ℕ, ◌+◌, ◌-◌, ◌*◌, ◌≤◌}
+use Prim.Native.Nat.{◌+◌, ◌-◌}
 use mathlib.Core.Path.{◌≡◌, sym, ap, ◌∙◌}
 use mathlib.Core.List.{◌∷◌}
 use native.Mathlib.Omega.{arith}
-use lib.ListN.{length, drop, get_or}
+use lib.ListN.{drop, get_or}
 use lib.Seq.{drop-length}
 use Rattle.rules.specs.Stored.{weighed}
 use Rattle.stored.specs.Weights.{total, weighed-cons, drop-down}

@@ -1,12 +1,9 @@
 -- `check::weigh` meets its contract: the two sums are those of the bytes that are passed, from the end. Assumes nothing.
-use Prim.Native.Nat.{ℕ, ◌+◌, ◌-◌, ◌*◌, ◌≤◌}
-use mathlib.Core.Path.{◌≡◌, sym, ap, ◌∙◌}
-use mathlib.Core.List.{◌∷◌}
-use native.Mathlib.Omega.{arith}
-use lib.ListN.{length, drop, get_or}
-use lib.Seq.{drop-length}
+use Prim.Native.Nat.{◌-◌, ◌*◌, ◌≤◌}
+use mathlib.Core.Path.{◌≡◌}
+use lib.ListN.{length, drop}
 use Rattle.rules.specs.Stored.{weighed}
-use Rattle.stored.specs.Weights.{total, weighed-cons, drop-down}
+use Rattle.stored.specs.Weights.{total}
 use Rattle.stored.proofs.check.weigh.Given as goal
 
 abbrev pub invariant-loop-i : goal.invariant-loop-i

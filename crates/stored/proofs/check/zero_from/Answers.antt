@@ -1,12 +1,6 @@
 -- `check::zero_from` meets its contract: what was gathered and what is left decide together. Assumes nothing.
-use Prim.Native.Nat.{◌-◌}
-use mathlib.Core.Path.{◌≡◌, refl}
-use mathlib.Core.Bool.{◌&&◌}
 use native.Mathlib.Omega.{arith}
-use lib.Dec.{eqb}
-use lib.ListN.{length, drop}
-use Rattle.rules.specs.Stored.{all_zero}
-use Rattle.stored.specs.Weights.{zero_turn, zero-end}
+use Rattle.stored.specs.Weights.{zero_turn}
 use Rattle.stored.proofs.check.zero_from.Goals as goal
 
 pub loop-i-preserved : goal.loop-i-preserved

@@ -1,12 +1,10 @@
 -- `check::zero_from` meets its contract: what was gathered and what is left decide together. Assumes nothing.
 use Prim.Native.Nat.{◌-◌}
-use mathlib.Core.Path.{◌≡◌, refl}
+use mathlib.Core.Path.{◌≡◌}
 use mathlib.Core.Bool.{◌&&◌}
-use native.Mathlib.Omega.{arith}
 use lib.Dec.{eqb}
 use lib.ListN.{length, drop}
 use Rattle.rules.specs.Stored.{all_zero}
-use Rattle.stored.specs.Weights.{zero_turn, zero-end}
 use Rattle.stored.proofs.check.zero_from.Given as goal
 
 abbrev pub invariant-loop-i : goal.invariant-loop-i

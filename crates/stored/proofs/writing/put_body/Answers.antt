@@ -1,12 +1,5 @@
 -- `writing::put_body` meets its contract: three writes, one after the other. Assumes nothing.
-use Prim.Native.Nat.{◌+◌, ◌*◌}
-use native.Mathlib.Omega.{arith}
-use lib.ListN.{length}
-use lib.Seq.{length-slice}
-use Rattle.rules.specs.Limits.{block_content}
-use Rattle.stored.specs.Opening.{used_le}
-use Rattle.stored.specs.Blocks.{used-in, put-body}
-use borrow.Author.Rules.{rules}
+use Rattle.stored.specs.Blocks.{put-body}
 use Rattle.stored.proofs.writing.put_body.Goals as goal
 
 pub returns : goal.returns

@@ -1,7 +1,6 @@
 -- `binder::once` meets its contract: the part of the list that it seeks is the binder's name. Assumes nothing.
 use native.Mathlib.Omega.{arith}
 use Rattle.straight.proofs.binder.Binding.{name-inside, elsewhere, not-once, inside}
-use borrow.Author.Rules.{rules}
 use Rattle.straight.proofs.binder.once.Goals as goal
 
 pub returns : goal.returns

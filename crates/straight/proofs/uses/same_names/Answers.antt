@@ -2,7 +2,7 @@
 -- Assumes nothing.
 use native.Mathlib.Omega.{arith}
 use Rattle.term.proofs.node.Names.{name-room, some-single}
-use Rattle.straight.proofs.uses.NameRows.{Passing, begin, finish, one-here, small, turn}
+use Rattle.straight.proofs.uses.NameRows.{finish, one-here, small, turn}
 use Rattle.straight.proofs.uses.same_names.Goals as goal
 
 pub after_names-i-requires : goal.after_names-i-requires

@@ -1,8 +1,6 @@
 -- `uses::same_names` meets its contract: whatever the names that are left have, all of them have that and what was met.
 -- Assumes nothing.
-use native.Mathlib.Omega.{arith}
-use Rattle.term.proofs.node.Names.{name-room, some-single}
-use Rattle.straight.proofs.uses.NameRows.{Passing, begin, finish, one-here, small, turn}
+use Rattle.straight.proofs.uses.NameRows.{Passing}
 use Rattle.straight.proofs.uses.same_names.Given as goal
 
 abbrev pub invariant-loop-left : goal.invariant-loop-left

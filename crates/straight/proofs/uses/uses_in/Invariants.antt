@@ -1,9 +1,8 @@
 -- `uses::uses_in` meets its contract: whatever the terms that are left have, all of them have that and what was met.
 -- Assumes nothing.
 use Prim.Native.Nat.{◌-◌}
-use native.Mathlib.Omega.{arith}
 use lib.ListN.{length}
-use Rattle.straight.proofs.uses.TermRows.{Going, begin, finish, one-here, room, few, turn}
+use Rattle.straight.proofs.uses.TermRows.{Going}
 use Rattle.straight.proofs.uses.uses_in.Given as goal
 
 abbrev pub invariant-loop-left : goal.invariant-loop-left

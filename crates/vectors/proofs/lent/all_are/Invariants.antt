@@ -1,8 +1,6 @@
 -- `lent::all_are` is safe and ends: it counts up to the length. Assumes nothing.
 use Prim.Native.Nat.{◌-◌, ◌≤◌}
 use lib.ListN.{length}
-use native.Mathlib.Omega.{arith}
-use borrow.Author.Rules.{rules}
 use Rattle.vectors.proofs.lent.all_are.Given as goal
 
 abbrev pub invariant-loop-i : goal.invariant-loop-i

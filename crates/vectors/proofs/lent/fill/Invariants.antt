@@ -1,9 +1,7 @@
 -- `lent::fill` is safe and ends: it counts up to the length, which stays. Assumes nothing.
 use Prim.Native.Nat.{◌-◌, ◌≤◌}
-use mathlib.Core.Path.{◌≡◌, refl}
-use lib.ListN.{length, length-set}
-use native.Mathlib.Omega.{arith}
-use borrow.Author.Rules.{rules}
+use mathlib.Core.Path.{◌≡◌}
+use lib.ListN.{length}
 use Rattle.vectors.proofs.lent.fill.Given as goal
 
 abbrev pub invariant-loop-i : goal.invariant-loop-i

@@ -1,8 +1,6 @@
 -- `list::place_of` is safe and ends: it counts up to k, and each field lies within the list. Assumes nothing.
 use Prim.Native.Nat.{◌-◌, ◌≤◌}
 use lib.ListN.{length}
-use native.Mathlib.Omega.{arith}
-use borrow.Author.Rules.{rules}
 use Rattle.vectors.proofs.list.place_of.Given as goal
 
 abbrev pub invariant-loop-i : goal.invariant-loop-i

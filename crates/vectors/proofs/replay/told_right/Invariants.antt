@@ -1,7 +1,5 @@
 -- `replay::told_right` is safe and ends: it counts up to 16. Assumes nothing.
 use Prim.Native.Nat.{◌-◌, ◌≤◌}
-use native.Mathlib.Omega.{arith}
-use borrow.Author.Rules.{rules}
 use Rattle.vectors.proofs.replay.told_right.Given as goal
 
 abbrev pub invariant-loop-i : goal.invariant-loop-i

@@ -1,7 +1,5 @@
 -- `with_row::row_is` is safe and ends: it counts up to the length of the row. Assumes nothing.
 use Prim.Native.Nat.{◌-◌, ◌≤◌}
-use native.Mathlib.Omega.{arith}
-use borrow.Author.Rules.{rules}
 use Rattle.vectors.proofs.with_row.row_is.Given as goal
 
 abbrev pub invariant-loop-i : goal.invariant-loop-i

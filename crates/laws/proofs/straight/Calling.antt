@@ -16,7 +16,7 @@ use Rattle.laws.specs.reading.Fits.{fits-accepted, accepted-fits}
 use Rattle.laws.specs.reading.Decoding.{term-sound, term-complete}
 use Rattle.laws.specs.straight.Decides.{straight-decides}
 use Rattle.laws.specs.straight.Promise.{StraightCall}
-use Rattle.laws.specs.straight.Reducing.{straight-reduction}
+use Rattle.laws.proofs.straight.Reducing.{straight-reduction}
 
 called : (L : Limits) (t : Term) (limit : ℕ) (i o s : Bytes) (r : Reduced) → work_room L o s ≡ true → read_term L 1 i ≡ good t → reduce L limit t ≡ r
     → reduce_call L i limit o s ≡ reduce_with o s (reduce_ending r)

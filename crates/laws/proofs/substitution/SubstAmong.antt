@@ -9,7 +9,8 @@ use Rattle.rules.specs.Term.{Term}
 use Rattle.rules.specs.Free.{free, occurrences}
 use Rattle.rules.specs.Substitution.{subst}
 use Rattle.laws.specs.free.Occurrences.{among-free, some_of, some_left}
-use Rattle.laws.specs.substitution.SubstFree.{reach, subst-occurrences}
+use Rattle.laws.specs.substitution.SubstFree.{reach}
+use Rattle.laws.proofs.substitution.SubstFree.{subst-occurrences}
 use Rattle.laws.specs.substitution.SubstReach.{binds, reach-most, reach-all}
 
 some-product : (m n : ℕ) → (0 <? (m * n)) ≡ ((0 <? m) && (0 <? n))

@@ -21,7 +21,7 @@ use Rattle.laws.specs.size.Parts.{some-node}
 use Rattle.laws.specs.step.StepLegal.{step-legal}
 use Rattle.laws.specs.straight.Promise.{Loses, StraightStep, only, StraightReduction}
 use Rattle.laws.specs.straight.OneStep.{Meets}
-use Rattle.laws.specs.straight.StepKept.{one-step}
+use Rattle.laws.proofs.straight.StepKept.{one-step}
 
 -- What is left of t, after steps or none.
 record Left (L : Limits) (t u : Term) : Type 0 where

@@ -1,0 +1,3 @@
+pub mod size
+pub mod substitution
+pub mod straight

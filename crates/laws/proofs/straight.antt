@@ -1,0 +1,3 @@
+pub mod StepKept
+pub mod Reducing
+pub mod Calling
