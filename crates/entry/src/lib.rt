@@ -1,4 +1,4 @@
-// The C entry points (include/patch.h): one line each over a public call, on numbers and byte slices.
+// What the C entry points (include/patch.h) do, which the crate entry_c exports: one line each over a public call, on numbers and byte slices.
 // An entry tells its answer in an array of 16 numbers, whose length is part of its type, so no caller can lend too few and the entry needs no
 // refusal of its own. What the numbers are is defined in specs/Told.antt and the files beside it.
 #![tactic(auto)]

@@ -1,5 +1,5 @@
--- The extractor's calls leave one: a new one the same extractor; an extraction the same answer, counter, entries, output and scratch. `extract` is proved by hand, so what
--- the checker takes from its `ensures` is that clause itself: `Learnt` is the claim in it. It says of the entries which pairs they are, and a row is known by its pairs.
+-- The extractor's calls leave one: a new one the same extractor; an extraction the same answer, counter, entries, output and scratch. What the checker takes
+-- from the `ensures` of `extract` is that clause itself: `Learnt` is the claim in it. It says of the entries which pairs they are, and a row is known by its pairs.
 -- Assumes nothing.
 use mathlib.Core.Path.{◌≡◌, refl, ap, ap₂}
 use mathlib.Core.List.{List, [], ◌∷◌}

@@ -1,4 +1,4 @@
-// An Extractor, and the row of cut entries that it is lent. Both stand in this one function, which is proved by hand.
+// An Extractor, and the row of cut entries that it is lent. Both stand in this one function.
 ghost use Rattle.std.specs.Prelude.{◌≡◌, ◌≤◌, length};
 
 use extract::extractor::Extractor;
