@@ -1,7 +1,6 @@
 -- For each rule, how many bytes at the end of its redex stay where they stand when it is contracted (02, request (x)). All else that is left of
 -- the redex is written, and moved. Assumes nothing: these are definitions.
-use Rattle.std.specs.Prelude.{ℕ, ◌+◌, ◌≡◌, Bool, true, false, List, [], ◌∷◌, length}
-use Rattle.rules.specs.Basic.{◌==◌}
+use Rattle.std.specs.Prelude.{ℕ, ◌+◌, ◌≡◌, Bool, true, false, List, [], ◌∷◌, length, ◌==◌}
 use Rattle.rules.specs.Name.{Name}
 use Rattle.rules.specs.Term.{Term, one, two, abs, both, branch, One, fst, snd, promote, derelict, pair, app, discard, let_a_pair, copy, size}
 use Rattle.substitution.specs.Places.{places}

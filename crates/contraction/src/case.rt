@@ -1,7 +1,6 @@
 // Case of Inl or Inr, where it stands: that branch, with the injected part for the branch's name.
-ghost use Rattle.std.specs.Prelude.{Bool};
+ghost use Rattle.std.specs.Prelude.{Bool, if◌then◌else◌};
 ghost use Rattle.std.proofs.Math.Option.{none};
-ghost use Rattle.rules.specs.Basic.{if◌then◌else◌};
 ghost use Rattle.rules.specs.Name.{Name};
 ghost use Rattle.rules.specs.Term.{Term, one, branch as a_branch};
 ghost use Rattle.rules.specs.declared.Rule.TheVariants.{Case};

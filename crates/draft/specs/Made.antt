@@ -1,6 +1,6 @@
 -- What adding a row to a draft leaves. Assumes nothing: these are definitions.
-use Rattle.std.specs.Prelude.{ℕ, zero, suc, ◌+◌, ◌*◌, ◌^◌, ◌<◌, ◌≡◌, List, length, get_or}
-use Rattle.rules.specs.Basic.{Bytes, if◌then◌else◌, ◌==◌}
+use Rattle.std.specs.Prelude.{ℕ, zero, suc, ◌+◌, ◌*◌, ◌^◌, ◌<◌, ◌≡◌, List, length, get_or, if◌then◌else◌, ◌==◌}
+use Rattle.rules.specs.Basic.{Bytes}
 use Rattle.rules.specs.Term.{Term}
 use Rattle.draft.specs.Draft.{row_at, Rows, Drafts, shaped, shape_of}
 

@@ -1,6 +1,5 @@
 -- Whether a term is straight, told as numbers: 1 or 0, or a refusal. Assumes nothing: this is a definition.
-use Rattle.std.specs.Prelude.{ℕ, List, [], ◌∷◌}
-use Rattle.rules.specs.Basic.{if◌then◌else◌}
+use Rattle.std.specs.Prelude.{ℕ, List, [], ◌∷◌, if◌then◌else◌}
 use Rattle.straight.specs.declared.Verdict.{Verdict}
 use Rattle.straight.specs.declared.Verdict.TheVariants.{Good, Refused}
 use Rattle.entry.specs.Told.{told, told_refusal}

@@ -1,9 +1,9 @@
 -- What is extracted from a legal proof is a legal term, where the counter stays within its bound: the counter only rises, so every name
 -- that is taken has a number below the counter at the end. By induction on the proof. Assumes nothing.
-use Rattle.std.specs.Prelude.{ℕ, suc, ◌<◌, ◌≤◌, refl, Bool, true, false, List, [], ◌∷◌}
+use Rattle.std.specs.Prelude.{ℕ, suc, ◌<◌, ◌≤◌, refl, Bool, true, false, List, [], ◌∷◌, if◌then◌else◌}
 use Rattle.std.proofs.Math.Option.{Option, none, some}
 use Rattle.std.proofs.Common.{arith}
-use Rattle.rules.specs.Basic.{if◌then◌else◌, ◌‥◌}
+use Rattle.rules.specs.Basic.{◌‥◌}
 use Rattle.rules.specs.Limits.{most_counter}
 use Rattle.rules.specs.Name.{Name, leads, name_spelling}
 use Rattle.rules.specs.Legal.{LegalName, LegalFormula, Legal, LegalFormulas, LegalRule, LegalProof, LegalPremises}

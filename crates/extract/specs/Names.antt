@@ -1,11 +1,11 @@
 -- Generated names are legal: a lower-cased atom is a legal name, no word since the atom was legal; and a stem as long as an atom may be, with the
 -- digits of a number below the most of the counter behind it, is no longer than a name may be, and no word since it ends in a digit.
 -- By the bytes, and by the number of digits. Assumes nothing.
-use Rattle.std.specs.Prelude.{ℕ, zero, suc, ◌+◌, ◌/◌, ◌%◌, ◌^◌, ◌<◌, ◌≤◌, ◌≡◌, refl, Bool, true, false, not, ◌||◌, List, [], ◌∷◌, ◌++◌, map, ltb, leb, eqb, length}
+use Rattle.std.specs.Prelude.{ℕ, zero, suc, ◌+◌, ◌/◌, ◌%◌, ◌^◌, ◌<◌, ◌≤◌, ◌≡◌, refl, Bool, true, false, not, ◌||◌, List, [], ◌∷◌, ◌++◌, map, ltb, leb, eqb, length, if◌then◌else◌}
 use Rattle.std.proofs.Common.{sym, ap, ◌∙◌, append_assoc, arith, div-lt_iff_lt-mul, mod-lt, pow-suc, length-append, lt-ltb, le-leb, leb-true, ltb-true}
 use Rattle.std.proofs.lemmas.List.{length-map}
 use Rattle.std.proofs.lemmas.Bool.{lt-leb}
-use Rattle.rules.specs.Basic.{if◌then◌else◌, between, digits, decimal, ◌‥◌}
+use Rattle.rules.specs.Basic.{between, digits, decimal, ◌‥◌}
 use Rattle.rules.specs.Limits.{most_counter}
 use Rattle.rules.specs.Name.{Name, atom_most, leads, follows, lower_of, lower, is_a_word, name_spelling, atom_spelling}
 use Rattle.rules.specs.Legal.{All, Lettered, LegalName}

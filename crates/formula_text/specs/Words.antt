@@ -1,6 +1,5 @@
 -- What the tags of formulas stand for, in numbers: the word of each, and its shape. Assumes nothing: these are definitions.
-use Rattle.std.specs.Prelude.{ℕ, ◌*◌, ◌/◌, ◌%◌, ◌^◌, List, [], ◌∷◌, get_or, take}
-use Rattle.rules.specs.Basic.{if◌then◌else◌, ◌==◌}
+use Rattle.std.specs.Prelude.{ℕ, ◌*◌, ◌/◌, ◌%◌, ◌^◌, List, [], ◌∷◌, get_or, take, if◌then◌else◌, ◌==◌}
 use Rattle.words.specs.Prints.{eight}
 
 -- for each tag from 0 on, its word low byte first, and the word's length in the highest byte

@@ -1,6 +1,5 @@
 -- How one name stands to another, as the code answers it: by `same` and `before`, whatever these compare. Assumes nothing.
-use Rattle.std.specs.Prelude.{◌≡◌, refl, Bool, true, false}
-use Rattle.rules.specs.Basic.{if◌then◌else◌}
+use Rattle.std.specs.Prelude.{◌≡◌, refl, Bool, true, false, if◌then◌else◌}
 use Rattle.rules.specs.Name.{Name, same, before}
 use Rattle.free.specs.declared.order.Stands.{Stands}
 use Rattle.free.specs.declared.order.Stands.TheVariants.{Before, Same, After}

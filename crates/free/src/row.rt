@@ -1,7 +1,6 @@
 // Names kept by their places, in one row: those found from its start on, in order; those of the binders passed up to BINDERS, the nearest
 // first; behind them guesses at where a name stands.
-ghost use Rattle.std.specs.Prelude.{◌≡◌, true, List, ◌-◌, ◌≤◌, ◌<◌, length, set};
-ghost use Rattle.rules.specs.Basic.{if◌then◌else◌};
+ghost use Rattle.std.specs.Prelude.{◌≡◌, true, List, ◌-◌, ◌≤◌, ◌<◌, length, set, if◌then◌else◌};
 ghost use Rattle.rules.specs.Name.{Name, among};
 ghost use Rattle.rules.specs.Free.{insert};
 ghost use Rattle.term.specs.Place.{NameAt};

@@ -1,7 +1,6 @@
 -- The wrong versions of the public calls that document 01 names ("What the promises have to say", "Easy ways to go wrong"), and the one of request (i).
 -- Assumes nothing: these are definitions.
-use Rattle.std.specs.Prelude.{ℕ, Bool}
-use Rattle.rules.specs.Basic.{◌==◌}
+use Rattle.std.specs.Prelude.{ℕ, Bool, ◌==◌}
 pub mod Put
 pub mod Step
 pub mod Reduction

@@ -1,6 +1,6 @@
 -- What the pair of readers tells in one number. Assumes nothing: these are definitions.
-use Rattle.std.specs.Prelude.{ℕ, ◌-◌, ◌/◌, ◌%◌, ◌≤◌, length}
-use Rattle.rules.specs.Basic.{Bytes, if◌then◌else◌, ◌<?◌}
+use Rattle.std.specs.Prelude.{ℕ, ◌-◌, ◌/◌, ◌%◌, ◌≤◌, length, if◌then◌else◌}
+use Rattle.rules.specs.Basic.{Bytes, ◌<?◌}
 use Rattle.rules.specs.Limits.{limits}
 use Rattle.proof.specs.declared.reached.Reached.{Reached}
 use Rattle.proof.specs.declared.reached.Reading.{Reading}

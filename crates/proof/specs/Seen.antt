@@ -1,8 +1,8 @@
 -- What the code tells of a reading of a proof: all but the value read and the bytes that are left.
 -- Assumes nothing: these are definitions.
-use Rattle.std.specs.Prelude.{ℕ, ◌+◌, drop}
+use Rattle.std.specs.Prelude.{ℕ, ◌+◌, drop, if◌then◌else◌}
 use Rattle.std.proofs.Math.Option.{Option, none, some}
-use Rattle.rules.specs.Basic.{Bytes, if◌then◌else◌, ◌<?◌}
+use Rattle.rules.specs.Basic.{Bytes, ◌<?◌}
 use Rattle.rules.specs.Limits.{Limits}
 use Rattle.rules.specs.Refusal.{refuse, answered}
 use Rattle.rules.specs.declared.Answer.{Answer}

@@ -1,8 +1,8 @@
 -- What the walk does at a rule, told by three numbers: the act, the part or the kind of the row, and how many names are taken before the first premise.
 -- An act is 0 to take a part with which a draft begins, 1 to put a row over Unit, 2 to put the name of an Axiom, 3 to read the first premise, 4 to pair two,
 -- 5 to join the two of a Cut. By the rule's tag and its count of premises; and what extraction makes then. Assumes nothing: these are definitions.
-use Rattle.std.specs.Prelude.{ℕ, zero, suc, ◌≤◌, ◌≡◌, List, [], ◌∷◌}
-use Rattle.rules.specs.Basic.{Bytes, if◌then◌else◌, ◌≤?◌, ◌==◌}
+use Rattle.std.specs.Prelude.{ℕ, zero, suc, ◌≤◌, ◌≡◌, List, [], ◌∷◌, if◌then◌else◌, ◌==◌}
+use Rattle.rules.specs.Basic.{Bytes, ◌≤?◌}
 use Rattle.rules.specs.Formula.{Formula}
 use Rattle.rules.specs.Term.{leaf, Leaf, unit, trivial}
 use Rattle.rules.specs.Proof.{Proof, cut}

@@ -8,7 +8,8 @@ use mathlib.Core.Bool.{Bool, true, false}
 use mathlib.Core.List.{[], ◌∷◌}
 use lib.ListN.{length, length-append}
 use borrow.Author.Tests.{le-leb, lt-leb}
-use Rattle.rules.specs.Basic.{Bytes, if◌then◌else◌}
+use Rattle.std.specs.Prelude.{if◌then◌else◌}
+use Rattle.rules.specs.Basic.{Bytes}
 use Rattle.rules.specs.Refusal.{refuse, mapped, answered}
 use Rattle.rules.specs.Name.{Name, name_most, leads, follows, Spelling, name_spelling}
 use Rattle.rules.specs.Reading.{Got, got, bad, Reader, and_then, many, byte, byte_for, letters, spelled, ended, read_name}

@@ -1,11 +1,11 @@
 -- The tables of `class` are right: a test at each byte, which antt computes.
 -- Assumes nothing.
-use Rattle.std.specs.Prelude.{ℕ, zero, suc, ◌+◌, ◌-◌, ◌*◌, ◌/◌, ◌%◌, ◌^◌, ◌<◌, ◌≤◌, ◌≡◌, refl, Bool, true, false, not, ◌&&◌, [], ◌∷◌, length, get_or, set, replicate}
+use Rattle.std.specs.Prelude.{ℕ, zero, suc, ◌+◌, ◌-◌, ◌*◌, ◌/◌, ◌%◌, ◌^◌, ◌<◌, ◌≤◌, ◌≡◌, refl, Bool, true, false, not, ◌&&◌, [], ◌∷◌, length, get_or, set, replicate, if◌then◌else◌, ◌==◌}
 use Rattle.std.proofs.Common.{add-zero, zero-add, add-suc, suc-add, le_of_suc-le-suc, not-suc-le-zero, mul_comm, arith, sym, ap, ◌∙◌, true≢false, eqb-true, ltb-true, leb-true}
 use Rattle.std.proofs.Math.Nat.{div-div-eq-div-mul}
 use Rattle.std.proofs.lemmas.List.{length-map}
 use Rattle.std.proofs.lemmas.List.Edits.{sets}
-use Rattle.rules.specs.Basic.{Bytes, if◌then◌else◌, ◌<?◌, ◌≤?◌, ◌==◌}
+use Rattle.rules.specs.Basic.{Bytes, ◌<?◌, ◌≤?◌}
 use Rattle.rules.specs.Name.{Name, name_most, leads, follows, lower_of, lower, words, is_a_word, name_spelling, atom_spelling}
 use Rattle.rules.specs.Layout.{Layout, head_by_tag}
 use Rattle.rules.specs.Term.{terms}

@@ -1,6 +1,6 @@
 // Counts letters, many bytes at once.
-ghost use Rattle.std.specs.Prelude.{◌≡◌, ◌-◌, ◌≤◌, ◌<◌, length};
-ghost use Rattle.rules.specs.Basic.{if◌then◌else◌, ◌==◌, between};
+ghost use Rattle.std.specs.Prelude.{◌≡◌, ◌-◌, ◌≤◌, ◌<◌, length, if◌then◌else◌, ◌==◌};
+ghost use Rattle.rules.specs.Basic.{between};
 ghost use Rattle.rules.specs.Name.{follows};
 ghost use Rattle.reader.specs.Letters.{one, letters_from};
 

@@ -1,7 +1,6 @@
 -- What the search for the first redex goes by, and what it hands back. Assumes nothing: these are definitions.
-use Rattle.std.specs.Prelude.{ℕ, ◌+◌, ◌*◌, ◌/◌, ◌%◌, ◌^◌, Bool}
+use Rattle.std.specs.Prelude.{ℕ, ◌+◌, ◌*◌, ◌/◌, ◌%◌, ◌^◌, Bool, ◌==◌, if◌then◌else◌}
 use Rattle.std.proofs.Math.Option.{Option, none, some}
-use Rattle.rules.specs.Basic.{◌==◌, if◌then◌else◌}
 use Rattle.rules.specs.Term.{Term, size}
 use Rattle.term.specs.Node.{packed}
 use Rattle.redex.specs.Spot.{Spot, spot}

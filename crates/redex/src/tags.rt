@@ -1,6 +1,5 @@
 // What a node's tag tells of the search: how many of its parts are entered, and with its first part's tag, whether it is a redex.
-ghost use Rattle.std.specs.Prelude.{◌≡◌, ◌<◌};
-ghost use Rattle.rules.specs.Basic.{◌==◌};
+ghost use Rattle.std.specs.Prelude.{◌≡◌, ◌<◌, ◌==◌};
 ghost use Rattle.redex.specs.Searched.{enters_after, reduces as reduces_of};
 ghost use Rattle.redex.specs.After.{wanting};
 

@@ -8,7 +8,8 @@ use mathlib.Core.Bool.{Bool, true, false, ◌&&◌}
 use mathlib.Core.List.{List, [], ◌∷◌}
 use mathlib.Core.Option.{Option, none, some}
 use lib.Dec.{ltb, eqb}
-use Rattle.rules.specs.Basic.{Bytes, say, if◌then◌else◌, ◌‥◌}
+use Rattle.std.specs.Prelude.{if◌then◌else◌}
+use Rattle.rules.specs.Basic.{Bytes, say, ◌‥◌}
 use Rattle.rules.specs.Formula.{Formula, atom, constant, plain, negated, One}
 use Rattle.rules.specs.Term.{Term, var, leaf, one, promote, two, abs, both, branch, unit, pair, app, let_a_pair, copy}
 use Rattle.rules.specs.Proof.{Proof, proof, row, Plain, cut}

@@ -5,7 +5,8 @@ use mathlib.Core.Path.{◌≡◌, refl}
 use mathlib.Core.Bool.{Bool, false, ◌&&◌}
 use mathlib.Core.List.{List, [], ◌∷◌, map}
 use lib.Dec.{eqb}
-use Rattle.rules.specs.Basic.{say, if◌then◌else◌}
+use Rattle.std.specs.Prelude.{if◌then◌else◌}
+use Rattle.rules.specs.Basic.{say}
 use Rattle.rules.specs.Name.{before, encode_names}
 use Rattle.rules.specs.Term.{Term, one, two, encode, leaf, trivial, inl, inr, fst, snd, abort, promote, derelict, discard}
 use Rattle.rules.specs.Free.{insert, union, without, free, occurrences}

@@ -1,8 +1,8 @@
 -- What a call leaves in the buffers that it is lent (01, "Buffers").
 -- Assumes nothing: these are definitions.
-use Rattle.std.specs.Prelude.{ℕ, ◌-◌, Bool, true, false, List, length, replicate}
+use Rattle.std.specs.Prelude.{ℕ, ◌-◌, Bool, true, false, List, length, replicate, if◌then◌else◌}
 use Rattle.std.proofs.Math.Option.{Option, none, some}
-use Rattle.rules.specs.Basic.{Bytes, if◌then◌else◌, ◌‥◌}
+use Rattle.rules.specs.Basic.{Bytes, ◌‥◌}
 use Rattle.rules.specs.Refusal.{Outcome, good, refused, refuse, short_buffer, spares_scratch}
 
 -- A call ends with an answer or a refusal, and writes something to the output or leaves it untouched.

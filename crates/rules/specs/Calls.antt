@@ -1,9 +1,9 @@
 -- Every public call: its answer, its output and its scratch, of all inputs and all lent buffers.
 -- Assumes nothing: these are definitions.
-use Rattle.std.specs.Prelude.{ℕ, ◌+◌, ◌-◌, Bool, ◌&&◌, List, [], ◌∷◌, length, take, drop}
+use Rattle.std.specs.Prelude.{ℕ, ◌+◌, ◌-◌, Bool, ◌&&◌, List, [], ◌∷◌, length, take, drop, if◌then◌else◌}
 use Rattle.std.proofs.Math.Option.{Option, none, some}
 use Rattle.std.proofs.Math.ListN.{get_elem?}
-use Rattle.rules.specs.Basic.{Bytes, if◌then◌else◌, ◌≤?◌}
+use Rattle.rules.specs.Basic.{Bytes, ◌≤?◌}
 use Rattle.rules.specs.Limits.{Limits, output_room, text_room, formula_text_room, stored_room, scratch_room, entry_room}
 use Rattle.rules.specs.Refusal.{Refusal, Outcome, good, refused, refuse, ◌>>=◌, mapped, outgrows}
 use Rattle.rules.specs.Name.{encode_names}

@@ -1,9 +1,9 @@
 -- Reading the three forms: one reading from the left that stops at the first fault (01, "Refusal numbers", "Order").
 -- A reader is at a position of the input, with a count of what it has met so far and the bytes that are left.
 -- Assumes nothing: these are definitions.
-use Rattle.std.specs.Prelude.{ℕ, zero, suc, ◌+◌, ◌-◌, ◌*◌, Bool, List, [], ◌∷◌, length}
+use Rattle.std.specs.Prelude.{ℕ, zero, suc, ◌+◌, ◌-◌, ◌*◌, Bool, List, [], ◌∷◌, length, if◌then◌else◌}
 use Rattle.std.proofs.Math.Option.{Option, none, some}
-use Rattle.rules.specs.Basic.{Bytes, if◌then◌else◌, ◌<?◌, ◌≤?◌, between}
+use Rattle.rules.specs.Basic.{Bytes, ◌<?◌, ◌≤?◌, between}
 use Rattle.rules.specs.Limits.{Limits}
 use Rattle.rules.specs.Refusal.{Outcome, good, refuse}
 use Rattle.rules.specs.Name.{Name, leads, follows, name_most, Spelling, name_spelling}

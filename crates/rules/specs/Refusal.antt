@@ -1,7 +1,7 @@
 -- Refusals: a number, a place and which input (01, "Refusal numbers"); and what a call that may be refused comes to.
 -- Assumes nothing: these are definitions.
-use Rattle.std.specs.Prelude.{ℕ, Bool, ◌||◌}
-use Rattle.rules.specs.Basic.{◌≤?◌, ◌==◌}
+use Rattle.std.specs.Prelude.{ℕ, Bool, ◌||◌, ◌==◌}
+use Rattle.rules.specs.Basic.{◌≤?◌}
 pub use Rattle.rules.specs.declared.Refusal.{Refusal}
 use Rattle.rules.specs.declared.Answer.{Answer}
 use Rattle.rules.specs.declared.Answer.TheVariants.{Good, Refused}

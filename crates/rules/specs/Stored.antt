@@ -1,7 +1,7 @@
 -- The stored form: blocks of 512 bytes (01, "Stored form", refusals 10 to 13).
 -- Assumes nothing: these are definitions.
-use Rattle.std.specs.Prelude.{ℕ, zero, suc, ◌+◌, ◌-◌, ◌*◌, ◌/◌, ◌%◌, Bool, true, not, ◌&&◌, ◌||◌, [], ◌∷◌, length, take, drop, get_or, replicate}
-use Rattle.rules.specs.Basic.{Bytes, if◌then◌else◌, ◌<?◌, ◌==◌, between, ◌‥◌, low-high}
+use Rattle.std.specs.Prelude.{ℕ, zero, suc, ◌+◌, ◌-◌, ◌*◌, ◌/◌, ◌%◌, Bool, true, not, ◌&&◌, ◌||◌, [], ◌∷◌, length, take, drop, get_or, replicate, if◌then◌else◌, ◌==◌}
+use Rattle.rules.specs.Basic.{Bytes, ◌<?◌, between, ◌‥◌, low-high}
 use Rattle.rules.specs.Limits.{Limits, block_bytes, block_content, block_count_for, stored_room}
 use Rattle.rules.specs.Refusal.{Outcome, good, refuse, ◌>>=◌, mapped}
 use Rattle.rules.specs.Reading.{read_term, read_proof}

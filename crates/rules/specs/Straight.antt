@@ -1,8 +1,8 @@
 -- Straight terms (demand 3): no case, fst, snd, discard or copy, and each name at a binder stands at that one place only
 -- and is used as a variable exactly once, inside what it covers.
 -- Assumes nothing: these are definitions.
-use Rattle.std.specs.Prelude.{ℕ, ◌+◌, ◌≡◌, Bool, true, false, ◌&&◌, List, [], ◌∷◌, map}
-use Rattle.rules.specs.Basic.{if◌then◌else◌, ◌==◌, ◌‥◌}
+use Rattle.std.specs.Prelude.{ℕ, ◌+◌, ◌≡◌, Bool, true, false, ◌&&◌, List, [], ◌∷◌, map, if◌then◌else◌, ◌==◌}
+use Rattle.rules.specs.Basic.{◌‥◌}
 use Rattle.rules.specs.Name.{Name, same}
 use Rattle.rules.specs.Term.{Term, var, leaf, one, two, abs, both, branch, One, inl, inr, fst, snd, abort, promote, derelict, Two, pair, app, discard, Both, let_a_pair, copy}
 

@@ -1,9 +1,9 @@
 -- A step's result is legal and is read again; a term is normal exactly where step finds nothing. By cases on what was read. Assumes nothing.
-use Rattle.std.specs.Prelude.{ℕ, ◌-◌, Bool, length, replicate}
+use Rattle.std.specs.Prelude.{ℕ, ◌-◌, Bool, length, replicate, if◌then◌else◌}
 use Rattle.std.proofs.Math.Path.{◌≡◌, refl}
 use Rattle.std.proofs.Math.Bool.{true, false}
 use Rattle.std.proofs.Common.{arith}
-use Rattle.rules.specs.Basic.{Bytes, if◌then◌else◌, ◌‥◌}
+use Rattle.rules.specs.Basic.{Bytes, ◌‥◌}
 use Rattle.rules.specs.Limits.{Limits}
 use Rattle.rules.specs.Refusal.{Outcome, good, refused, refuse, outgrows}
 use Rattle.rules.specs.Legal.{Legal}

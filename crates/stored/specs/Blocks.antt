@@ -1,13 +1,13 @@
 -- Laws of blocks as they are written: how much of one is used, and what writes one after the other leave. Assumes nothing.
 use Prim.Native.Nat.{ℕ, zero, suc, ◌+◌, ◌-◌, ◌*◌, ◌/◌, ◌%◌, ◌≤◌, ◌<◌}
-use Rattle.std.specs.Prelude.{◌≡◌, refl, Bool, true, false, [], ◌∷◌, ◌++◌, ltb, length, set, take, drop, replicate}
+use Rattle.std.specs.Prelude.{◌≡◌, refl, Bool, true, false, [], ◌∷◌, ◌++◌, ltb, length, set, take, drop, replicate, if◌then◌else◌}
 use Rattle.std.proofs.Math.Path.{sym, ap}
 use Rattle.std.proofs.Common.{◌∙◌, append_assoc, append-nil, add-one, length-append, length-take, length-drop, drop_of_length-le, drop-drop, take_all, take_at, drop_at, take-add, length-take-le, ltb-true, ltb-false}
 use native.Mathlib.Omega.{arith}
 use Rattle.std.proofs.lemmas.List.{length-replicate, replicate-append-replicate}
 use Rattle.std.proofs.Math.Seq.{sets, length-sets, slice}
 use Rattle.std.proofs.lemmas.List.Edits.{sets-eq}
-use Rattle.rules.specs.Basic.{Bytes, if◌then◌else◌, low-high}
+use Rattle.rules.specs.Basic.{Bytes, low-high}
 use Rattle.rules.specs.Limits.{block_bytes, block_content, block_count_for}
 use Rattle.rules.specs.declared.Kind.{Kind}
 use Rattle.rules.specs.Stored.{kind_byte, used_bytes_in, padded, all_zero, check, block_body, block, blocks, stored}

@@ -1,8 +1,8 @@
 -- What an opened block must be: its check, its head, its zeros, its content. And what opened blocks are made of. Over any limits. Assumes nothing.
-use Rattle.std.specs.Prelude.{ℕ, suc, ◌+◌, ◌/◌, ◌≡◌, refl, Bool, true, false, not, [], ◌++◌, eqb, length, take, drop}
+use Rattle.std.specs.Prelude.{ℕ, suc, ◌+◌, ◌/◌, ◌≡◌, refl, Bool, true, false, not, [], ◌++◌, eqb, length, take, drop, if◌then◌else◌}
 use Rattle.std.proofs.Common.{sym, ap, ◌∙◌, arith, length-drop, length-take-le, eqb-true}
 use Rattle.std.proofs.lemmas.Bool.{not-false}
-use Rattle.rules.specs.Basic.{Bytes, if◌then◌else◌}
+use Rattle.rules.specs.Basic.{Bytes}
 use Rattle.rules.specs.Limits.{Limits, block_bytes}
 use Rattle.rules.specs.Refusal.{Outcome, good, refused, ◌>>=◌}
 use Rattle.rules.specs.declared.Refusal.{Refusal}

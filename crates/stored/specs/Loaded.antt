@@ -1,13 +1,13 @@
 -- A file that loads is the stored form of its content: each opened block is the block that storing writes. Over any limits. Assumes nothing.
 use Prim.Native.Nat.{ℕ, zero, suc, ◌+◌, ◌-◌, ◌*◌, ◌/◌, ◌%◌, ◌<◌}
-use Rattle.std.specs.Prelude.{◌≡◌, Bool, true, false, [], ◌∷◌, ◌++◌, ltb, replicate}
+use Rattle.std.specs.Prelude.{◌≡◌, Bool, true, false, [], ◌∷◌, ◌++◌, ltb, replicate, if◌then◌else◌}
 use Rattle.std.proofs.Math.Path.{refl, sym, ap}
 use Rattle.std.proofs.Common.{◌∙◌, zero-add, length-append, length-drop, take-append-drop, drop-cons, drop-drop, take-take, drop_at, get_or-take, length-take-le, ltb-true, ltb-false}
 use Rattle.std.proofs.Math.Nat.{sub-zero}
 use native.Mathlib.Omega.{arith}
 use Rattle.std.proofs.Math.ListN.{length, get_or, take, drop, drop_of_length-le}
 use Rattle.std.proofs.Math.Seq.{take_at, get_or-drop}
-use Rattle.rules.specs.Basic.{Bytes, if◌then◌else◌, low-high}
+use Rattle.rules.specs.Basic.{Bytes, low-high}
 use Rattle.rules.specs.Limits.{Limits, block_bytes, block_content, block_count_for}
 use Rattle.rules.specs.Refusal.{good}
 use Rattle.rules.specs.declared.Kind.{Kind}

@@ -1,9 +1,9 @@
 -- What store and load come to: each way of ending, from the tests that lead there. Over any limits. Assumes nothing.
-use Rattle.std.specs.Prelude.{ℕ, zero, suc, ◌/◌, ◌%◌, ◌≤◌, ◌<◌, ◌≡◌, refl, Bool, true, false, not, ◌||◌, ltb, eqb, length}
+use Rattle.std.specs.Prelude.{ℕ, zero, suc, ◌/◌, ◌%◌, ◌≤◌, ◌<◌, ◌≡◌, refl, Bool, true, false, not, ◌||◌, ltb, eqb, length, if◌then◌else◌, ◌==◌}
 use Rattle.std.proofs.Common.{sym, ap, ◌∙◌, arith, le-leb, le-ltb, eq-eqb, ne_eqb, ltb-false, eqb-true}
 use Rattle.std.proofs.Math.Option.{some}
 use Rattle.std.proofs.lemmas.Bool.{lt-leb, eqb-false, not-false}
-use Rattle.rules.specs.Basic.{Bytes, if◌then◌else◌, ◌==◌, ◌<?◌}
+use Rattle.rules.specs.Basic.{Bytes, ◌<?◌}
 use Rattle.rules.specs.Limits.{Limits, block_bytes, output_room, stored_room}
 use Rattle.rules.specs.Refusal.{Outcome, good, refused, mapped, answered}
 use Rattle.rules.specs.declared.Refusal.{Refusal}

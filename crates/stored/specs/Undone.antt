@@ -1,12 +1,12 @@
 -- Loading undoes storing: each block of a stored form opens as its part of the content, and the parts make up the content. Over any limits. Assumes nothing.
 use Prim.Native.Nat.{ℕ, zero, suc, ◌+◌, ◌-◌, ◌*◌, ◌/◌, ◌%◌, ◌≤◌, ◌<◌}
-use Rattle.std.specs.Prelude.{◌≡◌, refl, Bool, true, false, [], ◌∷◌, ◌++◌, length, get_or, take, replicate, ltb}
+use Rattle.std.specs.Prelude.{◌≡◌, refl, Bool, true, false, [], ◌∷◌, ◌++◌, length, get_or, take, replicate, ltb, if◌then◌else◌}
 use Rattle.std.proofs.Common.{sym, ◌∙◌, append_assoc, add-zero, zero-add, length-append, length-drop, drop_of_length-le, take-append-drop, take_at, drop_at, get_or-append-add, drop-drop, length-take-le}
 use Rattle.std.proofs.Math.Path.{ap}
 use native.Mathlib.Omega.{arith}
 use Rattle.std.proofs.Math.ListN.{drop}
 use Rattle.std.proofs.Math.Seq.{take-append_seam, drop-append-add}
-use Rattle.rules.specs.Basic.{Bytes, if◌then◌else◌, low-high}
+use Rattle.rules.specs.Basic.{Bytes, low-high}
 use Rattle.rules.specs.Limits.{Limits, block_bytes, block_content, block_count_for, output_room, stored_room}
 use Rattle.rules.specs.Refusal.{Outcome, good, refused, mapped}
 use Rattle.rules.specs.Term.{terms}

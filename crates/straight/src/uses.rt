@@ -1,6 +1,5 @@
 // How often a name is used as a variable of a term and stands at a binder of it.
-ghost use Rattle.std.specs.Prelude.{◌≡◌, List};
-ghost use Rattle.rules.specs.Basic.{if◌then◌else◌};
+ghost use Rattle.std.specs.Prelude.{◌≡◌, List, if◌then◌else◌};
 ghost use Rattle.rules.specs.Name.{Name, same as same_name};
 ghost use Rattle.rules.specs.Term.{Term};
 ghost use Rattle.term.specs.Place.{TermAt, NameAt, NamesAt};

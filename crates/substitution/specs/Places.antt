@@ -1,6 +1,6 @@
 -- The places where a name is free in a term, and the row that has room for them. Assumes nothing: these are definitions.
-use Rattle.std.specs.Prelude.{ℕ, ◌+◌, ◌/◌, ◌≤◌, ◌≡◌, ◌||◌, List, [], ◌∷◌, length, take}
-use Rattle.rules.specs.Basic.{Bytes, if◌then◌else◌, ◌‥◌}
+use Rattle.std.specs.Prelude.{ℕ, ◌+◌, ◌/◌, ◌≤◌, ◌≡◌, ◌||◌, List, [], ◌∷◌, length, take, if◌then◌else◌}
+use Rattle.rules.specs.Basic.{Bytes, ◌‥◌}
 use Rattle.rules.specs.Limits.{limits}
 use Rattle.rules.specs.Name.{Name, same}
 use Rattle.rules.specs.Term.{Term, var, leaf, one, two, abs, both, branch, size}

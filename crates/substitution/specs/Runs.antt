@@ -1,8 +1,8 @@
 -- The runs of a term's bytes that a substitution moves, and the parts of the term (02, request (x): "move a part that has no free occurrence of
 -- the name as one run of bytes"). Assumes nothing: these are definitions.
-use Rattle.std.specs.Prelude.{ℕ, ◌+◌, ◌/◌, ◌≤◌, ◌≡◌, Bool, false, ◌||◌, List, [], ◌∷◌, length}
+use Rattle.std.specs.Prelude.{ℕ, ◌+◌, ◌/◌, ◌≤◌, ◌≡◌, Bool, false, ◌||◌, List, [], ◌∷◌, length, if◌then◌else◌}
 use Rattle.std.proofs.Math.Seq.{slice}
-use Rattle.rules.specs.Basic.{Bytes, ◌‥◌, if◌then◌else◌}
+use Rattle.rules.specs.Basic.{Bytes, ◌‥◌}
 use Rattle.rules.specs.Name.{Name}
 use Rattle.rules.specs.Term.{Term, encode, size, parts}
 use Rattle.rules.specs.Free.{occurrences}

@@ -1,6 +1,5 @@
 // What the binders of a node cover, as a mask of the node's parts: 1 for the first, 2 for the second, 4 for the third.
-ghost use Rattle.std.specs.Prelude.{◌≡◌, ◌||◌, ◌+◌};
-ghost use Rattle.rules.specs.Basic.{if◌then◌else◌, ◌==◌};
+ghost use Rattle.std.specs.Prelude.{◌≡◌, ◌||◌, ◌+◌, if◌then◌else◌, ◌==◌};
 
 // Abs.
 const ABS_BODY: usize = 1;

@@ -8,7 +8,8 @@ use native.Mathlib.Omega.{arith}
 use lib.ListN.{length, get_or, take, drop, length-append, take-append-drop}
 use lib.Seq.{slice, slice_empty, length-take-le}
 use borrow.Author.Tests.{eqb-true}
-use Rattle.rules.specs.Basic.{Bytes, ◌==◌}
+use Rattle.std.specs.Prelude.{◌==◌}
+use Rattle.rules.specs.Basic.{Bytes}
 use Rattle.rules.specs.Name.{Name}
 use Rattle.rules.specs.Term.{Term, encode, nodes, size}
 use Rattle.rules.specs.Free.{occurrences}

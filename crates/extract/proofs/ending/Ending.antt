@@ -7,7 +7,8 @@ use mathlib.Core.List.{List, []}
 use native.Mathlib.Omega.{arith}
 use lib.ListN.{length, replicate, length-replicate}
 use borrow.Author.Tests.{lt-leb}
-use Rattle.rules.specs.Basic.{Bytes, if◌then◌else◌, ◌≤?◌}
+use Rattle.std.specs.Prelude.{if◌then◌else◌}
+use Rattle.rules.specs.Basic.{Bytes, ◌≤?◌}
 use Rattle.rules.specs.Limits.{limits, entry_room, most_counter}
 use Rattle.rules.specs.Proof.{Proof, rules}
 use Rattle.rules.specs.Reading.{read_proof}

@@ -10,7 +10,8 @@ use lib.Dec.{ltb, eqb}
 use lib.ListN.{length, get_or, take, drop, drop_of_length-le}
 use lib.Seq.{drop-cons}
 use borrow.Author.Tests.{lt-ltb, le-ltb, eq-eqb, ne_eqb, ltb-true, ltb-false}
-use Rattle.rules.specs.Basic.{Bytes, if◌then◌else◌, ◌<?◌}
+use Rattle.std.specs.Prelude.{if◌then◌else◌}
+use Rattle.rules.specs.Basic.{Bytes, ◌<?◌}
 use Rattle.rules.specs.Name.{Name, same, before}
 use Rattle.term.specs.Place.{NameAt}
 use Rattle.term.proofs.node.Names.{name-part}

@@ -1,9 +1,9 @@
 -- Which names are free after a substitution, as membership in the list of free names: from how often they are.
 -- Assumes nothing.
-use Rattle.std.specs.Prelude.{ℕ, zero, suc, ◌*◌, ◌≡◌, refl, Bool, true, false, ◌&&◌, ◌||◌, not}
+use Rattle.std.specs.Prelude.{ℕ, zero, suc, ◌*◌, ◌≡◌, refl, Bool, true, false, ◌&&◌, ◌||◌, not, if◌then◌else◌}
 use Rattle.std.proofs.Common.{sym, ap, ap₂, ◌∙◌, zero-mul, mul-zero, arith, lt-ltb, ltb-true}
 use Rattle.std.proofs.Math.Bool.{and-false}
-use Rattle.rules.specs.Basic.{if◌then◌else◌, ◌<?◌}
+use Rattle.rules.specs.Basic.{◌<?◌}
 use Rattle.rules.specs.Name.{Name, same, among}
 use Rattle.rules.specs.Term.{Term}
 use Rattle.rules.specs.Free.{free, occurrences}

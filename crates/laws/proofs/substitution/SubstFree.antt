@@ -1,8 +1,7 @@
 -- How often a name is free after a substitution: what is put in counts at the places that no binder of the name covers.
 -- Assumes nothing.
 use Prim.Native.Nat.{◌+◌, ◌*◌}
-use Rattle.std.specs.Prelude.{◌≡◌}
-use Rattle.rules.specs.Basic.{if◌then◌else◌}
+use Rattle.std.specs.Prelude.{◌≡◌, if◌then◌else◌}
 use Rattle.rules.specs.Name.{Name, same}
 use Rattle.rules.specs.Term.{Term}
 use Rattle.rules.specs.Free.{occurrences}

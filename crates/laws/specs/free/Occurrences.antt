@@ -1,12 +1,12 @@
 -- The names that occur free are those of the list `free`: by induction on the term, over which names insert, union and without leave.
 -- Assumes nothing.
 use Prim.Native.Nat.{ℕ, zero, suc, ◌+◌}
-use Rattle.std.specs.Prelude.{◌≡◌, Bool, ◌&&◌, ◌||◌, not}
+use Rattle.std.specs.Prelude.{◌≡◌, Bool, ◌&&◌, ◌||◌, not, if◌then◌else◌}
 use Rattle.std.proofs.Math.Path.{refl, sym, ap}
 use Rattle.std.proofs.Common.{ap₂, ◌∙◌, zero-add, arith, lt-ltb}
 use Rattle.std.proofs.Math.Bool.{true, false, or_assoc, or-true, or-false, or_self_left, and-false}
 use mathlib.Core.List.{List, [], ◌∷◌}
-use Rattle.rules.specs.Basic.{if◌then◌else◌, ◌<?◌}
+use Rattle.rules.specs.Basic.{◌<?◌}
 use Rattle.rules.specs.Name.{Name, same, among, before}
 use Rattle.rules.specs.Term.{Term, var, leaf, one, two, abs, both, branch}
 use Rattle.rules.specs.Free.{insert, union, without, free, occurrences}

@@ -1,13 +1,13 @@
 -- What is accepted, of terms, formulas and bare names: the encodings of legal ones within the limits, each as what it encodes, and nothing else.
 -- Assumes nothing.
-use Rattle.std.specs.Prelude.{ℕ, ◌+◌, ◌≤◌, Bool, ◌&&◌}
+use Rattle.std.specs.Prelude.{ℕ, ◌+◌, ◌≤◌, Bool, ◌&&◌, if◌then◌else◌}
 use Rattle.std.proofs.Math.Path.{◌≡◌, refl, sym}
 use Rattle.std.proofs.Common.{ap, ◌∙◌, arith}
 use Rattle.std.proofs.Math.Bool.{true, false}
 use mathlib.Core.List.{[], ◌∷◌, ◌++◌, append-nil}
 use Rattle.std.proofs.Math.ListN.{length}
 use borrow.Author.Tests.{ltb-false, leb-true, le-ltb, le-leb}
-use Rattle.rules.specs.Basic.{Bytes, if◌then◌else◌, ◌‥◌, ◌<?◌, ◌≤?◌}
+use Rattle.rules.specs.Basic.{Bytes, ◌‥◌, ◌<?◌, ◌≤?◌}
 use Rattle.rules.specs.Limits.{Limits}
 use Rattle.rules.specs.Refusal.{good, refuse}
 use Rattle.rules.specs.Name.{Name, name_most, name_spelling}

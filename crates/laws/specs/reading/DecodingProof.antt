@@ -1,6 +1,6 @@
 -- What is accepted, of proofs: the encodings of legal ones within the limits, each as what it encodes, and nothing else.
 -- Assumes nothing.
-use Rattle.std.specs.Prelude.{ℕ, ◌+◌, ◌≤◌, Bool}
+use Rattle.std.specs.Prelude.{ℕ, ◌+◌, ◌≤◌, Bool, if◌then◌else◌}
 use native.Mathlib.Omega.{arith}
 use Rattle.std.proofs.Math.Path.{◌≡◌, refl, sym}
 use Rattle.std.proofs.Common.{ap, ◌∙◌}
@@ -8,7 +8,7 @@ use Rattle.std.proofs.Math.Bool.{true, false}
 use mathlib.Core.List.{[], ◌++◌, append-nil}
 use Rattle.std.proofs.Math.ListN.{length}
 use borrow.Author.Tests.{ltb-false, le-ltb}
-use Rattle.rules.specs.Basic.{Bytes, if◌then◌else◌, ◌<?◌, ◌‥◌}
+use Rattle.rules.specs.Basic.{Bytes, ◌<?◌, ◌‥◌}
 use Rattle.rules.specs.Limits.{Limits}
 use Rattle.rules.specs.Refusal.{good, refuse}
 use Rattle.rules.specs.Proof.{Proof, encode_proof, rules, proof_formula_nodes}

@@ -1,8 +1,8 @@
 -- The list of free names is no longer than the term: by induction on it, over what insert, union and without do to the length.
 -- Assumes nothing.
-use Rattle.std.specs.Prelude.{ℕ, ◌+◌, ◌≤◌, Bool, true, false, List, [], ◌∷◌, length}
+use Rattle.std.specs.Prelude.{ℕ, ◌+◌, ◌≤◌, Bool, true, false, List, [], ◌∷◌, length, if◌then◌else◌}
 use Rattle.std.proofs.Common.{ap, arith, length-append}
-use Rattle.rules.specs.Basic.{Bytes, if◌then◌else◌}
+use Rattle.rules.specs.Basic.{Bytes}
 use Rattle.rules.specs.Limits.{Limits, output_room}
 use Rattle.rules.specs.Name.{Name, same, before, encode_name, encode_names}
 use Rattle.rules.specs.Term.{Term, var, leaf, one, two, abs, both, branch, encode}

@@ -1,13 +1,13 @@
 -- How long a term is, and how many nodes it has, after a substitution: each free occurrence of the name becomes the value.
 -- By induction on the term; the bytes and the nodes are two cases of one law.
 -- Assumes nothing.
-use Rattle.std.specs.Prelude.{ℕ, ◌+◌, ◌*◌, ◌≤◌, ◌≡◌, ◌||◌}
+use Rattle.std.specs.Prelude.{ℕ, ◌+◌, ◌*◌, ◌≤◌, ◌≡◌, ◌||◌, if◌then◌else◌}
 use Rattle.std.proofs.Math.Path.{refl}
 use Rattle.std.proofs.Math.Bool.{Bool, true, false}
 use native.Mathlib.Omega.{arith}
 use Rattle.std.proofs.Math.ListN.{length}
 use Rattle.std.proofs.Common.{length-append}
-use Rattle.rules.specs.Basic.{Bytes, if◌then◌else◌, ◌‥◌}
+use Rattle.rules.specs.Basic.{Bytes, ◌‥◌}
 use Rattle.rules.specs.Name.{Name, same, encode_name}
 use Rattle.rules.specs.Term.{Term, var, leaf, one, two, abs, both, branch, One, Two, Both, encode, nodes}
 use Rattle.rules.specs.Free.{occurrences}

@@ -1,8 +1,7 @@
 -- The test `straight` decides `Straight`: each part of it decides its part.
 -- Assumes nothing.
-use Rattle.std.specs.Prelude.{◌≡◌, refl, Bool, true, ◌&&◌, ◌↔◌, List, [], ◌∷◌}
+use Rattle.std.specs.Prelude.{◌≡◌, refl, Bool, true, ◌&&◌, ◌↔◌, List, [], ◌∷◌, ◌==◌}
 use Rattle.std.proofs.Common.{ap₂, eqb-true, eq-eqb}
-use Rattle.rules.specs.Basic.{◌==◌}
 use Rattle.rules.specs.Term.{Term}
 use Rattle.rules.specs.Straight.{Binder, binders, stands, uses, plain, Each, Once, Straight, every, once, straight}
 use Rattle.laws.specs.free.Same.{both_true}

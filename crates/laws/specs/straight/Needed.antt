@@ -1,7 +1,7 @@
 -- Each condition of `Straight` is needed: for each a smallest term that lacks it alone and breaks a promise. antt computes the table.
 -- Assumes nothing.
-use Rattle.std.specs.Prelude.{ℕ, ◌+◌, ◌-◌, ◌*◌, ◌≡◌, refl, Bool, true, false, ◌||◌, List, [], ◌∷◌, map}
-use Rattle.rules.specs.Basic.{◌==◌, ◌<?◌, ◌‥◌, say}
+use Rattle.std.specs.Prelude.{ℕ, ◌+◌, ◌-◌, ◌*◌, ◌≡◌, refl, Bool, true, false, ◌||◌, List, [], ◌∷◌, map, ◌==◌}
+use Rattle.rules.specs.Basic.{◌<?◌, ◌‥◌, say}
 use Rattle.rules.specs.Limits.{limits}
 use Rattle.rules.specs.Name.{Name}
 use Rattle.rules.specs.Term.{Term, var, leaf, one, two, abs, both, branch, unit, inl, fst, snd, abort, promote, derelict, pair, app, discard, let_a_pair, copy, nodes, encode, fits}

@@ -1,8 +1,8 @@
 -- A substitution that is not refused: what it read, and that what it gives is read as the term that it made. By the order of its readings.
 -- Assumes nothing.
-use Rattle.std.specs.Prelude.{ℕ, ◌≡◌, refl, Bool, true, false}
+use Rattle.std.specs.Prelude.{ℕ, ◌≡◌, refl, Bool, true, false, if◌then◌else◌}
 use Rattle.std.proofs.Common.{sym, arith}
-use Rattle.rules.specs.Basic.{Bytes, if◌then◌else◌}
+use Rattle.rules.specs.Basic.{Bytes}
 use Rattle.rules.specs.Limits.{Limits}
 use Rattle.rules.specs.Refusal.{good, refuse, outgrows}
 use Rattle.rules.specs.Name.{Name}

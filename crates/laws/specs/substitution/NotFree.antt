@@ -1,8 +1,8 @@
 -- A name that is not free in a term's bytes, as a condition and as the test that decides it, and a substitution that changes nothing (request (viii)).
 -- Assumes nothing.
-use Rattle.std.specs.Prelude.{◌≡◌, refl, Bool, true, ◌↔◌}
+use Rattle.std.specs.Prelude.{◌≡◌, refl, Bool, true, ◌↔◌, ◌==◌}
 use Rattle.std.proofs.Common.{eqb-true, eq-eqb}
-use Rattle.rules.specs.Basic.{Bytes, ◌==◌}
+use Rattle.rules.specs.Basic.{Bytes}
 use Rattle.rules.specs.Limits.{Limits}
 use Rattle.rules.specs.Refusal.{Outcome, good, refused, ◌>>=◌}
 use Rattle.rules.specs.Name.{Name}

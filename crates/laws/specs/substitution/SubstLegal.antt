@@ -1,7 +1,6 @@
 -- A substitution of a legal term in a legal term gives a legal term: by induction on it.
 -- Assumes nothing.
-use Rattle.std.specs.Prelude.{Bool, true, false, ◌||◌}
-use Rattle.rules.specs.Basic.{if◌then◌else◌}
+use Rattle.std.specs.Prelude.{Bool, true, false, ◌||◌, if◌then◌else◌}
 use Rattle.rules.specs.Name.{Name, same}
 use Rattle.rules.specs.Legal.{Legal}
 use Rattle.rules.specs.Term.{Term, var, leaf, one, two, abs, both, branch}

@@ -1,10 +1,9 @@
 -- How many places of a name a substitution reaches without its value being caught: no more than there are, and all of them where the name is not bound.
 -- By induction on the term.
 -- Assumes nothing.
-use Rattle.std.specs.Prelude.{ℕ, ◌≤◌, ◌≡◌, Bool, true, false, ◌||◌}
+use Rattle.std.specs.Prelude.{ℕ, ◌≤◌, ◌≡◌, Bool, true, false, ◌||◌, if◌then◌else◌}
 use Rattle.std.proofs.Math.Path.{refl}
 use native.Mathlib.Omega.{arith}
-use Rattle.rules.specs.Basic.{if◌then◌else◌}
 use Rattle.rules.specs.Name.{Name, same}
 use Rattle.rules.specs.Term.{Term, var, leaf, one, two, abs, both, branch}
 use Rattle.rules.specs.Free.{occurrences}

@@ -4,7 +4,8 @@ use Prim.Native.String.{String}
 use mathlib.Core.Path.{◌≡◌, refl}
 use mathlib.Core.Bool.{Bool, false, ◌&&◌}
 use mathlib.Core.List.{List, [], ◌∷◌}
-use Rattle.rules.specs.Basic.{say, digits, ◌==◌}
+use Rattle.std.specs.Prelude.{◌==◌}
+use Rattle.rules.specs.Basic.{say, digits}
 use Rattle.rules.specs.Refusal.{Outcome, good, refused}
 use Rattle.rules.specs.Term.{Term, nodes, encode, fits}
 use Rattle.rules.specs.Proof.{Proof}

@@ -1,8 +1,8 @@
 -- Refusals and lent buffers, with something wrong or nothing.
 -- Assumes nothing: these are definitions.
-use Rattle.std.specs.Prelude.{ℕ, ◌-◌, suc, Bool, true, false, not, ◌&&◌, ◌||◌, List, length, replicate, take, drop}
+use Rattle.std.specs.Prelude.{ℕ, ◌-◌, suc, Bool, true, false, not, ◌&&◌, ◌||◌, List, length, replicate, take, drop, if◌then◌else◌, ◌==◌}
 use Rattle.std.proofs.Math.Option.{Option, none, some}
-use Rattle.rules.specs.Basic.{Bytes, if◌then◌else◌, between, ◌==◌, ◌‥◌}
+use Rattle.rules.specs.Basic.{Bytes, between, ◌‥◌}
 use Rattle.rules.specs.Refusal.{Outcome, good, refused, refuse, mapped}
 use Rattle.rules.specs.Term.{Term}
 use Rattle.rules.specs.Buffers.{Ending, writes_nothing, lent, filled, written, cleared, Wrote, Worked}

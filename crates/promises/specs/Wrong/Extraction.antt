@@ -1,7 +1,7 @@
 -- Extraction, with something wrong or nothing: which cut entry is found first, and when the names of a Cut on Plus are taken.
 -- Assumes nothing: these are definitions.
-use Rattle.std.specs.Prelude.{ℕ, Bool, true, false, List, [], ◌∷◌}
-use Rattle.rules.specs.Basic.{if◌then◌else◌, ◌‥◌, ◌<?◌}
+use Rattle.std.specs.Prelude.{ℕ, Bool, true, false, List, [], ◌∷◌, if◌then◌else◌}
+use Rattle.rules.specs.Basic.{◌‥◌, ◌<?◌}
 use Rattle.rules.specs.Limits.{limits, most_counter}
 use Rattle.rules.specs.Refusal.{Outcome, good, refuse, outgrows, counter_over}
 use Rattle.rules.specs.Name.{Name}

@@ -1,7 +1,7 @@
 -- Several values put in at once, with or without renaming. The contract's substitution puts in one, and never renames.
 -- Assumes nothing: these are definitions.
-use Rattle.std.specs.Prelude.{ℕ, zero, suc, Bool, true, false, ◌&&◌, List, [], ◌∷◌, length}
-use Rattle.rules.specs.Basic.{if◌then◌else◌, say, decimal, ◌‥◌}
+use Rattle.std.specs.Prelude.{ℕ, zero, suc, Bool, true, false, ◌&&◌, List, [], ◌∷◌, length, if◌then◌else◌}
+use Rattle.rules.specs.Basic.{say, decimal, ◌‥◌}
 use Rattle.rules.specs.Name.{Name, same, among}
 use Rattle.rules.specs.Term.{Term, var, leaf, one, two, abs, both, branch}
 use Rattle.rules.specs.Free.{without, free}

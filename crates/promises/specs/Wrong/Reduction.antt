@@ -1,8 +1,8 @@
 -- Bounded reduction, with something wrong or nothing: what is counted, which term follows a step, what 8 leaves.
 -- Assumes nothing: these are definitions.
-use Rattle.std.specs.Prelude.{ℕ, zero, suc, true, false, ◌&&◌}
+use Rattle.std.specs.Prelude.{ℕ, zero, suc, true, false, ◌&&◌, if◌then◌else◌}
 use Rattle.std.proofs.Math.Option.{none, some}
-use Rattle.rules.specs.Basic.{if◌then◌else◌, ◌<?◌}
+use Rattle.rules.specs.Basic.{◌<?◌}
 use Rattle.rules.specs.Limits.{limits}
 use Rattle.rules.specs.Refusal.{refuse, outgrows}
 use Rattle.rules.specs.Term.{Term, encode}

@@ -1,8 +1,7 @@
 -- One step, with something wrong or nothing: how values are put in, whether the half-way body is told, and which parts are entered.
 -- Assumes nothing: these are definitions.
-use Rattle.std.specs.Prelude.{◌+◌, Bool, true}
+use Rattle.std.specs.Prelude.{◌+◌, Bool, true, if◌then◌else◌}
 use Rattle.std.proofs.Math.Option.{none, some}
-use Rattle.rules.specs.Basic.{if◌then◌else◌}
 use Rattle.rules.specs.Name.{Name}
 use Rattle.rules.specs.Term.{Term, var, leaf, one, two, abs, both, branch, unit, One, inl, inr, fst, snd, abort, promote, derelict, pair, app, discard, Both, let_a_pair, copy, size}
 use Rattle.rules.specs.Substitution.{subst}

@@ -1,8 +1,8 @@
 -- Every public call, with something wrong or nothing.
 -- Assumes nothing: these are definitions.
-use Rattle.std.specs.Prelude.{ℕ, ◌&&◌, List, [], length}
+use Rattle.std.specs.Prelude.{ℕ, ◌&&◌, List, [], length, if◌then◌else◌}
 use Rattle.std.proofs.Math.Option.{Option, some}
-use Rattle.rules.specs.Basic.{Bytes, if◌then◌else◌, ◌≤?◌}
+use Rattle.rules.specs.Basic.{Bytes, ◌≤?◌}
 use Rattle.rules.specs.Limits.{limits, output_room, text_room, formula_text_room, stored_room, entry_room}
 use Rattle.rules.specs.Refusal.{Outcome, good, refused, ◌>>=◌, mapped}
 use Rattle.rules.specs.Name.{encode_names}

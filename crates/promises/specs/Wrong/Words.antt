@@ -1,7 +1,7 @@
 -- A version that takes the word `in` for a name reads another name there, `xn`.
 -- Assumes nothing: these are definitions.
-use Rattle.std.specs.Prelude.{Bool, true, false, ◌&&◌, [], ◌∷◌, take, drop}
-use Rattle.rules.specs.Basic.{Bytes, if◌then◌else◌, ◌==◌}
+use Rattle.std.specs.Prelude.{Bool, true, false, ◌&&◌, [], ◌∷◌, take, drop, if◌then◌else◌, ◌==◌}
+use Rattle.rules.specs.Basic.{Bytes}
 use Rattle.rules.specs.declared.Kind.{Kind}
 use Rattle.rules.specs.Stored.{stored, length_in}
 use Rattle.rules.specs.declared.Kind.TheVariants.{Term as a_term}

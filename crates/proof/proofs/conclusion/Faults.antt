@@ -7,7 +7,8 @@ use mathlib.Core.Bool.{Bool, true, false}
 use mathlib.Core.List.{[], ◌∷◌}
 use mathlib.Core.Option.{Option, none, some}
 use lib.ListN.{length, length-drop}
-use Rattle.rules.specs.Basic.{Bytes, if◌then◌else◌, ◌<?◌, ◌≤?◌, between}
+use Rattle.std.specs.Prelude.{if◌then◌else◌}
+use Rattle.rules.specs.Basic.{Bytes, ◌<?◌, ◌≤?◌, between}
 use Rattle.rules.specs.Name.{leads, follows, Spelling}
 use Rattle.rules.specs.Limits.{Limits}
 use Rattle.rules.specs.Layout.{Layout, head_by_tag}

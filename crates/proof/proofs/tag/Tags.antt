@@ -8,7 +8,8 @@ use mathlib.Core.List.{[], ◌∷◌}
 use mathlib.Core.Option.{Option, none, some}
 use lib.ListN.{length, get_or, drop}
 use borrow.Author.Tests.{lt-ltb, le-ltb, ltb-true}
-use Rattle.rules.specs.Basic.{Bytes, if◌then◌else◌, ◌<?◌, ◌==◌}
+use Rattle.std.specs.Prelude.{if◌then◌else◌, ◌==◌}
+use Rattle.rules.specs.Basic.{Bytes, ◌<?◌}
 use Rattle.rules.specs.Layout.{head_by_tag}
 use Rattle.rules.specs.Proof.{RuleHead, a_plain, a_cut, a_focus, rule_heads}
 use Rattle.rules.specs.Reading.{Got, got, bad, byte, listed, tag}

@@ -6,7 +6,8 @@ use mathlib.Core.Path.{◌≡◌, refl, sym, ap, ◌∙◌}
 use mathlib.Core.Bool.{Bool, true, false, ◌||◌}
 use lib.ListN.{length, get_or, drop}
 use borrow.Author.Tests.{lt-leb, ne_eqb}
-use Rattle.rules.specs.Basic.{Bytes, if◌then◌else◌, ◌==◌, between}
+use Rattle.std.specs.Prelude.{if◌then◌else◌, ◌==◌}
+use Rattle.rules.specs.Basic.{Bytes, between}
 use Rattle.rules.specs.Name.{leads, follows}
 use Rattle.rules.specs.Reading.{byte_for, many}
 use Rattle.reader.specs.declared.class.Read.TheVariants.{Whole}

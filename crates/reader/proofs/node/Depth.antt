@@ -7,7 +7,8 @@ use mathlib.Core.Bool.{Bool, true, false}
 use mathlib.Core.List.{[], ◌∷◌}
 use mathlib.Core.Option.{Option, none, some}
 use borrow.Author.Tests.{le-ltb}
-use Rattle.rules.specs.Basic.{Bytes, if◌then◌else◌, ◌<?◌}
+use Rattle.std.specs.Prelude.{if◌then◌else◌}
+use Rattle.rules.specs.Basic.{Bytes, ◌<?◌}
 use Rattle.rules.specs.Layout.{Layout, head_by_tag}
 use Rattle.rules.specs.Reading.{Got, got, bad, Reader, and_then, pure, times, byte, name, listed, tag, too_many, node}
 use Rattle.laws.specs.reading.Steady.{names-level, node-upward}

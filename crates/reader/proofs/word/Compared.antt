@@ -6,7 +6,8 @@ use mathlib.Core.List.{[], ◌∷◌}
 use native.Mathlib.Omega.{arith}
 use lib.ListN.{length, get_or, take, drop, length-map, length-take, length-drop}
 use borrow.Author.Tests.{eq-eqb, ne_eqb}
-use Rattle.rules.specs.Basic.{Bytes, ◌==◌}
+use Rattle.std.specs.Prelude.{◌==◌}
+use Rattle.rules.specs.Basic.{Bytes}
 use Rattle.rules.specs.Name.{Name, same, is_a_word, lower_of}
 use Rattle.reader.specs.Form.{Form, Term, Formula}
 use Rattle.reader.specs.Words.{spelling_of, byte_compared, compared}

@@ -7,7 +7,8 @@ use native.Mathlib.Omega.{arith}
 use lib.ListN.{length, take, drop, length-take, length-drop}
 use lib.Seq.{drop-drop}
 use borrow.Author.Tests.{eqb-false, ne_eqb}
-use Rattle.rules.specs.Basic.{Bytes, if◌then◌else◌, ◌==◌}
+use Rattle.std.specs.Prelude.{if◌then◌else◌, ◌==◌}
+use Rattle.rules.specs.Basic.{Bytes}
 use Rattle.rules.specs.Name.{Name, same, among, words, is_a_word}
 use Rattle.laws.specs.free.Same.{same-equal}
 use Rattle.reader.specs.Words.{InRow}

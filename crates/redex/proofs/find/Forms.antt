@@ -3,7 +3,7 @@ use Prim.Native.Nat.{ℕ}
 use mathlib.Core.Path.{◌≡◌, refl, ap}
 use mathlib.Core.Bool.{Bool, true, false}
 use native.Mathlib.Omega.{arith}
-use Rattle.rules.specs.Basic.{◌==◌}
+use Rattle.std.specs.Prelude.{◌==◌}
 use Rattle.rules.specs.Name.{Name}
 use Rattle.rules.specs.Term.{Term, var, leaf, one, two, abs, both, branch, inl, inr, fst, snd, abort, promote, derelict, pair, app, discard, let_a_pair, copy, one_tag}
 use Rattle.rules.specs.Step.{Contraction, applied, of_pair, of_one, of_promote, of_injection, contract}

@@ -5,7 +5,7 @@ use mathlib.Core.Bool.{Bool, true, false, ◌&&◌}
 use mathlib.Core.List.{List}
 use lib.ListN.{length, get_or, take, drop}
 use borrow.Author.Tests.{eq-eqb, ne_eqb}
-use Rattle.rules.specs.Basic.{◌==◌}
+use Rattle.std.specs.Prelude.{◌==◌}
 use Rattle.rules.specs.Name.{Name}
 use Rattle.rules.specs.Term.{Term}
 use Rattle.rules.specs.Straight.{◌over◌, stands, uses, once}

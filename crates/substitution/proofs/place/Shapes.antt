@@ -6,7 +6,8 @@ use mathlib.Core.Bool.{Bool, true, false, ◌||◌}
 use mathlib.Core.List.{List, [], ◌∷◌, ◌++◌, append-nil}
 use native.Mathlib.Omega.{arith}
 use lib.ListN.{length, length-append}
-use Rattle.rules.specs.Basic.{Bytes, if◌then◌else◌}
+use Rattle.std.specs.Prelude.{if◌then◌else◌}
+use Rattle.rules.specs.Basic.{Bytes}
 use Rattle.rules.specs.Name.{Name, same, encode_name, encode_names}
 use Rattle.rules.specs.Term.{Term, var, leaf, one, two, abs, both, branch, encode, size, parts}
 use Rattle.rules.specs.Substitution.{subst}

@@ -9,7 +9,8 @@ use native.Mathlib.Nat.{mul-le-mul_left}
 use native.Mathlib.Omega.{arith}
 use lib.ListN.{length, take}
 use borrow.Author.Tests.{lt-leb, leb-true, leb-false}
-use Rattle.rules.specs.Basic.{Bytes, ◌≤?◌, if◌then◌else◌}
+use Rattle.std.specs.Prelude.{if◌then◌else◌}
+use Rattle.rules.specs.Basic.{Bytes, ◌≤?◌}
 use Rattle.rules.specs.Limits.{limits, output_room}
 use Rattle.rules.specs.Name.{Name}
 use Rattle.rules.specs.Term.{Term, encode, nodes, size, fits}

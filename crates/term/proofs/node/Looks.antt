@@ -6,7 +6,7 @@ use mathlib.Core.Bool.{Bool, false, ◌||◌}
 use mathlib.Core.List.{List, [], ◌∷◌}
 use native.Mathlib.Omega.{arith}
 use lib.ListN.{length, get_or, length-append}
-use Rattle.rules.specs.Basic.{if◌then◌else◌, ◌==◌}
+use Rattle.std.specs.Prelude.{if◌then◌else◌, ◌==◌}
 use Rattle.rules.specs.Name.{Name, same, encode_name, encode_names}
 use Rattle.rules.specs.Term.{Term, var, leaf, one, two, abs, both, branch, parts}
 use Rattle.term.specs.Node.{names, head, is_var, hides, names_after, parts_after}

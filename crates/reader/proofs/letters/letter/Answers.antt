@@ -1,7 +1,8 @@
 -- `letter` meets its contract: a byte may follow where it is in one of the ranges. Assumes nothing.
 use Prim.Native.Nat.{ℕ}
 use mathlib.Core.Path.{sym, ap, ◌∙◌}
-use Rattle.rules.specs.Basic.{if◌then◌else◌, ◌==◌, between}
+use Rattle.std.specs.Prelude.{if◌then◌else◌, ◌==◌}
+use Rattle.rules.specs.Basic.{between}
 use Rattle.reader.proofs.letters.Counts.{by-ranges}
 use Rattle.reader.proofs.letters.letter.Goals as goal
 
