@@ -16,10 +16,6 @@ WARN := -Iinclude -Wall -Wextra -Wpedantic -Werror
 SHARED := $(shell df -Pk /dev/shm 2>/dev/null | awk 'NR == 2 && $$4 > 4000000 { print "/dev/shm" }')
 export TMPDIR ?= $(if $(SHARED),$(SHARED),/tmp)
 
-# AddressSanitizer's library has been made on aarch64 alone, so elsewhere the gate soaks the plain one.
-ON_AARCH64 := $(filter aarch64,$(shell uname -m))
-SOAK := $(if $(ON_AARCH64),soak,plain_soak)
-
 .PHONY: test hosted beside ported replayed linked library program run try bench soak plain_soak stack cases vectors
 
 # rt ci proves every crate, tries every edit and runs every program. Its last line, the verdict, is kept back until the runs over the static
@@ -27,11 +23,11 @@ SOAK := $(if $(ON_AARCH64),soak,plain_soak)
 # What needs nothing of rt runs beside it, where rt leaves a processor idle.
 test:
 	@mkdir -p $(dir $(VERDICT))
-	@rm -f $(LIBRARY)
 	@nice -n 19 $(MAKE) --no-print-directory beside >$(BESIDE) 2>&1 & beside=$$!; \
 	    rt ci 2>&1 | tee $(VERDICT) | sed -u '$$d' || { wait $$beside; tail -n 1 $(VERDICT); exit 1; }; \
 	    wait $$beside || { cat $(BESIDE); exit 1; }; cat $(BESIDE)
 	@! grep -E '^rt: ok.*, [0-9]+ bad' $(VERDICT)
+	@rm -f $(LIBRARY)
 	@$(MAKE) --no-print-directory ported
 	@tail -n 1 $(VERDICT)
 
@@ -48,7 +44,7 @@ beside:
 
 # rt checks the entry points to make the library, on one processor; what needs no library runs beside it.
 ported: program
-	@$(MAKE) --no-print-directory --jobs=2 --output-sync $(if $(ON_AARCH64),$(SANITIZED),library) replayed
+	@$(MAKE) --no-print-directory --jobs=2 --output-sync $(SANITIZED) replayed
 	@$(MAKE) --no-print-directory linked
 
 replayed:
@@ -61,12 +57,12 @@ linked: library
 	@cargo run $(CARGO) -p patch --example reduce | diff host/target/example.c.out -
 	@cargo test $(CARGO) -p patch -p write
 	@cargo run $(CARGO) -p differential
-	@$(MAKE) --no-print-directory $(SOAK) CASES=1000000 SECONDS=60
+	@$(MAKE) --no-print-directory soak CASES=1000000 SECONDS=60
 	@cargo run $(CARGO) -p differential -- stack
 
 library: $(LIBRARY)
 
-$(LIBRARY): host/library.sh crates.txt $(shell find crates -type f)
+$(LIBRARY): host/library.sh crates.txt $(shell find crates -name out -prune -o -type f -print)
 	@host/library.sh
 
 program:

@@ -1,2 +1,2 @@
-// What follows from the rules alone. Theorems, in specs/; there is no code.
+// What follows from the rules alone. Theorems, in specs/ and proofs/; there is no code.
 #![tactic(auto)]

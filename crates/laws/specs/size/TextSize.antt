@@ -1,4 +1,4 @@
--- How long the text of a formula and of a term can be, and that it fits the buffer that is asked for; by induction on it.
+-- How long the text of a formula and of a term can be, by induction on it, and limits under which it fits the buffer that is asked for.
 -- Assumes nothing.
 use Rattle.std.specs.Prelude.{◌+◌, ◌*◌, ◌≤◌, length}
 use Rattle.std.proofs.Common.{arith, length-append}
