@@ -12,7 +12,7 @@ PROGRAM := host/target/program
 TRIED := host/target/tried
 WARN := -Iinclude -Wall -Wextra -Wpedantic -Werror
 
-# The prover writes some hundred files for each check: an eighth of its time on a disk, and next to none in memory, where 4 GB are free there.
+# The prover writes some hundred files for each check: they are kept in memory, where 4 GB are free there.
 SHARED := $(shell df -Pk /dev/shm 2>/dev/null | awk 'NR == 2 && $$4 > 4000000 { print "/dev/shm" }')
 export TMPDIR ?= $(if $(SHARED),$(SHARED),/tmp)
 

@@ -1,4 +1,7 @@
 // The calls by number, as the list has them, in the order of their shapes; and by name, as they are printed. Number 0 stands for all of them.
+ghost use Rattle.std.specs.Prelude.{OnOk};
+ghost use Rattle.std.specs.Io.KnownBytes.{Appends};
+
 use std::io;
 use std::io::Write;
 
@@ -40,7 +43,9 @@ pub const EXTRACT: u8 = 18;
 
 pub const EXTRACTOR: u8 = 19;
 
-pub fn print<W: Write>(out: &mut W, text: &[u8]) -> io::Result<()> {
+pub fn print<W: Write>(out: &mut W, text: &[u8]) -> io::Result<()>
+    ensures { OnOk result (Appends (W.contents out.old) (W.contents out.new) text.now) }
+{
     out.write_all(text)
 }
 

@@ -1,9 +1,10 @@
--- `input::read_full` ends and stays within the room: each turn reads at least a byte of what the room still holds.
-use Rattle.std.proofs.Common.{length, ◌-◌, ◌≤◌}
+-- `input::read_full` ends, within the room, with the bytes that the input has lost: each turn moves at least one of them.
+use Rattle.std.proofs.Common.{length, take, ◌-◌, ◌≤◌}
+use Rattle.std.specs.Io.KnownBytes.{Consumes}
 use Rattle.program.proofs.input.read_full.Given as goal
 
 abbrev pub invariant-loop-n : goal.invariant-loop-n
-invariant-loop-n g l = l.n ≤ length l.room
+invariant-loop-n g l = (l.n ≤ length l.room) × Consumes (g.R.Read.remaining l.initial.input) (g.R.Read.remaining l.input) (take l.n l.room)
 
 abbrev pub decreases-loop-n : goal.decreases-loop-n
 decreases-loop-n g l = length l.initial.room - l.n
