@@ -1,6 +1,6 @@
 -- Runs of bytes: a slice cut in two, two writes one after the other, and zeros behind the last. By induction on the lists. Assumes nothing.
-use Rattle.std.specs.Prelude.{ℕ, zero, suc, ◌+◌, ◌-◌, ◌≤◌, ◌≡◌, refl, List, [], ◌∷◌, ◌++◌, length, drop, set, replicate}
-use Rattle.std.proofs.Common.{sym, ap, ◌∙◌, append-nil, add-zero, zero-add, suc-add, le_of_suc-le-suc, not-suc-le-zero, arith, length-append}
+use Rattle.std.specs.Prelude.{ℕ, zero, suc, ◌+◌, ◌-◌, ◌≤◌, ◌≡◌, refl, List, [], ◌∷◌, ◌++◌, length, take, drop, set, replicate}
+use Rattle.std.proofs.Common.{sym, ap, ◌∙◌, append_assoc, append-nil, add-zero, zero-add, suc-add, le_of_suc-le-suc, not-suc-le-zero, arith, length-append, drop-drop}
 use Rattle.std.proofs.lemmas.List.{length-replicate}
 use Rattle.std.proofs.lemmas.List.Edits.{sets, sets-eq}
 use Rattle.std.proofs.Math.Seq.{length-sets, drop-length, slice, take-append_seam, take-nil}
@@ -22,6 +22,12 @@ slice_is zero s a b e = rw (zero-add, e) (take-append_seam a b)
 slice_is (suc i) [] [] b e = rw take-nil
 slice_is (suc i) [] (x ∷ a) b e = absurd (omega (arith, ap (λ (z : List ℕ). length z) e))
 slice_is (suc i) (x ∷ s) a b e = rw suc-add (slice_is i s a b e)
+
+-- what stands before a part, what the part became and what stands behind it: a write
+pub put-sets : (out xs : List ℕ) (to k : ℕ) → to + k ≤ length out → length xs ≡ k → take to out ++ (xs ++ drop k (drop to out)) ≡ sets out to xs
+put-sets out xs to k fits long =
+    let q : to + k ≡ to + length xs = omega arith in
+    ap (λ l. take to out ++ (xs ++ l)) (drop-drop k to out ∙ ap (λ n. drop n out) q) ∙ sym (sets-eq xs out to (omega arith) ∙ append_assoc (take to out) xs (drop (to + length xs) out))
 
 pub sets-app : (xs ys l : List ℕ) (i : ℕ) → sets l i (xs ++ ys) ≡ sets (sets l i xs) (i + length xs) ys
 sets-app [] ys l i = rw add-zero

@@ -11,13 +11,7 @@ use rules::{OUTPUT_ROOM, SCRATCH_ROOM};
 pub fn short(out: usize, scratch: usize) -> bool
     ensures { Rooms out scratch result }
 {
-    if out < OUTPUT_ROOM {
-        return true;
-    }
-    if scratch < SCRATCH_ROOM {
-        return true;
-    }
-    false
+    out < OUTPUT_ROOM || scratch < SCRATCH_ROOM
 }
 
 // Zeros behind the first bytes of the output, and in all of the scratch.

@@ -9,17 +9,7 @@ ghost use Rattle.buffer.specs.Wrote.{Wrote};
 pub fn same(a: &[u8], b: &[u8]) -> bool
     ensures { result ≡ same_name a.now b.now }
 {
-    if a.len() != b.len() {
-        return false;
-    }
-    let mut i = 0;
-    while i < a.len() {
-        if a[i] != b[i] {
-            return false;
-        }
-        i += 1;
-    }
-    true
+    a == b
 }
 
 // Copies src[from..end] to out from `to` on, and returns the place after it.
@@ -27,14 +17,9 @@ pub fn copy(src: &[u8], from: usize, end: usize, out: &mut [u8], to: usize) -> u
     requires { (from ≤ end) × (end ≤ length src.now) × (to + (end - from) ≤ length out.old) }
     ensures { Wrote out.old to (slice from end src.now) out.new result }
 {
-    let mut i = from;
-    let mut o = to;
-    while i < end {
-        out[o] = src[i];
-        i += 1;
-        o += 1;
-    }
-    o
+    let past = to + (end - from);
+    out[to..past].copy_from_slice(&src[from..end]);
+    past
 }
 
 // Zeros in out from `from` on.
@@ -42,9 +27,5 @@ pub fn clear(out: &mut [u8], from: usize)
     requires { from ≤ length out.old }
     ensures { out.new ≡ sets out.old from (replicate (length out.old - from) 0) }
 {
-    let mut i = from;
-    while i < out.len() {
-        out[i] = 0;
-        i += 1;
-    }
+    out[from..].fill(0);
 }

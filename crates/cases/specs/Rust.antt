@@ -1,10 +1,10 @@
 -- The definitions held against the Rust as published: a case is what the Rust was given and what it answered, in hexadecimal.
 -- Assumes nothing: these are definitions.
-use Rattle.std.specs.Prelude.{ℕ, Bool, true, false, ◌&&◌, eqb}
+use Rattle.std.specs.Prelude.{ℕ, Bool, true, false, ◌&&◌, eqb, Ok, Err}
 use Prim.Native.String.{String}
 use Rattle.rules.specs.Basic.{Bytes, digits}
 use Rattle.rules.specs.Limits.{limits}
-use Rattle.rules.specs.Refusal.{Outcome, good, refused}
+use Rattle.rules.specs.Refusal.{Outcome}
 use Rattle.rules.specs.Name.{encode_names, leads, follows, is_a_word, before}
 use Rattle.rules.specs.Term.{Term, nodes, encode, fits}
 use Rattle.rules.specs.Reading.{times, many, byte, byte_for, room, letters, spelled, name, tag, too_many, node, proof_at, whole, read_term, read_formula, read_proof, read_name}
@@ -32,8 +32,8 @@ agrees false true = false
 agrees false false = true
 
 abbrev pub read_and : {A : Type 0} → Outcome A → (A → Bool) → Bool
-read_and (good a) k = k a
-read_and (refused r) k = false
+read_and (Ok a) k = k a
+read_and (Err r) k = false
 
 abbrev pub stepped_to : Bytes → Stepped → Bool
 stepped_to w normal = false
@@ -44,8 +44,8 @@ reduced_to w b (stopped n c b' t) = agrees b b' && equal w (encode t)
 reduced_to w b (outgrew n t) = false
 
 abbrev pub extracted_to : Bytes → ℕ → Outcome (Term × ℕ) → Bool
-extracted_to w n (good r) = eqb n r.1 && equal w (encode r.0)
-extracted_to w n (refused r) = false
+extracted_to w n (Ok r) = eqb n r.1 && equal w (encode r.0)
+extracted_to w n (Err r) = false
 
 unfoldable pub right : Case → Bool
 unfolding times many byte byte_for room letters spelled name tag too_many node proof_at whole read_term read_formula read_proof read_name leads follows is_a_word before insert union without free subst step contract text text_of_formula nodes encode fits reduce_from extract_from extract oldest axiom_name digits

@@ -3,11 +3,11 @@
 use Prim.Native.Nat.{ℕ, ◌<◌}
 use mathlib.Core.Path.{◌≡◌, refl, sym, ap, ◌∙◌}
 use mathlib.Core.Bool.{Bool, true, false}
-use mathlib.Core.Option.{Option, none, some}
+use mathlib.Core.Option.{Option as Maybe, none, some}
 use mathlib.Core.List.{List}
 use lib.ListN.{length, get_or}
 use borrow.Author.Tests.{ne_eqb}
-use Rattle.std.specs.Prelude.{if◌then◌else◌}
+use Rattle.std.specs.Prelude.{if◌then◌else◌, Option}
 use Rattle.rules.specs.Basic.{Bytes}
 use Rattle.rules.specs.Name.{Name}
 use Rattle.rules.specs.Term.{Term, one, two, abs, both, branch, fst, snd, promote, derelict, pair, app, discard, let_a_pair, copy}
@@ -19,11 +19,11 @@ use Rattle.term.proofs.node.Terms.{at_tag, at-inside}
 use Rattle.redex.specs.Side.{side}
 use Rattle.redex.proofs.find.Firsts.{contracts}
 use Rattle.redex.proofs.find.Forms.{Form, form, IsApp, IsLet, IsCase, IsFst, IsSnd, IsDerelict, IsCopy, IsDiscard}
-use Rattle.contraction.specs.Contracted.{Contracts}
-use Rattle.contraction.specs.declared.part.Contracted.{Contracted}
+use Rattle.contraction.specs.Contracted.{Redex, Contracts}
+use Rattle.contraction.specs.declared.part.Contraction.{Contraction}
 use Rattle.contraction.specs.Contracting.{Contracting}
 
-module _ {s : Bytes} {at n l : ℕ} {places : List ℕ} {made : Bytes} {t : Term} {r : Rule} {h : Option Term} {u : Term} (j : Contracting s at n l places made t r h u) where
+module _ {s : Bytes} {at n l : ℕ} {places : List ℕ} {made : Bytes} {t : Term} {r : Rule} {h : Maybe Term} {u : Term} (j : Contracting s at n l places made t r h u) where
   pub redex-inside : at < length s
   redex-inside = at-inside s at t j.redex.stands
 
@@ -66,8 +66,8 @@ module _ {s : Bytes} {at n l : ℕ} {places : List ℕ} {made : Bytes} {t : Term
       ) at form-here
 
   -- a node contracts in one way
-  pub answers : {t' : Term} → t ≡ t' → {r' : Rule} {h' : Option Term} {u' : Term} → contract t' ≡ by r' h' u'
-      → {made' : Bytes} {c : Contracted} → Contracts s at n l t' r' h' u' made' c → Contracts s at n l t r h u made' c
+  pub answers : {t' : Term} → t ≡ t' → {r' : Rule} {h' : Maybe Term} {u' : Term} → contract t' ≡ by r' h' u'
+      → {made' : Bytes} {c : Option Contraction} → Contracts s at n l t' r' h' u' made' c → Contracts s at n l t r h u made' c
   answers {t'} e {r'} {h'} {u'} is {made'} {c} d =
       let b : by r h u ≡ by r' h' u' = sym j.contracts ∙ ap contract e ∙ is in
       let er : r ≡ r' = cc in
@@ -109,3 +109,13 @@ copy_is x y v e = refl
 pub discard-is : (v e : Term) → contract (two discard (one promote v) e) ≡ by Discard none e
 unfolding contract
 discard-is v e = refl
+
+-- Discard of Promote, which has the one tag that is left
+module _ {s : Bytes} {at n l : ℕ} {places : List ℕ} {made : Bytes} {t : Term} {r : Rule} {h : Maybe Term} {u : Term} (j : Contracting s at n l places made t r h u) (p : IsDiscard t) where
+  pub discard-here : (v : Term) × (e : Term) × Redex s at n l (two discard (one promote v) e)
+  discard-here = (p.0, p.1, rw p.2 at j.redex)
+
+  pub discarded : {made' : Bytes} {c : Option Contraction}
+      → ((v e : Term) → Redex s at n l (two discard (one promote v) e) → (m : Bytes) → Contracts s at n l (two discard (one promote v) e) Discard none e m c)
+      → Contracts s at n l t r h u made' c
+  discarded {made'} f = answers j p.2 (discard-is p.0 p.1) (f p.0 p.1 (rw p.2 at j.redex) made')

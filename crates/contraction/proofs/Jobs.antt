@@ -27,7 +27,7 @@ module _ {s : Bytes} {at n l : ℕ} where
     copy-source = first s r.end 2 p (e ∷ []) (in_both j.stands m).row
 
     pub copy-pairing : {q : Extent} → Measured r.end p q
-        → Pairing s at r.second r.end (record { from = r.end; end = q.next; nodes = q.nodes }) (record { from = r.end; end = q.next; nodes = q.nodes })
+        → Pairing s at r.second r.end (record { from = r.end; extent = q }) (record { from = r.end; extent = q })
         (n - 1 - q.nodes) l n (both copy x y p e) x y e p p
     copy-pairing {q} h =
         let i = in_both j.stands m in
@@ -67,7 +67,7 @@ module _ {s : Bytes} {at n l : ℕ} where
         pub let-nodes : 2 + q.nodes + o.nodes ≤ n
         let-nodes = omega (arith, h.nodes, g.nodes, (in-let j.stands m).count, j.nodes-in)
 
-        pub let-pairing : Pairing s at r.second r.end (record { from = r.end + 1; end = q.next; nodes = q.nodes }) (record { from = q.next; end = o.next; nodes = o.nodes })
+        pub let-pairing : Pairing s at r.second r.end (record { from = r.end + 1; extent = q }) (record { from = q.next; extent = o })
             (n - 2 - q.nodes - o.nodes) l n (both let_a_pair x y (two pair a b) e) x y e a b
         let-pairing =
             let i = in-let j.stands m in

@@ -20,14 +20,14 @@ use Rattle.term.specs.declared.span.Two.{Two as Spans}
 use Rattle.term.proofs.span.Rows.{size-one, InTwo, a_at, of_pair, of_two, of_one}
 use Rattle.contraction.specs.Stays.{Stays}
 use Rattle.contraction.specs.Contracted.{Redex, Contracts, becomes}
-use Rattle.contraction.specs.declared.part.Contracted.TheVariants.{Made}
+use Rattle.std.specs.Prelude.{Some}
 use Rattle.contraction.proofs.part.Standing.{inside, all-written}
 use Rattle.contraction.proofs.part.Smaller.{smaller-fits}
 
 module _ {s : Bytes} {at n l : ℕ} {t : Term} (j : Redex s at n l t) where
   -- at the end of the redex
   pub stays : {p m : ℕ} {u : Term} → TermAt s p u → at + size t ≡ p + size u → at ≤ p → nodes u ≤ nodes t → m ≡ n - nodes t + nodes u → Stays t (size u)
-      → (rule : Rule) (made : Bytes) → Contracts s at n l t rule none u made (Made (record { rule = rule; size = 0; end = p; nodes = m }))
+      → (rule : Rule) (made : Bytes) → Contracts s at n l t rule none u made (Some (record { rule = rule; size = 0; end = p; nodes = m }))
   stays {p} {m} {u} w e h le em so rule made =
       let d : at + size t - p ≡ size u = omega arith in
       becomes _ (smaller-fits j u le (omega arith)) refl
@@ -46,7 +46,7 @@ module _ {s : Bytes} {at n l : ℕ} {t : Term} (j : Redex s at n l t) where
       pub gone-nodes : heads + r.nodes ≤ n
       gone-nodes = omega (arith, m.nodes, i.count, j.nodes-in)
 
-      pub second-stays : Stays t (size b) → (rule : Rule) (made : Bytes) → Contracts s at n l t rule none b made (Made (record { rule = rule; size = 0; end = r.next; nodes = n - heads - r.nodes }))
+      pub second-stays : Stays t (size b) → (rule : Rule) (made : Bytes) → Contracts s at n l t rule none b made (Some (record { rule = rule; size = 0; end = r.next; nodes = n - heads - r.nodes }))
       second-stays so rule made =
           stays (first s r.next 1 b [] (others s from 2 a (b ∷ []) i.row r.next m.next)) (omega (arith, i.ends, m.next)) (omega (arith, i.past, m.next))
           (omega (arith, i.count)) (omega (arith, i.count, m.nodes, j.nodes-in)) so rule made
@@ -63,7 +63,7 @@ module _ {s : Bytes} {at n l : ℕ} {t : Term} (j : Redex s at n l t) where
       first-room h = (omega (arith, m.second), omega (arith, m.second, at-end s from a (a_at i m)), omega (arith, m.second, i.ends, i.past, j.bytes-in, j.short))
 
       pub first-kept : Stays t 0 → {rule : Rule} {made made' : Bytes} {z : ℕ} → output_room limits ≤ length made → Wrote made 0 (slice from r.second s) made' z
-          → Contracts s at n l t rule none a made' (Made (record { rule = rule; size = z; end = r.end; nodes = n - heads - r.b }))
+          → Contracts s at n l t rule none a made' (Some (record { rule = rule; size = z; end = r.end; nodes = n - heads - r.b }))
       first-kept so {rule} {made} {made'} {z} h x =
           let w = a_at i m in
           let e : slice from r.second s ≡ encode a = ap (λ (k : ℕ). slice from k s) m.second ∙ slice_is from s (encode a) w.rest w.bytes in
@@ -90,6 +90,6 @@ module _ {s : Bytes} {at n l : ℕ} where
     unfolding nodes
     one-bounds = (omega (arith, inside j, long), omega (arith, j.nodes-in))
 
-    pub one-stays : Stays (one k (one h v)) (size v) → (rule : Rule) (made : Bytes) → Contracts s at n l (one k (one h v)) rule none v made (Made (record { rule = rule; size = 0; end = at + 2; nodes = n - 2 }))
+    pub one-stays : Stays (one k (one h v)) (size v) → (rule : Rule) (made : Bytes) → Contracts s at n l (one k (one h v)) rule none v made (Some (record { rule = rule; size = 0; end = at + 2; nodes = n - 2 }))
     unfolding nodes
     one-stays so rule made = stays j (of_one k h v j.stands) (omega (arith, long)) (omega arith) (omega arith) (omega (arith, j.nodes-in)) so rule made

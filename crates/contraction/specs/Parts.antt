@@ -8,25 +8,25 @@ use Rattle.term.specs.Place.{TermAt}
 use Rattle.substitution.specs.Places.{places, Held}
 use Rattle.contraction.specs.Stays.{Stays}
 use Rattle.contraction.specs.Contracted.{Redex}
-use Rattle.contraction.specs.declared.part.Body.{Body}
+use Rattle.contraction.specs.declared.part.BodyAt.{BodyAt}
 use Rattle.contraction.specs.declared.part.Part.{Part}
 
 -- the term e at i has ended, and the row holds the places where x is free in it
-pub record Kept (i : ℕ) (x : Name) (e : Term) (row : List ℕ) (b : Body) : Type 0 where
+pub record Kept (i : ℕ) (x : Name) (e : Term) (row : List ℕ) (b : BodyAt) : Type 0 where
   pub from : b.from ≡ i
   pub next : b.end ≡ i + size e
-  pub held : Held row b.count (places x e 0)
-  pub gap_is : b.gap ≡ 2 + length x
+  pub held : Held row b.kept.count (places x e 0)
+  pub gap_is : b.kept.gap ≡ 2 + length x
 
 -- the part is v
 pub record PartIs (s : Bytes) (p : Part) (v : Term) : Type 0 where
   pub stands : TermAt s p.from v
-  pub ends : p.end ≡ p.from + size v
-  pub count : p.nodes ≡ nodes v
+  pub ends : p.extent.next ≡ p.from + size v
+  pub count : p.extent.nodes ≡ nodes v
   pub fits : fits limits v ≡ true
 
 -- v goes into e, a part of the redex t, for x; with e for t the whole has n nodes
-pub record Placing (s : Bytes) (at end : ℕ) (b : Body) (p : Part) (n l : ℕ) (row : List ℕ) (whole : ℕ) (t : Term) (x : Name) (e v : Term) : Type 0 where
+pub record Placing (s : Bytes) (at end : ℕ) (b : BodyAt) (p : Part) (n l : ℕ) (row : List ℕ) (whole : ℕ) (t : Term) (x : Name) (e v : Term) : Type 0 where
   pub redex : Redex s at whole l t
   pub ends : end ≡ at + size t
   pub body_at : TermAt s b.from e
@@ -45,9 +45,9 @@ pub record Pairing (s : Bytes) (at middle past : ℕ) (p q : Part) (n l whole : 
   pub y-is : take (past - (middle + 1)) (drop (middle + 1) s) ≡ y
   pub first : PartIs s p v
   pub second : PartIs s q w
-  pub body_at : TermAt s q.end e
-  pub body-past : at ≤ q.end
-  pub ends : q.end + size e ≡ at + size t
+  pub body_at : TermAt s q.extent.next e
+  pub body-past : at ≤ q.extent.next
+  pub ends : q.extent.next + size e ≡ at + size t
   pub nodes-in : nodes e ≤ nodes t
   pub count : n ≡ whole - nodes t + nodes e
   pub stays : Stays t 0

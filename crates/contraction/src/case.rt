@@ -7,31 +7,22 @@ ghost use Rattle.rules.specs.declared.Rule.TheVariants.{Case};
 ghost use Rattle.rules.specs.Substitution.{subst};
 ghost use Rattle.redex.specs.Side.{side};
 ghost use Rattle.substitution.specs.Put.{Room};
-ghost use Rattle.contraction.specs.Contracted.{Redex, Contracts, Row};
+ghost use Rattle.contraction.specs.Contracted.{RedexAt, ContractsAt, Row};
 
-use crate::part::{Contracted, Part, find_in, put_here};
+use crate::part::{Contraction, Part, Site, find_in};
 use rules::{MOST_NODES, Rule};
 use term::span::{span, span_names};
-
-// The tag of Inl.
-const INL: u8 = 7;
+use term::tag::INL;
 
 // The branch of the injected side, with the injected part for its name. The other branch is measured: its nodes go.
-pub fn branch(
-    s: &[u8],
-    at: usize,
-    nodes: usize,
-    length: usize,
-    places: &mut [u16; MOST_NODES],
-    made: &mut [u8],
-) -> Contracted
-    requires redex { (x : Name) × (y : Name) × (d : Bool) × (v : Term) × (l : Term) × (r : Term) × Redex s.now at nodes length (a_branch x y (one (side d) v) l r) }
+pub fn branch(site: Site, places: &mut [u16; MOST_NODES], made: &mut [u8]) -> Option<Contraction>
+    requires redex { (x : Name) × (y : Name) × (d : Bool) × (v : Term) × (l : Term) × (r : Term) × RedexAt site (a_branch x y (one (side d) v) l r) }
     requires row { Row places.old × Room made.old }
-    ensures contracts { (x : Name) → (y : Name) → (d : Bool) → (v : Term) → (l : Term) → (r : Term) → Redex s.now at nodes length (a_branch x y (one (side d) v) l r) → Contracts s.now at nodes length (a_branch x y (one (side d) v) l r) Case none (if d then subst x v l else subst y v r) made.new result }
+    ensures contracts { (x : Name) → (y : Name) → (d : Bool) → (v : Term) → (l : Term) → (r : Term) → RedexAt site.entry (a_branch x y (one (side d) v) l r) → ContractsAt site.entry (a_branch x y (one (side d) v) l r) Case none (if d then subst x v l else subst y v r) made.new result }
     ensures row_2 { Row places.new }
 {
-    let rule = Rule::Case;
-    let names = span_names(s, at + 1);
+    let s = site.bytes;
+    let names = span_names(s, site.at + 1);
     let middle = names.second;
     let scrutinee = names.end;
     let from = scrutinee + 1;
@@ -39,20 +30,19 @@ pub fn branch(
     let left = value.next;
     let part = Part {
         from,
-        end: left,
-        nodes: value.nodes,
+        extent: value,
     };
-    let rest = nodes - 2 - value.nodes;
+    let rest = site.whole.nodes - 2 - value.nodes;
     if s[scrutinee] == INL {
-        let found = find_in(s, left, at + 2, middle, places);
-        let other = span(s, found.end);
+        let body = find_in(s, left, &s[site.at + 2..middle], places);
+        let other = span(s, body.end);
         let end = other.next;
         let kept = rest - other.nodes;
-        return put_here(s, at, rule, end, found, part, kept, length, places, made);
+        return site.put_here(Rule::Case, end, body, part, kept, places, made);
     }
     let other = span(s, left);
-    let found = find_in(s, other.next, middle + 1, scrutinee, places);
-    let end = found.end;
+    let body = find_in(s, other.next, &s[middle + 1..scrutinee], places);
+    let end = body.end;
     let kept = rest - other.nodes;
-    put_here(s, at, rule, end, found, part, kept, length, places, made)
+    site.put_here(Rule::Case, end, body, part, kept, places, made)
 }

@@ -7,8 +7,10 @@ ghost use Rattle.rules.specs.Term.{Term};
 ghost use Rattle.contraction.specs.Contracted.{Contracts, Row};
 ghost use Rattle.contraction.specs.Contracting.{Contracting};
 
-use part::Contracted;
+use part::{Contraction, Site};
 use rules::MOST_NODES;
+use substitution::put::Size;
+use term::tag;
 
 mod app;
 mod case;
@@ -24,32 +26,28 @@ pub fn contract(
     length: usize,
     places: &mut [u16; MOST_NODES],
     made: &mut [u8],
-) -> Contracted
+) -> Option<Contraction>
     requires { (t : Term) × (r : Rule) × (h : Option Term) × (u : Term) × Contracting s.now at nodes length places.old made.old t r h u }
     ensures contracts { (t : Term) → (r : Rule) → (h : Option Term) → (u : Term) → Contracting s.now at nodes length places.old made.old t r h u → Contracts s.now at nodes length t r h u made.new result }
     ensures row { Row places.new }
 {
-    let tag = s[at];
-    if tag == 6 {
-        return app::apply(s, at, nodes, length, places, made);
+    let whole = Size {
+        nodes,
+        bytes: length,
+    };
+    let site = Site {
+        bytes: s,
+        at,
+        whole,
+    };
+    match s[at] {
+        tag::LET_PAIR => redexes::let_pair(site, places, made),
+        tag::APP => app::apply(site, places, made),
+        tag::CASE => case::branch(site, places, made),
+        tag::FST => redexes::first(site, made),
+        tag::SND => redexes::second(site),
+        tag::DERELICT => redexes::derelict(site),
+        tag::COPY => redexes::copy(site, places, made),
+        _ => redexes::discard(site),
     }
-    if tag == 9 {
-        return case::branch(s, at, nodes, length, places, made);
-    }
-    if tag == 4 {
-        return redexes::let_pair(s, at, nodes, length, places, made);
-    }
-    if tag == 11 {
-        return redexes::first(s, at, nodes, made);
-    }
-    if tag == 12 {
-        return redexes::second(s, at, nodes);
-    }
-    if tag == 15 {
-        return redexes::derelict(s, at, nodes);
-    }
-    if tag == 17 {
-        return redexes::copy(s, at, nodes, length, places, made);
-    }
-    redexes::discard(s, at, nodes)
 }

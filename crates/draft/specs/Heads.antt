@@ -3,7 +3,9 @@ use Rattle.std.specs.Prelude.{ℕ, zero, suc, ◌+◌, ◌<◌, ◌≤◌, ◌�
 use Rattle.rules.specs.Basic.{Bytes, ◌‥◌}
 use Rattle.rules.specs.Name.{encode_name}
 use Rattle.rules.specs.Term.{one_tag, two_tag}
-use Rattle.draft.specs.Draft.{Row, name_of, x_name, Shape, shape_of, named, identity, discarding, letting, branching, copying, wrapping, joining}
+use Rattle.draft.specs.declared.row.Row.{Row}
+use Rattle.draft.specs.declared.row.RowKind.TheVariants.{Named}
+use Rattle.draft.specs.Draft.{name_of, x_name, Shape, shape_of, named, identity, discarding, letting, branching, copying, wrapping, joining}
 use Rattle.draft.specs.Made.{most_number}
 
 abbrev pub tag_of : Shape → ℕ
@@ -75,7 +77,7 @@ summed (suc (suc zero)) h a b = h + a + b
 summed (suc (suc (suc n))) h a b = h + a + b + b
 
 -- what follows a tag can be written: there is room, a length is a byte, and the number can be counted on from
-pub record Middleroom (s out : Bytes) (at number stem kind : ℕ) : Type 0 where
-  pub room : at + length (middle s number stem (shape_of kind)) ≤ length out
-  pub short : kind ≡ 0 → length (name_of s stem number) ≤ 255
-  pub small : number < most_number
+pub record Middleroom (s out : Bytes) (at : ℕ) (r : Row) : Type 0 where
+  pub room : at + length (middle s r.number r.stem (shape_of r.kind)) ≤ length out
+  pub short : r.kind ≡ Named → length (name_of s r.stem r.number) ≤ 255
+  pub small : r.number < most_number

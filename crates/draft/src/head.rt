@@ -5,43 +5,10 @@ ghost use Rattle.rules.specs.Name.{encode_name};
 ghost use Rattle.buffer.specs.Wrote.{Wrote};
 ghost use Rattle.draft.specs.Draft.{x_name, shape_of, identity};
 ghost use Rattle.draft.specs.Made.{most_number};
-ghost use Rattle.draft.specs.Heads.{tag_of, parts_of, node_count_of, variable, middle, head, Middleroom};
+ghost use Rattle.draft.specs.Heads.{variable, middle, front, Middleroom};
 
 use crate::name::{name_len, put_name, put_x, x_len};
-
-// For each kind but the last: its tag in five bits, how many parts follow and how many nodes the head has in two.
-const TAGS: usize = 10291638733905057;
-
-const PARTS: usize = 3777872;
-
-const NODES: usize = 1463641;
-
-fn tag_of(kind: usize) -> u8
-    ensures { result ≡ tag_of (shape_of kind) }
-{
-    if 10 < kind {
-        return 17;
-    }
-    ((TAGS >> (kind * 5)) % 32) as u8
-}
-
-pub fn row_parts(kind: usize) -> usize
-    ensures { result ≡ parts_of (shape_of kind) }
-{
-    if 10 < kind {
-        return 1;
-    }
-    (PARTS >> (kind * 2)) % 4
-}
-
-pub fn nodes_of(kind: usize) -> usize
-    ensures { result ≡ node_count_of (shape_of kind) }
-{
-    if 10 < kind {
-        return 2;
-    }
-    (NODES >> (kind * 2)) % 4
-}
+use crate::row::{Row, RowKind};
 
 fn put_variable(number: usize, out: &mut [u8], at: usize) -> usize
     requires { at + length (variable number) ≤ length out.old }
@@ -67,66 +34,48 @@ fn put_identity(number: usize, out: &mut [u8], at: usize) -> usize
     put_variable(number, out, past)
 }
 
-fn put_middle(s: &[u8], kind: usize, number: usize, stem: usize, out: &mut [u8], at: usize) -> usize
-    requires { Middleroom s.now out.old at number stem kind }
-    ensures { Wrote out.old at (middle s.now number stem (shape_of kind)) out.new result }
+fn put_middle(s: &[u8], row: &Row, out: &mut [u8], at: usize) -> usize
+    requires { Middleroom s.now out.old at row.now }
+    ensures { Wrote out.old at (middle s.now row.now.number row.now.stem (shape_of row.now.kind)) out.new result }
 {
-    if kind == 0 {
-        return put_name(s, stem, number, out, at);
+    let number = row.number;
+    match row.kind {
+        RowKind::Named => put_name(s, row.stem, number, out, at),
+        RowKind::Identity => put_identity(number, out, at),
+        RowKind::Discard => {
+            out[at] = 2;
+            at + 1
+        }
+        RowKind::LetPair | RowKind::Case => put_two_names(number, number + 1, out, at),
+        RowKind::Copy => {
+            let past = put_two_names(number, number + 1, out, at);
+            put_variable(number + 2, out, past)
+        }
+        _ => at,
     }
-    if kind == 1 {
-        return put_identity(number, out, at);
-    }
-    if kind < 8 {
-        return at;
-    }
-    if kind == 8 {
-        out[at] = 2;
-        return at + 1;
-    }
-    let past = put_two_names(number, number + 1, out, at);
-    if kind < 11 {
-        return past;
-    }
-    put_variable(number + 2, out, past)
 }
 
 // Writes the head of a row's term.
-pub fn put_head(
-    s: &[u8],
-    kind: usize,
-    number: usize,
-    stem: usize,
-    out: &mut [u8],
-    at: usize,
-) -> usize
-    requires { Middleroom s.now out.old (at + 1) number stem kind }
-    ensures { Wrote out.old at (head s.now number stem (shape_of kind)) out.new result }
+pub fn put_head(s: &[u8], row: &Row, out: &mut [u8], at: usize) -> usize
+    requires { Middleroom s.now out.old (at + 1) row.now }
+    ensures { Wrote out.old at (front s.now row.now) out.new result }
 {
-    out[at] = tag_of(kind);
-    put_middle(s, kind, number, stem, out, at + 1)
+    out[at] = row.kind.tag();
+    put_middle(s, row, out, at + 1)
 }
 
 // How long the head of a row's term is: at most 64 and a name.
-pub fn head_len(s: &[u8], kind: usize, number: usize, stem: usize) -> usize
-    requires { number < most_number }
-    ensures { (result ≡ length (head s.now number stem (shape_of kind))) × (result ≤ 300) }
+pub fn head_len(s: &[u8], row: &Row) -> usize
+    requires { row.now.number < most_number }
+    ensures { (result ≡ length (front s.now row.now)) × (result ≤ 300) }
 {
-    if kind == 0 {
-        return 2 + name_len(s, stem, number);
+    let number = row.number;
+    match row.kind {
+        RowKind::Named => 2 + name_len(s, row.stem, number),
+        RowKind::Identity => 4 + 2 * x_len(number),
+        RowKind::Discard => 2,
+        RowKind::LetPair | RowKind::Case => 3 + x_len(number) + x_len(number + 1),
+        RowKind::Copy => 5 + x_len(number) + x_len(number + 1) + x_len(number + 2),
+        _ => 1,
     }
-    if kind == 1 {
-        return 4 + 2 * x_len(number);
-    }
-    if kind < 8 {
-        return 1;
-    }
-    if kind == 8 {
-        return 2;
-    }
-    let names = 3 + x_len(number) + x_len(number + 1);
-    if kind < 11 {
-        return names;
-    }
-    names + 2 + x_len(number + 2)
 }

@@ -78,11 +78,7 @@ fn stem_len(s: &[u8], stem: usize) -> usize
         return 0;
     }
     let most = s.len() - stem - 1;
-    let n = s[stem] as usize;
-    if most < n {
-        return most;
-    }
-    n
+    most.min(s[stem] as usize)
 }
 
 pub fn name_len(s: &[u8], stem: usize, number: usize) -> usize
@@ -103,14 +99,10 @@ fn put_lower(s: &[u8], from: usize, end: usize, out: &mut [u8], to: usize) -> us
     requires { (from ≤ end) × (end ≤ length s.now) × (to + (end - from) ≤ length out.old) }
     ensures { Wrote out.old to (lower (slice from end s.now)) out.new result }
 {
-    let mut i = from;
-    let mut o = to;
-    while i < end {
-        out[o] = lower_byte(s[i]);
-        i += 1;
-        o += 1;
+    for i in from..end {
+        out[to + (i - from)] = lower_byte(s[i]);
     }
-    o
+    to + (end - from)
 }
 
 fn put_stem(s: &[u8], stem: usize, out: &mut [u8], at: usize) -> usize

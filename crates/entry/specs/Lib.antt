@@ -1,5 +1,4 @@
 pub mod Told
 pub mod Child
 pub mod Steps
-pub mod Straight
 pub mod Extraction

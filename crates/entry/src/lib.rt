@@ -1,21 +1,20 @@
 // What the C entry points (include/patch.h) do, which the crate entry_c exports: one line each over a public call, on numbers and byte slices.
 // An entry tells its answer in an array of 16 numbers, whose length is part of its type, so no caller can lend too few and the entry needs no
 // refusal of its own. What the numbers are is defined in specs/Told.antt and the files beside it.
+// Kept: slices one by one and no struct of them, since that is what include/patch.h passes.
 #![tactic(auto)]
 
 ghost use Rattle.std.specs.Prelude.{◌≡◌};
 ghost use Rattle.rules.specs.Limits.{limits};
-ghost use Rattle.rules.specs.Refusal.{answered};
-ghost use Rattle.step.specs.Answers.{step_answered, normal_answered};
+ghost use Rattle.step.specs.Answers.{step_answered};
 ghost use Rattle.reduction.specs.Answers.{reduced_by};
 ghost use Rattle.rules.specs.Calls.{check_term_call, check_formula_call, check_proof_call, formula_text_call, text_call, locate_call, free_vars_call, substitute_call, step_call, reduce_call, is_normal_call};
-ghost use Rattle.term.specs.Child.{piece_of};
-ghost use Rattle.entry.specs.Told.{told_answer};
-ghost use Rattle.entry.specs.Child.{told_piece};
-ghost use Rattle.entry.specs.Steps.{told_step, told_normal, told_reduced};
+ghost use Rattle.entry.specs.Told.{told_answer, told_verdict};
+ghost use Rattle.entry.specs.Child.{told_places};
+ghost use Rattle.entry.specs.Steps.{told_step, told_reduced};
 
-use tell::{tell, tell_piece};
-use tell_steps::{tell_normal, tell_reduced, tell_step};
+use tell::{tell, tell_places, tell_verdict};
+use tell_steps::{tell_reduced, tell_step};
 use term::child;
 
 pub mod files;
@@ -25,32 +24,32 @@ pub mod tell;
 pub mod tell_steps;
 
 pub fn patch_check_formula(formula: &[u8], answer: &mut [u64; 16])
-    ensures { answer.new ≡ told_answer (answered (check_formula_call limits formula.now)) }
+    ensures { answer.new ≡ told_answer (check_formula_call limits formula.now) }
 {
     tell(reader::check_formula(formula), answer);
 }
 
 pub fn patch_check_term(term: &[u8], answer: &mut [u64; 16])
-    ensures { answer.new ≡ told_answer (answered (check_term_call limits term.now)) }
+    ensures { answer.new ≡ told_answer (check_term_call limits term.now) }
 {
     tell(reader::check_term(term), answer);
 }
 
 pub fn patch_check_proof(proof: &[u8], answer: &mut [u64; 16])
-    ensures { answer.new ≡ told_answer (answered (check_proof_call limits proof.now)) }
+    ensures { answer.new ≡ told_answer (check_proof_call limits proof.now) }
 {
     tell(proof::check_proof(proof), answer);
 }
 
 pub fn patch_formula_text(formula: &[u8], out: &mut [u8], answer: &mut [u64; 16])
-    ensures answer_after { answer.new ≡ told_answer (answered (formula_text_call limits formula.now out.old).answer) }
+    ensures answer_after { answer.new ≡ told_answer ((formula_text_call limits formula.now out.old).answer) }
     ensures out_after { out.new ≡ (formula_text_call limits formula.now out.old).output }
 {
     tell(formula_text::pretty(formula, out), answer);
 }
 
 pub fn patch_term_text(term: &[u8], out: &mut [u8], answer: &mut [u64; 16])
-    ensures answer_after { answer.new ≡ told_answer (answered (text_call limits term.now out.old).answer) }
+    ensures answer_after { answer.new ≡ told_answer ((text_call limits term.now out.old).answer) }
     ensures out_after { out.new ≡ (text_call limits term.now out.old).output }
 {
     tell(term_text::pretty(term, out), answer);
@@ -58,13 +57,13 @@ pub fn patch_term_text(term: &[u8], out: &mut [u8], answer: &mut [u64; 16])
 
 // An exported function cannot hand back a part of the caller's bytes, so it tells where the part stands.
 pub fn patch_child(term: &[u8], k: usize, answer: &mut [u64; 16])
-    ensures { answer.new ≡ told_piece (piece_of (locate_call limits term.now k)) }
+    ensures { answer.new ≡ told_places (locate_call limits term.now k) }
 {
-    tell_piece(child::locate(term, k), answer);
+    tell_places(child::locate(term, k), answer);
 }
 
 pub fn patch_free_vars(term: &[u8], out: &mut [u8], answer: &mut [u64; 16])
-    ensures answer_after { answer.new ≡ told_answer (answered (free_vars_call limits term.now out.old).answer) }
+    ensures answer_after { answer.new ≡ told_answer ((free_vars_call limits term.now out.old).answer) }
     ensures out_after { out.new ≡ (free_vars_call limits term.now out.old).output }
 {
     tell(free::free_vars(term, out), answer);
@@ -78,7 +77,7 @@ pub fn patch_substitute(
     scratch: &mut [u8],
     answer: &mut [u64; 16],
 )
-    ensures answer_after { answer.new ≡ told_answer (answered (substitute_call limits term.now name.now value.now out.old scratch.old).answer) }
+    ensures answer_after { answer.new ≡ told_answer ((substitute_call limits term.now name.now value.now out.old scratch.old).answer) }
     ensures out_after { out.new ≡ (substitute_call limits term.now name.now value.now out.old scratch.old).output }
     ensures scratch_after { scratch.new ≡ (substitute_call limits term.now name.now value.now out.old scratch.old).scratch }
 {
@@ -114,7 +113,7 @@ pub fn patch_normalize_bounded(
 }
 
 pub fn patch_is_normal(term: &[u8], answer: &mut [u64; 16])
-    ensures { answer.new ≡ told_normal (normal_answered (is_normal_call limits term.now)) }
+    ensures { answer.new ≡ told_verdict (is_normal_call limits term.now) }
 {
-    tell_normal(step::is_normal(term), answer);
+    tell_verdict(step::is_normal(term), answer);
 }

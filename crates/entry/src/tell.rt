@@ -1,86 +1,79 @@
 // Answers, told as 16 numbers: a refusal's number, place and input, or three zeros; the values of the answer; zeros. (Steps and reductions: tell_steps.rt.)
-ghost use Rattle.std.specs.Prelude.{◌≡◌};
-ghost use Rattle.entry.specs.Told.{told_refusal, told_answer};
-ghost use Rattle.entry.specs.Child.{ordered, told_piece};
-ghost use Rattle.entry.specs.Straight.{told_verdict};
+#![tactic(auto, unfolding(crate::specs::Told::told_refusal, crate::specs::Told::told_answer, crate::specs::Told::told_verdict, crate::specs::Child::told_places, crate::specs::Extraction::told_extraction))]
+
+ghost use Rattle.std.specs.Prelude.{◌≡◌, ◌≤◌, length};
+ghost use Rattle.rules.specs.Refusal.{number_of};
+ghost use Rattle.entry.specs.Told.{told, told_refusal, told_answer, told_verdict};
+ghost use Rattle.entry.specs.Child.{ordered, told_places};
 ghost use Rattle.entry.specs.Extraction.{told_extraction};
 
 use extract::Extraction;
-use rules::{Answer, Refusal};
-use straight::Verdict;
-use term::child::Piece;
+use rules::{Places, Refusal};
+
+// The values of an answer, between zeros.
+pub(crate) fn put_values(values: &[u64], numbers: &mut [u64; 16])
+    requires { length values.now ≤ 13 }
+    ensures { numbers.new ≡ told 0 0 0 values.now }
+{
+    *numbers = [0; 16];
+    numbers[3..3 + values.len()].copy_from_slice(values);
+}
+
+// A refusal, and values beside it.
+pub(crate) fn put_refusal(r: Refusal, values: &[u64], numbers: &mut [u64; 16])
+    requires { length values.now ≤ 13 }
+    ensures { numbers.new ≡ told (number_of r.reason) r.place r.input values.now }
+{
+    put_values(values, numbers);
+    numbers[0] = u64::from(r.reason.number());
+    numbers[1] = r.place as u64;
+    numbers[2] = u64::from(r.input);
+}
 
 // A refusal, told as numbers.
 pub fn tell_refusal(r: Refusal, told: &mut [u64; 16])
     ensures { told.new ≡ told_refusal r }
 {
-    let number = r.number as u64;
-    let place = r.place as u64;
-    let input = r.input as u64;
-    *told = [number, place, input, 0, 0, 0, 0, 0, 0, 0, 0, 0, 0, 0, 0, 0];
+    put_refusal(r, &[], told);
 }
 
 // A count or a refusal, told as numbers.
-pub fn tell(answer: Answer, told: &mut [u64; 16])
+pub fn tell(answer: Result<usize, Refusal>, told: &mut [u64; 16])
     ensures { told.new ≡ told_answer answer }
 {
     match answer {
-        Answer::Good(n) => {
-            *told = [0, 0, 0, n as u64, 0, 0, 0, 0, 0, 0, 0, 0, 0, 0, 0, 0];
-        }
-        Answer::Refused(r) => {
-            tell_refusal(r, told);
-        }
-    }
-}
-
-// Where a child stands, told as numbers.
-pub fn tell_piece(piece: Piece, told: &mut [u64; 16])
-    requires { ordered piece }
-    ensures { told.new ≡ told_piece piece }
-{
-    match piece {
-        Piece::Part { from, end } => {
-            let start = from as u64;
-            let length = (end - from) as u64;
-            *told = [0, 0, 0, start, length, 0, 0, 0, 0, 0, 0, 0, 0, 0, 0, 0];
-        }
-        Piece::Missing(r) => {
-            tell_refusal(r, told);
-        }
+        Ok(n) => put_values(&[n as u64], told),
+        Err(r) => tell_refusal(r, told),
     }
 }
 
 // Yes, no or a refusal, told as numbers.
-pub fn tell_verdict(v: Verdict, told: &mut [u64; 16])
-    ensures { told.new ≡ told_verdict v }
+pub fn tell_verdict(verdict: Result<bool, Refusal>, told: &mut [u64; 16])
+    ensures { told.new ≡ told_verdict verdict }
 {
-    match v {
-        Verdict::Good(yes) => {
-            if yes {
-                *told = [0, 0, 0, 1, 0, 0, 0, 0, 0, 0, 0, 0, 0, 0, 0, 0];
-            } else {
-                *told = [0, 0, 0, 0, 0, 0, 0, 0, 0, 0, 0, 0, 0, 0, 0, 0];
-            }
-        }
-        Verdict::Refused(r) => {
-            tell_refusal(r, told);
-        }
+    match verdict {
+        Ok(yes) => put_values(&[u64::from(yes)], told),
+        Err(r) => tell_refusal(r, told),
+    }
+}
+
+// Where a child stands, told as numbers.
+pub fn tell_places(places: Result<Places, Refusal>, told: &mut [u64; 16])
+    requires { ordered places }
+    ensures { told.new ≡ told_places places }
+{
+    match places {
+        Ok(p) => put_values(&[p.from as u64, (p.end - p.from) as u64], told),
+        Err(r) => tell_refusal(r, told),
     }
 }
 
 // A length and a counter, or a refusal, told as numbers.
-pub fn tell_extraction(made: Extraction, told: &mut [u64; 16])
+pub fn tell_extraction(made: Result<Extraction, Refusal>, told: &mut [u64; 16])
     ensures { told.new ≡ told_extraction made }
 {
     match made {
-        Extraction::Made { bytes, counter } => {
-            let length = bytes as u64;
-            let next = counter as u64;
-            *told = [0, 0, 0, length, next, 0, 0, 0, 0, 0, 0, 0, 0, 0, 0, 0];
-        }
-        Extraction::Refused(r) => {
-            tell_refusal(r, told);
-        }
+        Ok(made) => put_values(&[made.bytes as u64, u64::from(made.counter)], told),
+        Err(r) => tell_refusal(r, told),
     }
 }

@@ -1,13 +1,16 @@
 // Steps and reductions, told as numbers.
-ghost use Rattle.std.specs.Prelude.{◌≡◌};
-ghost use Rattle.entry.specs.Steps.{number_of_rule, bit, told_step, told_normal, told_reduction, told_reduced};
+#![tactic(auto, unfolding(crate::specs::Steps::told_step, crate::specs::Steps::told_reduction, crate::specs::Steps::told_reduced))]
 
-use crate::tell::tell_refusal;
-use reduction::{Reduced, Reduction};
-use rules::Rule;
-use step::{Normality, Stepped};
+ghost use Rattle.std.specs.Prelude.{◌≡◌};
+ghost use Rattle.entry.specs.Steps.{number_of_rule, told_step, told_reduction, told_reduced};
+
+use crate::tell::{put_refusal, put_values, tell_refusal};
+use reduction::{Reduction, Unreduced};
+use rules::{Refusal, Rule};
+use step::Stepped;
 
 // The number of a rule, from 1.
+// Kept: C is told these numbers (include/patch.h), whatever the order in the enum.
 fn rule_number(rule: Rule) -> u64
     ensures { result ≡ number_of_rule rule }
 {
@@ -23,45 +26,17 @@ fn rule_number(rule: Rule) -> u64
     }
 }
 
-fn bit_of(b: bool) -> u64
-    ensures { result ≡ bit b }
-{
-    if b { 1 } else { 0 }
-}
-
 // A step, told as numbers.
-pub fn tell_step(stepped: Stepped, told: &mut [u64; 16])
+pub fn tell_step(stepped: Result<Stepped, Refusal>, told: &mut [u64; 16])
     ensures { told.new ≡ told_step stepped }
 {
     match stepped {
-        Stepped::Normal => {
-            *told = [0, 0, 0, 0, 0, 0, 0, 0, 0, 0, 0, 0, 0, 0, 0, 0];
+        Ok(Stepped::Normal) => put_values(&[0, 0, 0], told),
+        Ok(Stepped::Found(found)) => {
+            let rule = rule_number(found.rule);
+            put_values(&[rule, found.place as u64, found.length as u64], told);
         }
-        Stepped::Found(found) => {
-            let by = found.rule;
-            let rule = rule_number(by);
-            let place = found.place as u64;
-            let length = found.length as u64;
-            *told = [0, 0, 0, rule, place, length, 0, 0, 0, 0, 0, 0, 0, 0, 0, 0];
-        }
-        Stepped::Refused(r) => {
-            tell_refusal(r, told);
-        }
-    }
-}
-
-// Whether a term is normal, told as numbers.
-pub fn tell_normal(normality: Normality, told: &mut [u64; 16])
-    ensures { told.new ≡ told_normal normality }
-{
-    match normality {
-        Normality::Known(normal) => {
-            let yes = bit_of(normal);
-            *told = [0, 0, 0, yes, 0, 0, 0, 0, 0, 0, 0, 0, 0, 0, 0, 0];
-        }
-        Normality::Refused(r) => {
-            tell_refusal(r, told);
-        }
+        Err(r) => tell_refusal(r, told),
     }
 }
 
@@ -69,39 +44,29 @@ pub fn tell_normal(normality: Normality, told: &mut [u64; 16])
 fn tell_reduction(reduction: Reduction, told: &mut [u64; 16])
     ensures { told.new ≡ told_reduction reduction }
 {
-    let normal = bit_of(reduction.normal);
-    let length = reduction.length as u64;
     let counts = reduction.counts;
-    let steps = reduction.steps as u64;
-    let app = counts.app as u64;
-    let lets = counts.lets as u64;
-    let case = counts.case as u64;
-    let fst = counts.fst as u64;
-    let snd = counts.snd as u64;
-    let derelict = counts.derelict as u64;
-    let copy = counts.copy as u64;
-    let discard = counts.discard as u64;
-    *told = [
-        0, 0, 0, steps, normal, length, app, lets, case, fst, snd, derelict, copy, discard, 0, 0,
+    let values = [
+        u64::from(reduction.steps),
+        u64::from(reduction.normal),
+        reduction.length as u64,
+        u64::from(counts.app),
+        u64::from(counts.lets),
+        u64::from(counts.case),
+        u64::from(counts.fst),
+        u64::from(counts.snd),
+        u64::from(counts.derelict),
+        u64::from(counts.copy),
+        u64::from(counts.discard),
     ];
+    put_values(&values, told);
 }
 
 // A reduction or a refusal, told as numbers.
-pub fn tell_reduced(reduced: Reduced, told: &mut [u64; 16])
+pub fn tell_reduced(reduced: Result<Reduction, Unreduced>, told: &mut [u64; 16])
     ensures { told.new ≡ told_reduced reduced }
 {
     match reduced {
-        Reduced::Stopped(reduction) => {
-            tell_reduction(reduction, told);
-        }
-        Reduced::Refused { refusal, length } => {
-            let number = refusal.number as u64;
-            let place = refusal.place as u64;
-            let input = refusal.input as u64;
-            let left = length as u64;
-            *told = [
-                number, place, input, left, 0, 0, 0, 0, 0, 0, 0, 0, 0, 0, 0, 0,
-            ];
-        }
+        Ok(reduction) => tell_reduction(reduction, told),
+        Err(Unreduced { refusal, length }) => put_refusal(refusal, &[length as u64], told),
     }
 }

@@ -3,14 +3,12 @@
 
 ghost use Rattle.std.specs.Prelude.{◌≡◌};
 ghost use Rattle.rules.specs.Limits.{limits};
-ghost use Rattle.rules.specs.Refusal.{answered};
-ghost use Rattle.step.specs.Answers.{step_answered, normal_answered};
+ghost use Rattle.step.specs.Answers.{step_answered};
 ghost use Rattle.reduction.specs.Answers.{reduced_by};
 ghost use Rattle.rules.specs.Calls.{check_term_call, check_formula_call, check_proof_call, formula_text_call, text_call, locate_call, free_vars_call, substitute_call, step_call, reduce_call, is_normal_call};
-ghost use Rattle.term.specs.Child.{piece_of};
-ghost use Rattle.entry.specs.Told.{told_answer};
-ghost use Rattle.entry.specs.Child.{told_piece};
-ghost use Rattle.entry.specs.Steps.{told_step, told_normal, told_reduced};
+ghost use Rattle.entry.specs.Told.{told_answer, told_verdict};
+ghost use Rattle.entry.specs.Child.{told_places};
+ghost use Rattle.entry.specs.Steps.{told_step, told_reduced};
 
 pub mod files;
 pub mod proofs_to_terms;
@@ -18,28 +16,28 @@ pub mod straight_terms;
 
 #[unsafe(no_mangle)]
 pub extern "C" fn patch_check_formula(formula: &[u8], answer: &mut [u64; 16])
-    ensures { answer.new ≡ told_answer (answered (check_formula_call limits formula.now)) }
+    ensures { answer.new ≡ told_answer (check_formula_call limits formula.now) }
 {
     entry::patch_check_formula(formula, answer);
 }
 
 #[unsafe(no_mangle)]
 pub extern "C" fn patch_check_term(term: &[u8], answer: &mut [u64; 16])
-    ensures { answer.new ≡ told_answer (answered (check_term_call limits term.now)) }
+    ensures { answer.new ≡ told_answer (check_term_call limits term.now) }
 {
     entry::patch_check_term(term, answer);
 }
 
 #[unsafe(no_mangle)]
 pub extern "C" fn patch_check_proof(proof: &[u8], answer: &mut [u64; 16])
-    ensures { answer.new ≡ told_answer (answered (check_proof_call limits proof.now)) }
+    ensures { answer.new ≡ told_answer (check_proof_call limits proof.now) }
 {
     entry::patch_check_proof(proof, answer);
 }
 
 #[unsafe(no_mangle)]
 pub extern "C" fn patch_formula_text(formula: &[u8], out: &mut [u8], answer: &mut [u64; 16])
-    ensures answer_after { answer.new ≡ told_answer (answered (formula_text_call limits formula.now out.old).answer) }
+    ensures answer_after { answer.new ≡ told_answer ((formula_text_call limits formula.now out.old).answer) }
     ensures out_after { out.new ≡ (formula_text_call limits formula.now out.old).output }
 {
     entry::patch_formula_text(formula, out, answer);
@@ -47,7 +45,7 @@ pub extern "C" fn patch_formula_text(formula: &[u8], out: &mut [u8], answer: &mu
 
 #[unsafe(no_mangle)]
 pub extern "C" fn patch_term_text(term: &[u8], out: &mut [u8], answer: &mut [u64; 16])
-    ensures answer_after { answer.new ≡ told_answer (answered (text_call limits term.now out.old).answer) }
+    ensures answer_after { answer.new ≡ told_answer ((text_call limits term.now out.old).answer) }
     ensures out_after { out.new ≡ (text_call limits term.now out.old).output }
 {
     entry::patch_term_text(term, out, answer);
@@ -55,14 +53,14 @@ pub extern "C" fn patch_term_text(term: &[u8], out: &mut [u8], answer: &mut [u64
 
 #[unsafe(no_mangle)]
 pub extern "C" fn patch_child(term: &[u8], k: usize, answer: &mut [u64; 16])
-    ensures { answer.new ≡ told_piece (piece_of (locate_call limits term.now k)) }
+    ensures { answer.new ≡ told_places (locate_call limits term.now k) }
 {
     entry::patch_child(term, k, answer);
 }
 
 #[unsafe(no_mangle)]
 pub extern "C" fn patch_free_vars(term: &[u8], out: &mut [u8], answer: &mut [u64; 16])
-    ensures answer_after { answer.new ≡ told_answer (answered (free_vars_call limits term.now out.old).answer) }
+    ensures answer_after { answer.new ≡ told_answer ((free_vars_call limits term.now out.old).answer) }
     ensures out_after { out.new ≡ (free_vars_call limits term.now out.old).output }
 {
     entry::patch_free_vars(term, out, answer);
@@ -77,7 +75,7 @@ pub extern "C" fn patch_substitute(
     scratch: &mut [u8],
     answer: &mut [u64; 16],
 )
-    ensures answer_after { answer.new ≡ told_answer (answered (substitute_call limits term.now name.now value.now out.old scratch.old).answer) }
+    ensures answer_after { answer.new ≡ told_answer ((substitute_call limits term.now name.now value.now out.old scratch.old).answer) }
     ensures out_after { out.new ≡ (substitute_call limits term.now name.now value.now out.old scratch.old).output }
     ensures scratch_after { scratch.new ≡ (substitute_call limits term.now name.now value.now out.old scratch.old).scratch }
 {
@@ -115,7 +113,7 @@ pub extern "C" fn patch_normalize_bounded(
 
 #[unsafe(no_mangle)]
 pub extern "C" fn patch_is_normal(term: &[u8], answer: &mut [u64; 16])
-    ensures { answer.new ≡ told_normal (normal_answered (is_normal_call limits term.now)) }
+    ensures { answer.new ≡ told_verdict (is_normal_call limits term.now) }
 {
     entry::patch_is_normal(term, answer);
 }

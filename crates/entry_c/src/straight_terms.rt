@@ -2,12 +2,11 @@
 ghost use Rattle.std.specs.Prelude.{◌≡◌};
 ghost use Rattle.rules.specs.Limits.{limits};
 ghost use Rattle.rules.specs.Calls.{is_straight_call};
-ghost use Rattle.straight.specs.Verdict.{verdict};
-ghost use Rattle.entry.specs.Straight.{told_verdict};
+ghost use Rattle.entry.specs.Told.{told_verdict};
 
 #[unsafe(no_mangle)]
 pub extern "C" fn patch_is_straight(term: &[u8], answer: &mut [u64; 16])
-    ensures { answer.new ≡ told_verdict (verdict (is_straight_call limits term.now)) }
+    ensures { answer.new ≡ told_verdict (is_straight_call limits term.now) }
 {
     entry::straight_terms::patch_is_straight(term, answer);
 }

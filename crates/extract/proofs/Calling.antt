@@ -6,12 +6,12 @@ use mathlib.Core.List.{List, []}
 use native.Mathlib.Omega.{arith}
 use lib.ListN.{length, replicate}
 use borrow.Author.Tests.{le-leb}
-use Rattle.std.specs.Prelude.{if◌then◌else◌}
+use Rattle.std.specs.Prelude.{if◌then◌else◌, Ok, Err}
 use Rattle.rules.specs.Basic.{Bytes, ◌≤?◌, ◌<?◌}
 use Rattle.rules.specs.Limits.{limits, output_room, scratch_room, entry_room, most_counter}
 use Rattle.rules.specs.declared.Refusal.{Refusal}
-use Rattle.rules.specs.declared.Answer.TheVariants.{Good, Refused as Bad}
-use Rattle.rules.specs.Refusal.{Outcome, good, refused, mapped, answered, refuse}
+use Rattle.rules.specs.Refusal.{Outcome, mapped, refuse}
+use Rattle.rules.specs.declared.Reason.TheVariants.{ShortBuffer, Outgrows, CounterOver}
 use Rattle.rules.specs.Term.{Term, fits}
 use Rattle.rules.specs.Proof.{Proof, rules}
 use Rattle.rules.specs.Reading.{read_proof}
@@ -26,11 +26,10 @@ use Rattle.extract.specs.Sizes.{extract-sizes}
 use Rattle.extract.specs.Whole.{decided, outcome, extraction, told, Finished, Checked}
 use Rattle.extract.specs.Ending.{Alone}
 use Rattle.extract.specs.declared.Extraction.{Extraction}
-use Rattle.extract.specs.declared.Extraction.TheVariants.{Refused}
 
 -- extraction decides by sizes, and these are the term's
 agree : (a b : Bool) (e : Term × ℕ)
-    → ◌≡◌ {A = Outcome (Term × ℕ)} (elim a [ true ↦ refuse 9 0 0 | false ↦ elim b [ true ↦ good e | false ↦ refuse 8 0 0 ] ]) (decided a b e)
+    → ◌≡◌ {A = Outcome (Term × ℕ)} (elim a [ true ↦ refuse CounterOver 0 0 | false ↦ elim b [ true ↦ Ok e | false ↦ refuse Outgrows 0 0 ] ]) (decided a b e)
 agree true b e = refl
 agree false true e = refl
 agree false false e = refl
@@ -42,12 +41,12 @@ from_is n p =
     ∙ ap (λ (z : Size × ℕ). decided (most_counter <? z.1) (size_fits limits z.0) (extract terms p [] n)) (extract-sizes p [] n)
 
 told_is : (n : ℕ) (o : Outcome (Term × ℕ)) → told o ≡ extraction (extract_ending o).says (counter_after n (extract_ending o).says o)
-told_is n (good e) = refl
-told_is n (refused q) = refl
+told_is n (Ok e) = refl
+told_is n (Err q) = refl
 
 module _ (n : ℕ) (p out scratch : Bytes) where
   -- with that much room, what the proof comes to
-  call-is : (b : Bool) → work_room limits out scratch ≡ b → (o : Outcome (Term × ℕ)) → proof_outcome limits n p ≡ o → {r : Extraction} {out' scratch' : Bytes}
+  call-is : (b : Bool) → work_room limits out scratch ≡ b → (o : Outcome (Term × ℕ)) → proof_outcome limits n p ≡ o → {r : Outcome Extraction} {out' scratch' : Bytes}
       → r ≡ extraction (lent b (extract_ending o)).says (counter_after n (lent b (extract_ending o)).says o)
       → out' ≡ filled out (lent b (extract_ending o)).writes → scratch' ≡ cleared 0 scratch (lent b (extract_ending o)).says → Alone n p out scratch r out' scratch'
   unfolding extract_call
@@ -65,19 +64,19 @@ module _ (n : ℕ) (p out scratch : Bytes) where
       room es h = both (entry_room limits ≤? length es) (le-leb (entry_room limits) (length es) h)
 
   module _ {b : Bool} (w : Rooms (length out) (length scratch) b) where
-    pub no_room : b ≡ true → {r : Extraction} → r ≡ told (refuse 1 0 0) → Alone n p out scratch r out scratch
+    pub no_room : b ≡ true → {r : Outcome Extraction} → r ≡ told (refuse ShortBuffer 0 0) → Alone n p out scratch r out scratch
     no_room e q = call-is false (w.few e) (proof_outcome limits n p) refl q refl refl
 
     module _ (h : b ≡ false) where
       enough : work_room limits out scratch ≡ true
       enough = rw (le-leb (output_room limits) (length out) (w.many h).0, le-leb (scratch_room limits) (length scratch) (w.many h).1)
 
-      pub bad-proof : (q : Refusal) → answered (mapped rules (read_proof limits 1 p)) ≡ Bad q → Alone n p out scratch (Refused q) out scratch
+      pub bad-proof : (q : Refusal) → mapped rules (read_proof limits 1 p) ≡ Err q → Alone n p out scratch (Err q) out scratch
       bad-proof q e =
           let r = refuses-proof limits 1 p e in
-          call-is true enough (refused q) (rw r) refl refl (sym (ap (λ (b : Bool). if b then scratch else replicate (length scratch) 0) (proof-spares limits 1 p q r)))
+          call-is true enough (Err q) (rw r) refl refl (sym (ap (λ (b : Bool). if b then scratch else replicate (length scratch) 0) (proof-spares limits 1 p q r)))
 
-      module _ (m : ℕ) (o : Octets p) (e : answered (mapped rules (read_proof limits 1 p)) ≡ Good m) where
+      module _ (m : ℕ) (o : Octets p) (e : mapped rules (read_proof limits 1 p) ≡ Ok m) where
         pub value : Proof
         value = (accepts-proof limits 1 p o e).value
 
@@ -89,7 +88,7 @@ module _ (n : ℕ) (p out scratch : Bytes) where
         unfolding value
         outcome-is = let a = accepts-proof limits 1 p o e in rw a.is (from_is n a.value)
 
-        pub good-proof : {r : Extraction} {out' scratch' : Bytes} → Finished (extract terms value [] n) out scratch r out' scratch' → Alone n p out scratch r out' scratch'
+        pub good-proof : {r : Outcome Extraction} {out' scratch' : Bytes} → Finished (extract terms value [] n) out scratch r out' scratch' → Alone n p out scratch r out' scratch'
         good-proof f =
             let z = outcome (extract terms value [] n) in
             call-is true enough z outcome-is (f.says ∙ told_is n z) f.leaves f.clears

@@ -8,11 +8,11 @@ ghost use Rattle.proof_draft.specs.Entries.{none, zeroed, pairs};
 ghost use Rattle.extract.specs.Whole.{Checked};
 ghost use Rattle.extract.specs.Ending.{Extracts, Closes};
 
-use crate::ROW;
 use crate::ending::{Ended, begin, close};
-use proof_draft::entry::{CutEntry, clear_rows};
+use draft::row::NO_ROW;
+use proof_draft::entry::{CutEntry, NO_ENTRY};
 use proof_draft::walk::draft_rule;
-use rules::{Answer, MOST_RULES};
+use rules::{MOST_RULES, Refusal};
 
 #[derive(Clone, Copy)]
 pub struct Extractor {
@@ -33,7 +33,7 @@ impl Extractor {
         entries: &mut [CutEntry],
         out: &mut [u8],
         scratch: &mut [u8],
-    ) -> Answer
+    ) -> Result<usize, Refusal>
         ensures { Extracts (extract_call limits self.old.counter proof.now out.old scratch.old (pairs entries.old))
             result out.new scratch.new (pairs entries.new) self.new.counter }
     {
@@ -55,12 +55,12 @@ fn walk_proof(
     ensures { (entries.new ≡ zeroed none result.clears entries.old) × ((p : Proof) → Checked proof.now out.old limits.rules p
         → Closes counter (length entries.old) (extract_of terms p [] counter) out.old scratch.old result out.new scratch.new) }
 {
-    let mut rows = [0usize; ROW * MOST_RULES];
+    let mut rows = [NO_ROW; MOST_RULES];
     let start = counter as usize;
     let draft = draft_rule(proof, 0, entries, 0, &mut rows, 0, start);
     let room = entries.len();
     let end = close(counter, room, proof, &rows, draft, out, scratch);
-    clear_rows(entries, end.clears);
+    entries[..end.clears].fill(NO_ENTRY);
     end
 }
 
@@ -75,10 +75,8 @@ fn extract_with(
     ensures { Extracts (extract_call limits counter proof.now out.old scratch.old (pairs entries.old))
         result.answer out.new scratch.new (pairs entries.new) result.counter }
 {
-    let room = entries.len();
-    let begun = begin(counter, room, proof, out, scratch);
-    if begun.goes {
-        return walk_proof(counter, proof, entries, out, scratch);
+    match begin(counter, entries.len(), proof, out, scratch) {
+        Some(end) => end,
+        None => walk_proof(counter, proof, entries, out, scratch),
     }
-    begun
 }

@@ -5,36 +5,38 @@ ghost use Rattle.extract.specs.Whole.{Finishes, Finished};
 
 use crate::Extraction;
 use buffer::run;
-use draft::size::fits;
+use draft::row::Row;
+use draft::size::{Size, fits};
 use draft::write::put_part;
 use proof_draft::put::Drafted;
-use rules::{MOST_COUNTER, Refusal};
+use rules::{MOST_COUNTER, Reason, Refusal};
 
 // The term of a draft, unless its counter or its size is over the most.
 pub fn finish(
     proof: &[u8],
-    rows: &[usize],
+    rows: &[Row],
     draft: Drafted,
-    sizes: &mut [usize],
+    sizes: &mut [Size],
     out: &mut [u8],
     scratch: &mut [u8],
-) -> Extraction
+) -> Result<Extraction, Refusal>
     requires { (t : Term) × (n : ℕ) × Finishes proof.now rows.now draft sizes.old out.old (t, n) }
     ensures { (t : Term) → (n : ℕ) → Finishes proof.now rows.now draft sizes.old out.old (t, n)
         → Finished (t, n) out.old scratch.old result out.new scratch.new }
 {
     if MOST_COUNTER < draft.counter {
-        return Extraction::Refused(Refusal::of_no_input(9));
+        return Err(Refusal::of_no_input(Reason::CounterOver));
     }
-    if fits(proof, rows, draft.used, draft.part, sizes) {
-        let end = put_part(proof, rows, draft.used, draft.part, out, 0);
+    let used = &rows[..draft.used];
+    if fits(proof, used, draft.part, sizes) {
+        let end = put_part(proof, used, draft.part, out, 0);
         run::clear(out, end);
         run::clear(scratch, 0);
-        return Extraction::Made {
+        return Ok(Extraction {
             bytes: end,
             counter: draft.counter as u32,
-        };
+        });
     }
     run::clear(scratch, 0);
-    Extraction::Refused(Refusal::of_no_input(8))
+    Err(Refusal::of_no_input(Reason::Outgrows))
 }

@@ -1,5 +1,7 @@
 -- The call as a whole: each way out ends as the rules say, and a formula that was read can be printed.
 -- Assumes nothing.
+use Rattle.rules.specs.declared.Reason.TheVariants.{ShortBuffer}
+use Rattle.std.specs.Prelude.{Ok, Err}
 use Prim.Native.Nat.{ℕ, ◌+◌, ◌-◌, ◌<◌, ◌≤◌}
 use mathlib.Core.Path.{◌≡◌, ap}
 use mathlib.Core.List.{List, ◌++◌}
@@ -7,9 +9,7 @@ use native.Mathlib.Omega.{arith}
 use lib.ListN.{length, replicate}
 use Rattle.rules.specs.Limits.{limits, formula_text_room}
 use Rattle.rules.specs.Name.{name_most}
-use Rattle.rules.specs.Refusal.{good, answered}
 use Rattle.rules.specs.declared.Refusal.{Refusal}
-use Rattle.rules.specs.declared.Answer.TheVariants.{Good, Refused}
 use Rattle.rules.specs.Formula.{Formula, encode_formula, formula_nodes}
 use Rattle.rules.specs.Reading.{read_formula}
 use Rattle.rules.specs.Text.{text_of_formula}
@@ -22,24 +22,24 @@ use Rattle.words.specs.Call as call
 use Rattle.formula_text.specs.Task.{FormulaTask}
 
 module _ (s o : List ℕ) where
-  pub short : length o < formula_text_room limits → Ends (Refused (record { number = 1; place = 0; input = 0 })) o (formula_text_call limits s o)
+  pub short : length o < formula_text_room limits → Ends (Err (record { reason = ShortBuffer; place = 0; input = 0 })) o (formula_text_call limits s o)
   unfolding formula_text_call
   short h = call.short text_of_formula (formula_text_room limits) o h (read_formula limits 1 s)
 
   module _ (h : formula_text_room limits ≤ length o) where
-    pub not-read : (q : Refusal) → answered (check_formula_call limits s) ≡ Refused q → Ends (Refused q) o (formula_text_call limits s o)
+    pub not-read : (q : Refusal) → check_formula_call limits s ≡ Err q → Ends (Err q) o (formula_text_call limits s o)
     unfolding formula_text_call check_formula_call
     not-read q e = call.not-read text_of_formula (formula_text_room limits) o h (read_formula limits 1 s) q (refuses formula_nodes (read_formula limits 1 s) e)
 
-    pub was_read : (x : Formula) → read_formula limits 1 s ≡ good x → Ends (Good (length (text_of_formula x))) (text_of_formula x ++ replicate (length o - length (text_of_formula x)) 0) (formula_text_call limits s o)
+    pub was_read : (x : Formula) → read_formula limits 1 s ≡ Ok x → Ends (Ok (length (text_of_formula x))) (text_of_formula x ++ replicate (length o - length (text_of_formula x)) 0) (formula_text_call limits s o)
     unfolding formula_text_call
     was_read x e = call.was_read text_of_formula (formula_text_room limits) o h (read_formula limits 1 s) x e
 
-    pub read : {n : ℕ} → answered (check_formula_call limits s) ≡ Good n → Accepts formula_nodes (read_formula limits 1 s) n
+    pub read : {n : ℕ} → check_formula_call limits s ≡ Ok n → Accepts formula_nodes (read_formula limits 1 s) n
     unfolding check_formula_call
     read e = accepts formula_nodes (read_formula limits 1 s) e
 
-    module _ (x : Formula) (e : read_formula limits 1 s ≡ good x) where
+    module _ (x : Formula) (e : read_formula limits 1 s ≡ Ok x) where
       accepted : FormulaIn limits s x
       accepted = formula-sound limits 1 s x e
 

@@ -2,7 +2,9 @@
 ghost use Rattle.rules.specs.Formula.{Formula};
 ghost use Rattle.formula_text.specs.Task.{Leaf, FormulaTask, FormulaDone};
 
-use crate::sign::{opening, shape, sign};
+use crate::shape::{Shape, names_of, shape_of};
+use crate::sign::{opening, sign};
+use rules::LONGEST_ATOM;
 use words::name::few;
 use words::word::{byte, closed, places};
 
@@ -12,30 +14,33 @@ fn leaf(s: &[u8], at: usize, out: &mut [u8], to: usize) -> usize
     ensures { (f : Formula) → Leaf f → FormulaTask s.now at out.old to f → FormulaDone at out.old to f out.new result }
 {
     let tag = s[at];
-    let named = 1 - shape(tag as usize);
-    let n = named * s[at + named] as usize;
-    let from = at + 1 + named;
-    let a = few(s, from, n, out, to);
+    let names = names_of(tag);
+    let n = names * s[at + names] as usize;
+    let from = at + 1 + names;
+    let a = few::<LONGEST_ATOM>(s, from, n, out, to);
     places(from + n, sign(tag, out, a))
 }
 
-// A formula of any shape: a call on each of its parts. It hands back the place after the text, times 65,536, and the place after the bytes.
+// A formula of any shape: a call on each of its parts. It hands back the place after the text, times 65,536, and the place after the bytes,
+// since a struct would come back by way of memory.
 pub fn walk(s: &[u8], at: usize, out: &mut [u8], to: usize) -> usize
     requires { (f : Formula) × FormulaTask s.now at out.old to f }
     ensures { (f : Formula) → FormulaTask s.now at out.old to f → FormulaDone at out.old to f out.new result }
 {
     let tag = s[at];
-    let k = shape(tag as usize);
-    if k < 2 {
-        return leaf(&*s, at, out, to);
-    }
-    let a = byte(out, to, opening(tag));
     let x = at + 1;
-    if k == 2 {
-        return walk(&*s, x, out, a);
+    match shape_of(tag) {
+        Shape::Leaf => leaf(&*s, at, out, to),
+        Shape::Exponential => {
+            let a = byte(out, to, opening(tag));
+            walk(&*s, x, out, a)
+        }
+        Shape::Connective => {
+            let a = byte(out, to, b'(');
+            let l = walk(&*s, x, out, a);
+            let b = sign(tag, out, l / 65536);
+            let r = walk(&*s, l % 65536, out, b);
+            closed(out, r, 1)
+        }
     }
-    let l = walk(&*s, x, out, a);
-    let b = sign(tag, out, l / 65536);
-    let r = walk(&*s, l % 65536, out, b);
-    closed(out, r, 1)
 }

@@ -5,11 +5,11 @@ use mathlib.Core.List.{List, [], ◌∷◌, ◌++◌, append-nil, append_assoc}
 use native.Mathlib.Numerals.{add-one}
 use native.Mathlib.Omega.{arith}
 use lib.ListN.{length, get_or, take, drop, length-append, take-append-drop}
-use lib.Seq.{slice, take-suc, take_all}
+use lib.Seq.{slice, take-suc}
 use Rattle.rules.specs.Basic.{Bytes}
 use Rattle.rules.specs.Name.{Name, encode_name, encode_names}
 use Rattle.buffer.specs.Wrote.{Wrote}
-use Rattle.buffer.specs.Writing.{slice_is, chain, wrote_none}
+use Rattle.buffer.specs.Writing.{slice_is, chain}
 use Rattle.term.specs.Place.{NameAt}
 use Rattle.term.proofs.node.Names.{head_byte}
 use Rattle.free.specs.Search.{at}
@@ -31,9 +31,6 @@ fewer xs i =
 -- the first i names stand in the output
 abbrev pub Listing : Bytes → List ℕ → ℕ → Bytes → Bytes → ℕ → ℕ → Type 0
 Listing s row n out₀ out i to = (xs : List Name) → Writes s row n out₀ xs → Wrote out₀ 0 (encode_names (take i xs)) out to
-
-pub listed-none : (s : Bytes) (row : List ℕ) (n : ℕ) (out : Bytes) → Listing s row n out out 0 0
-listed-none s row n out xs w = wrote_none out 0
 
 module _ {s : Bytes} {row : List ℕ} {n : ℕ} {out₀ out : Bytes} {i to : ℕ} (f : Listing s row n out₀ out i to) (h : i < n) where
   name-long : (x : Name) → NameAt s (get_or row i 0) x → get_or s (get_or row i 0) 0 ≡ length x
@@ -63,7 +60,3 @@ module _ {s : Bytes} {row : List ℕ} {n : ℕ} {out₀ out : Bytes} {i to : ℕ
       let d : slice p (p + 1 + get_or s p 0) s ≡ encode_name x = ap (λ k. slice p k s) e ∙ slice_is p s (encode_name x) y.rest y.bytes in
       let u : Wrote out to (encode_name x) out' to' = rw d at v in
       rw (one_more xs i (omega (arith, w.held.many))) (chain (f xs w) u)
-
-pub listed-all : {s : Bytes} {row : List ℕ} {n : ℕ} {out₀ out : Bytes} {i to : ℕ} → Listing s row n out₀ out i to → n ≤ i
-    → (xs : List Name) → Writes s row n out₀ xs → Wrote out₀ 0 (encode_names xs) out to
-listed-all {i = i} f h xs w = let e : take i xs ≡ xs = take_all i xs (omega (arith, w.held.many)) in rw e at (f xs w)

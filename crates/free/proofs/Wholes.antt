@@ -4,7 +4,7 @@ use mathlib.Core.Path.{◌≡◌, refl, ap, ◌∙◌}
 use mathlib.Core.List.{List, []}
 use native.Mathlib.Nat.{not-suc-le-zero}
 use native.Mathlib.Omega.{arith}
-use lib.ListN.{length, replicate}
+use lib.ListN.{length, take, replicate}
 use lib.Seq.{sets}
 use Rattle.rules.specs.Basic.{Bytes}
 use Rattle.rules.specs.Name.{encode_names}
@@ -18,6 +18,7 @@ use Rattle.free.specs.Gather.{gather-free}
 use Rattle.free.specs.Rows.{binders, row_end, Held, Passed, Writes}
 use Rattle.free.specs.Walk.{Task, Done}
 use Rattle.free.specs.Whole.{Lists, Listed}
+use Rattle.free.proofs.row.States.{held-taken}
 
 none-held : (s : Bytes) (row : List ℕ) → Held s row 0 []
 none-held s row = record { many = refl; room = omega arith; each = λ i h. absurd (not-suc-le-zero h) }
@@ -37,8 +38,8 @@ module _ {s out : Bytes} {t : Term} (w : Lists s out t) where
   fits : length (encode_names (free t)) ≤ length out
   fits = omega (arith, free-size t, w.short, ap length w.bytes, w.room)
 
-  pub gathered : {row : List ℕ} {m c : ℕ} → Done s 0 row binders 0 t [] [] m c → Writes s row c out (free t)
-  gathered z = record { held = rw (gather-free t) at z.state.found; room = fits }
+  pub gathered : {row : List ℕ} {m c : ℕ} → Done s 0 row binders 0 t [] [] m c → Writes s (take c row) (length (take c row)) out (free t)
+  gathered z = record { held = held-taken (rw (gather-free t) at z.state.found); room = fits }
 
   module _ {out₁ : Bytes} {p : ℕ} (x : Wrote out 0 (encode_names (free t)) out₁ p) where
     pub within : p ≤ length out₁

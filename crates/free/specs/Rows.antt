@@ -1,5 +1,5 @@
 -- What the rows of places hold. Assumes nothing: these are definitions.
-use Rattle.std.specs.Prelude.{ℕ, ◌+◌, ◌*◌, ◌≤◌, ◌<◌, ◌≡◌, true, false, List, ◌∷◌, ◌++◌, length, get_or, take, drop}
+use Rattle.std.specs.Prelude.{ℕ, ◌+◌, ◌*◌, ◌≤◌, ◌<◌, ◌≡◌, true, false, List, ◌∷◌, ◌++◌, length, get_or, take, drop, Option, Result, MatchOption, MatchResult}
 use Rattle.rules.specs.Basic.{Bytes}
 use Rattle.rules.specs.Name.{Name, encode_names, among}
 use Rattle.rules.specs.Limits.{limits}
@@ -7,7 +7,6 @@ use Rattle.rules.specs.Free.{insert}
 use Rattle.term.specs.Place.{NameAt}
 use Rattle.free.specs.Ordered.{Ordered}
 use Rattle.free.specs.Search.{at}
-use Rattle.free.specs.declared.slot.Slot.{Slot}
 
 -- where the places of the binders end in a row; how many guesses stand behind them, and where the row ends
 abbrev pub binders : ℕ
@@ -31,22 +30,20 @@ pub record Sought (s : Bytes) (p : ℕ) (row : List ℕ) (n : ℕ) (x : Name) (x
   pub held : Held s row n xs
   pub ordered : Ordered xs
 
--- x is there already, or goes in at the slot
-pub record Goes (x : Name) (xs : List Name) (r : Slot) : Type 0 where
-  pub within : r.at ≤ length xs
-  pub there : r.there ≡ true → insert x xs ≡ xs
-  pub new : r.there ≡ false → insert x xs ≡ take r.at xs ++ x ∷ drop r.at xs
+-- x stands there already, or goes in there
+abbrev pub Goes : Name → List Name → Result ℕ ℕ → Type 0
+Goes x xs r =
+    MatchResult r (λ i. (i < length xs) × (insert x xs ≡ xs))
+    (λ i. (i ≤ length xs) × (insert x xs ≡ take i xs ++ x ∷ drop i xs))
 
 -- the places from low on are those of the binders xs in s, the nearest first
 pub record Passed (s : Bytes) (row : List ℕ) (low : ℕ) (xs : List Name) : Type 0 where
   pub many : low + length xs ≡ binders
   pub each : (i : ℕ) → i < length xs → NameAt s (get_or row (low + i) 0) (at xs i)
 
--- a search through the binders xs has found x there or come to their end
-pub record Scanned (x : Name) (xs : List Name) (r : ℕ) : Type 0 where
-  pub within : r ≤ binders
-  pub hit : r < binders → among x xs ≡ true
-  pub missed : binders ≤ r → among x xs ≡ false
+-- a search through the binders xs has found x there, or x is none of them
+abbrev pub Scanned : Name → List Name → Option ℕ → Type 0
+Scanned x xs r = MatchOption r (among x xs ≡ false) (λ i. (i < binders) × (among x xs ≡ true))
 
 -- the row with p put in at i, and the entries from i to n moved up by one
 pub record Opened (row row' : List ℕ) (n i p : ℕ) : Type 0 where

@@ -1,5 +1,5 @@
 -- What the row holds at a time, and what meeting a name makes of it. Assumes nothing: these are definitions.
-use Rattle.std.specs.Prelude.{ℕ, ◌+◌, ◌≤◌, ◌<◌, ◌≡◌, Bool, true, false, ◌⊎◌, List, length, if◌then◌else◌}
+use Rattle.std.specs.Prelude.{ℕ, ◌+◌, ◌≤◌, ◌<◌, ◌≡◌, ◌⊎◌, List, length, if◌then◌else◌}
 use Rattle.rules.specs.Basic.{Bytes}
 use Rattle.rules.specs.Name.{Name, among}
 use Rattle.rules.specs.Free.{insert}
@@ -15,10 +15,9 @@ pub record State (s : Bytes) (row : List ℕ) (low n : ℕ) (xs l : List Name) :
   pub short : length s ≤ 65536
   pub long : length row ≡ row_end
 
--- an entry g that is said to be in use is that of a name found or of a binder passed
-abbrev pub Live : ℕ → ℕ → ℕ → Bool → Type 0
-Live g low n true = (g < n) ⊎ ((low ≤ g) × (g < binders))
-Live g low n false = Unit {0}
+-- the entry g is that of a name found or of a binder passed
+abbrev pub Live : ℕ → ℕ → ℕ → Type 0
+Live g low n = (g < n) ⊎ ((low ≤ g) × (g < binders))
 
 -- a variable of the name x is met
 pub record Meets (s : Bytes) (p : ℕ) (row : List ℕ) (low n : ℕ) (x : Name) (xs l : List Name) : Type 0 where

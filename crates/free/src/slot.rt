@@ -4,75 +4,44 @@ ghost use Rattle.rules.specs.Name.{Name};
 ghost use Rattle.term.specs.Place.{NameAt};
 ghost use Rattle.free.specs.Rows.{binders, Passed, Scanned, Sought, Goes, Opened};
 
-use crate::order::{Stands, order_at, same_at};
+use crate::order::{order_at, same_at};
 use rules::MOST_NODES;
+use std::cmp::Ordering;
 
 // Where the places of the binders end in the row: a node brings at most two names.
 pub const BINDERS: usize = 2 * MOST_NODES;
 
-// Where in the row the nearest binder passed of the name at `at` stands; BINDERS if there is none.
-pub fn passed(s: &[u8], at: usize, row: &[u16], low: usize) -> usize
+// Where in the row the nearest binder passed of the name at `at` stands.
+pub fn passed(s: &[u8], at: usize, row: &[u16], low: usize) -> Option<usize>
     requires name_at { (x : Name) × (xs : List Name) × NameAt s.now at x × Passed s.now row.now low xs }
     requires binders_in_bounds { binders ≤ length row.now }
     ensures { (x : Name) → (xs : List Name) → NameAt s.now at x → Passed s.now row.now low xs → Scanned x xs result }
 {
-    let mut i = low;
-    while i < BINDERS {
-        let p = row[i] as usize;
-        if same_at(s, at, p) {
-            return i;
+    for i in low..BINDERS {
+        if same_at(s, at, row[i] as usize) {
+            return Some(i);
         }
-        i += 1;
     }
-    i
+    None
 }
 
-// Where a name goes in a row of names in order, and whether it is there already.
-#[derive(Clone, Copy)]
-pub struct Slot {
-    pub at: usize,
-    pub there: bool,
-}
-
-// A place from lo on, before hi.
-fn half_way(lo: usize, hi: usize) -> usize
-    requires { lo < hi }
-    ensures { (lo ≤ result) × (result < hi) }
-{
-    lo + (hi - lo) / 2
-}
-
-// Where the name at `at` goes among the first n of the row, by halves.
-pub fn slot_for(s: &[u8], at: usize, row: &[u16], n: usize) -> Slot
-    requires { (x : Name) × (xs : List Name) × Sought s.now at row.now n x xs }
-    ensures { (x : Name) → (xs : List Name) → Sought s.now at row.now n x xs → Goes x xs result }
+// Where the name at `at` stands among names in order, which are told by their places, or where it would go.
+// Kept: the library's search calls its closure on any entry, and `order_at` may be called with a name's place alone.
+pub fn slot_for(s: &[u8], at: usize, found: &[u16]) -> Result<usize, usize>
+    requires { (x : Name) × (xs : List Name) × Sought s.now at found.now (length found.now) x xs }
+    ensures { (x : Name) → (xs : List Name) → Sought s.now at found.now (length found.now) x xs → Goes x xs result }
 {
     let mut lo = 0;
-    let mut hi = n;
+    let mut hi = found.len();
     while lo < hi {
-        let mid = half_way(lo, hi);
-        let p = row[mid] as usize;
-        match order_at(s, p, at) {
-            Stands::Before => {
-                lo = mid + 1;
-                continue;
-            }
-            Stands::Same => {
-                return Slot {
-                    at: mid,
-                    there: true,
-                };
-            }
-            Stands::After => {
-                hi = mid;
-                continue;
-            }
+        let mid = lo + (hi - lo) / 2;
+        match order_at(s, found[mid] as usize, at) {
+            Ordering::Less => lo = mid + 1,
+            Ordering::Equal => return Ok(mid),
+            Ordering::Greater => hi = mid,
         }
     }
-    Slot {
-        at: lo,
-        there: false,
-    }
+    Err(lo)
 }
 
 // Puts p into the row at i; the entries from i to n move up by one.
@@ -80,11 +49,6 @@ pub fn open_at(row: &mut [u16], n: usize, i: usize, p: u16)
     requires { (i ≤ n) × (n < length row.old) }
     ensures { Opened row.old row.new n i p }
 {
-    let mut j = n;
-    while i < j {
-        let v = row[j - 1];
-        row[j] = v;
-        j -= 1;
-    }
+    row.copy_within(i..n, i + 1);
     row[i] = p;
 }

@@ -1,4 +1,5 @@
 pub mod Below
+pub mod Handed
 pub mod Outcome
 pub mod reading
 pub mod size

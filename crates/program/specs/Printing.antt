@@ -1,8 +1,8 @@
 -- What printing leaves in its buffers. Assumes nothing: these are definitions.
-use Rattle.std.specs.Prelude.{ℕ, ◌+◌}
+use Rattle.std.specs.Prelude.{ℕ, ◌+◌, Ok, Err}
 use Rattle.rules.specs.Basic.{Bytes}
 use Rattle.rules.specs.Limits.{Limits, text_room}
-use Rattle.rules.specs.Refusal.{good, refused, ◌>>=◌}
+use Rattle.rules.specs.Refusal.{◌>>=◌}
 use Rattle.rules.specs.Reading.{read_term}
 use Rattle.rules.specs.Reduction.{reduce}
 use Rattle.rules.specs.Calls.{reduce_call}
@@ -22,7 +22,7 @@ printed_for L s = report (do
 
 -- what a run leaves in the buffers of reduction: nothing new if the file is refused
 unfoldable pub term_left : Limits → (file term scratch : Bytes) → Bytes
-term_left L f t s = elim (opened L a_term f) [ good c ↦ (reduce_call L c program_steps t s).output | refused r ↦ t ]
+term_left L f t s = elim (opened L a_term f) [ Ok c ↦ (reduce_call L c program_steps t s).output | Err r ↦ t ]
 
 unfoldable pub scratch_left : Limits → (file term scratch : Bytes) → Bytes
-scratch_left L f t s = elim (opened L a_term f) [ good c ↦ (reduce_call L c program_steps t s).scratch | refused r ↦ s ]
+scratch_left L f t s = elim (opened L a_term f) [ Ok c ↦ (reduce_call L c program_steps t s).scratch | Err r ↦ s ]

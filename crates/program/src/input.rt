@@ -12,6 +12,7 @@ pub fn read_full<R: Read>(input: &mut R, room: &mut [u8]) -> io::Result<usize>
     ensures ends { IfOk result (λ n. n < length room.new → IsAtEnd (R.remaining input.new)) }
 {
     let mut n = 0;
+    // Kept: a turn reads as many bytes as the input gives, so neither a for nor an iterator counts them.
     while n < room.len() {
         let more = input.read(&mut room[n..])?;
         if more == 0 {

@@ -10,8 +10,8 @@ ghost use Rattle.program.specs.Printing.{printed_room, printed_for, term_left, s
 
 use crate::line::{put_counts, put_refusal};
 use buffer::run;
-use reduction::{Reduced, normalize_bounded};
-use rules::{Answer, Kind, OUTPUT_ROOM, PROGRAM_STEPS, SCRATCH_ROOM, TEXT_ROOM};
+use reduction::normalize_bounded;
+use rules::{Kind, OUTPUT_ROOM, PROGRAM_STEPS, SCRATCH_ROOM, TEXT_ROOM};
 use term_text::pretty;
 
 // A term's text, and the line of the counts.
@@ -25,12 +25,12 @@ fn print_reduced(n: usize, term: &mut [u8], scratch: &mut [u8], out: &mut [u8]) 
     ensures scratch_after { scratch.new ≡ (reduce_call limits (take n out.old) program_steps term.old scratch.old).scratch }
 {
     match normalize_bounded(&out[..n], PROGRAM_STEPS, term, scratch) {
-        Reduced::Refused { refusal, length: _ } => put_refusal(refusal, out, 0),
-        Reduced::Stopped(told) => {
+        Err(unreduced) => put_refusal(unreduced.refusal, out, 0),
+        Ok(told) => {
             let end = told.length;
             match pretty(&term[..end], out) {
-                Answer::Refused(_) => 0,
-                Answer::Good(past) => {
+                Err(_) => 0,
+                Ok(past) => {
                     out[past] = 10;
                     put_counts(told.steps, told.counts, told.normal, out, past + 1)
                 }
@@ -47,8 +47,8 @@ fn print_file(file: &[u8], term: &mut [u8], scratch: &mut [u8], out: &mut [u8]) 
     ensures scratch_after { scratch.new ≡ scratch_left limits file.now term.old scratch.old }
 {
     match stored::load(Kind::Term, file, out) {
-        Answer::Refused(r) => put_refusal(r, out, 0),
-        Answer::Good(n) => print_reduced(n, term, scratch, out),
+        Err(r) => put_refusal(r, out, 0),
+        Ok(n) => print_reduced(n, term, scratch, out),
     }
 }
 

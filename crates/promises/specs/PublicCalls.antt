@@ -7,7 +7,8 @@ use Rattle.rules.specs.Limits.{limits, entry_room}
 use Rattle.rules.specs.Refusal.{Outcome, mapped}
 use Rattle.rules.specs.declared.Kind.{Kind}
 use Rattle.rules.specs.Buffers.{Wrote, Worked, filled}
-use Rattle.rules.specs.Calls.{check_term_call, check_formula_call, check_proof_call, is_normal_call, is_straight_call, Places, locate_call, child_call, child_fault_call, text_call, formula_text_call, free_vars_call, store_call, load_call, substitute_call, StepAnswer, step_call, ReduceCall, reduce_call, Entry, no_entry, Extracted, extract_call}
+use Rattle.rules.specs.declared.Places.{Places}
+use Rattle.rules.specs.Calls.{check_term_call, check_formula_call, check_proof_call, is_normal_call, is_straight_call, locate_call, child_call, child_fault_call, text_call, formula_text_call, free_vars_call, store_call, load_call, substitute_call, StepAnswer, step_call, ReduceCall, reduce_call, Entry, no_entry, Extracted, extract_call}
 use Rattle.rules.specs.Program.{patchrun}
 use Rattle.rules.specs.declared.Refusal.{Refusal}
 use Rattle.program.specs.Printing.{term_left, scratch_left}

@@ -4,13 +4,15 @@ use Prim.Native.Nat.{ℕ, ◌+◌, ◌-◌, ◌<◌, ◌≤◌}
 use native.Mathlib.Omega.{arith}
 use mathlib.Core.Path.{◌≡◌, sym, ap, ◌∙◌}
 use lib.ListN.{drop}
+use Rattle.std.specs.Prelude.{Result, Ok, Err}
+use Rattle.rules.specs.declared.Fault.{Fault}
 use Rattle.rules.specs.Basic.{Bytes}
 use Rattle.rules.specs.Limits.{limits}
 use Rattle.rules.specs.Proof.{proof, row}
 use Rattle.rules.specs.Reading.{many, proof_at}
 use Rattle.laws.specs.reading.Holds.{told as holding}
 use Rattle.laws.specs.reading.SteadyProof.{steady-proof}
-use Rattle.proof.specs.Seen.{Reached, Reading, Conclusion, To, Fault, Before, NoCount, met_by, seen, found, count_seen, within}
+use Rattle.proof.specs.Seen.{Reached, Reading, Conclusion, met_by, seen, found, count_seen, within, before}
 use Rattle.proof.specs.Stages.{top_of, own_of, linear_of, row_of}
 use Rattle.proof.proofs.conclusion.Views.{seen-made, seen-bad, Came, came, many-none, many-one, many-off, many-on}
 use Rattle.proof.proofs.conclusion.Ways.{Few, top-few, proof-few, proof-onward}
@@ -19,9 +21,9 @@ use Rattle.proof.proofs.conclusion.Faults.{top-fault}
 use Rattle.proof.specs.OneNumber.{Far}
 
 -- What stands before a rule's premises, as `read_conclusion` tells it.
-module _ (s : Bytes) (from : Reached) (far : Far s from) (r : Conclusion)
+module _ (s : Bytes) (from : Reached) (far : Far s from) (r : Result Conclusion Fault)
     (says : r ≡ count_seen (λ x. x.premises) (found (top_of (within (record { rules = limits.rules; formulas = limits.formulas }))) s from)) where
-  abbrev top : Conclusion
+  abbrev top : Result Conclusion Fault
   top = count_seen (λ x. x.premises) (found (top_of limits) s from)
 
   -- the limits on bytes and on nodes of a term are not asked for
@@ -29,16 +31,16 @@ module _ (s : Bytes) (from : Reached) (far : Far s from) (r : Conclusion)
   unfolding top_of own_of linear_of row_of
   is-top = says
 
-  module _ {n p : ℕ} (e : r ≡ NoCount n p) where
-    pub fault-near : p < 65536
+  module _ {f : Fault} (e : r ≡ Err f) where
+    pub fault-near : f.place < 65536
     fault-near = omega (arith, top-fault limits s from far.inside (sym is-top ∙ e), far.short)
 
-    pub rule-off : (d : ℕ) → limits.rules ≤ from.rules + d → Fault n p ≡ seen (found (proof_at limits d) s from)
+    pub rule-off : (d : ℕ) → limits.rules ≤ from.rules + d → Err f ≡ seen (found (proof_at limits d) s from)
     rule-off d enough =
         let b = split limits d (met_by from) from.next (drop from.next s) enough in
         sym (rw (b.is, count-bad (λ x. x.premises) (found (top_of limits) s from) (sym is-top ∙ e)))
 
-  module _ {q : Reached} {n : ℕ} (e : r ≡ Before q n) where
+  module _ {q : Reached} {n : ℕ} (e : r ≡ before q n) where
     w : Topped limits s from q n
     w = topped limits s from far.inside (sym is-top ∙ e)
 
@@ -72,7 +74,7 @@ module _ (s : Bytes) (n : ℕ) (from : Reached) where
   abbrev Row : Reading → Type 0
   Row a = (d : ℕ) → limits.rules ≤ from.rules + d → a ≡ seen (found (many (proof_at limits d) n) s from)
 
-  pub going-none : n ≡ 0 → Row (To from)
+  pub going-none : n ≡ 0 → Row (Ok from)
   going-none z d e = sym (many-none (proof_at limits d) s from n z)
 
   -- the next premise
@@ -82,12 +84,12 @@ module _ (s : Bytes) (n : ℕ) (from : Reached) where
         let one : left ≡ 1 = omega (arith, g.waits) in
         says d (omega (arith, g.counted)) ∙ sym (many-one (proof_at limits d) s q left one) ∙ g.same d h
 
-    pub going-off : {i p : ℕ} → a ≡ Fault i p → Row a
-    going-off {i} {p} e d h =
-        let f = seen-bad (found (proof_at limits d) s q) (sym (says d (omega (arith, g.counted))) ∙ e) in
-        e ∙ sym (many-off (proof_at limits d) s q left (left - 1) (omega (arith, g.waits)) i p f) ∙ g.same d h
+    pub going-off : {f : Fault} → a ≡ Err f → Row a
+    going-off {f} e d h =
+        let g' = seen-bad (found (proof_at limits d) s q) (sym (says d (omega (arith, g.counted))) ∙ e) in
+        e ∙ sym (many-off (proof_at limits d) s q left (left - 1) (omega (arith, g.waits)) f.reason f.place g') ∙ g.same d h
 
-    pub going_on : {q' : Reached} → a ≡ To q' → 1 < left → Going s n from q' (left - 1)
+    pub going_on : {q' : Reached} → a ≡ Ok q' → 1 < left → Going s n from q' (left - 1)
     going_on {q'} e more =
         let w : (d : ℕ) → limits.rules ≤ q.rules + d → Came s (found (proof_at limits d) s q) q' =
         λ d h. came (proof_at limits d) (steady-proof limits d) s q g.far.inside (sym (says d h) ∙ e) in

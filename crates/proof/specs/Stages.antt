@@ -1,5 +1,6 @@
 -- The reader of proofs (rules, Reading.antt) in the stages in which the code has it.
 -- Assumes nothing: these are definitions.
+use Rattle.rules.specs.declared.Reason.TheVariants.{NotListed}
 use Rattle.std.specs.Prelude.{ℕ, ◌+◌, ◌*◌, List}
 use Rattle.rules.specs.Basic.{◌≤?◌}
 use Rattle.rules.specs.Limits.{Limits}
@@ -37,7 +38,7 @@ linear_of L = do
   row_of L n
 
 unfoldable pub count_of : Reader Met ℕ
-count_of = byte_for (◌≤? 3) 4
+count_of = byte_for (◌≤? 3) NotListed
 
 -- what stands before the premises
 pub record Top : Type 0 where

@@ -8,30 +8,26 @@ ghost use Rattle.reader.specs.Classes.{Classes};
 ghost use Rattle.proof.specs.Seen.{seen, found, reached_at};
 ghost use Rattle.proof.specs.OneNumber.{told as told_by, Far};
 
-use crate::conclusion::{Conclusion, read_conclusion};
+use crate::conclusion::read_conclusion;
 use crate::one_number::{come_to, fault_at, told};
-use crate::reached::{Most, Reached, Reading};
-use rules::{MOST_FORMULA_NODES, MOST_RULES};
+use crate::reached::{Most, Reached};
 
 // A rule and all its premises, where so many rules and formula nodes were met before it.
+// Kept: three numbers and no `Reached`, since they are handed on in registers.
 #[cycle(read_premises_read_rule)]
 pub fn read_rule(s: &&[u8], t: &[u32; 256], next: usize, rules: usize, formulas: usize) -> usize
     requires classes { Classes formula_layout t.now }
     requires far { Far s.now.now (reached_at next rules formulas) }
     ensures { (depth : ℕ) → limits.rules ≤ rules + depth → told_by result ≡ seen (found (proof_at limits depth) s.now.now (reached_at next rules formulas)) }
 {
-    let most = Most {
-        rules: MOST_RULES,
-        formulas: MOST_FORMULA_NODES,
-    };
     let from = Reached {
         next,
         rules,
         formulas,
     };
-    match read_conclusion(*s, t, most, from) {
-        Conclusion::Before { reached, premises } => read_premises(s, t, reached, premises),
-        Conclusion::Fault { number, place } => fault_at(number, place),
+    match read_conclusion(*s, t, Most::LIMITS, from) {
+        Ok(conclusion) => read_premises(s, t, conclusion.reached, conclusion.premises),
+        Err(fault) => fault_at(fault),
     }
 }
 
@@ -43,25 +39,15 @@ fn read_premises(s: &&[u8], t: &[u32; 256], from: Reached, n: usize) -> usize
     ensures { (depth : ℕ) → limits.rules ≤ from.rules + depth → told_by result ≡ seen (found (many (proof_at limits depth) n) s.now.now from) }
 {
     if n == 0 {
-        return come_to(from.next, from.rules, from.formulas);
+        return come_to(from);
     }
-    let mut next = from.next;
-    let mut rules = from.rules;
-    let mut formulas = from.formulas;
-    let mut left = n;
-    while 1 < left {
-        let r = read_rule(s, t, next, rules, formulas);
+    let mut reached = from;
+    for _ in 1..n {
+        let r = read_rule(s, t, reached.next, reached.rules, reached.formulas);
         match told(r) {
-            Reading::To(past) => {
-                next = past.next;
-                rules = past.rules;
-                formulas = past.formulas;
-            }
-            Reading::Fault { number, place } => {
-                return r;
-            }
+            Ok(past) => reached = past,
+            Err(_) => return r,
         }
-        left -= 1;
     }
-    read_rule(s, t, next, rules, formulas)
+    read_rule(s, t, reached.next, reached.rules, reached.formulas)
 }

@@ -3,60 +3,62 @@ ghost use Rattle.std.specs.Prelude.{◌≡◌, ◌+◌, ◌^◌, ◌<◌};
 ghost use Rattle.proof.specs.Seen.{reached_past_byte, reached_past_tag, end_of};
 
 use reader::refused;
-use rules::Answer;
+use rules::{MOST_FORMULA_NODES, MOST_RULES, Reason, Refusal};
 
 // How far a reading has come: the next place, and the rules and formula nodes met so far.
-#[derive(Clone, Copy)]
+#[derive(Clone, Copy, Debug, PartialEq, Eq)]
 pub struct Reached {
     pub next: usize,
     pub rules: usize,
     pub formulas: usize,
 }
 
-// How far it has come, or a fault.
-#[derive(Clone, Copy)]
-pub enum Reading {
-    To(Reached),
-    Fault { number: u8, place: usize },
+impl Reached {
+    // The place after a byte.
+    pub fn past_byte(self) -> Reached
+        requires { self.next + 1 < 2 ^ 64 }
+        ensures { result ≡ reached_past_byte self }
+    {
+        Reached {
+            next: self.next + 1,
+            ..self
+        }
+    }
+
+    // The place after a rule's tag, where one rule more was met.
+    pub fn past_tag(self) -> Reached
+        requires { (self.next + 1 < 2 ^ 64) × (self.rules + 1 < 2 ^ 64) }
+        ensures { result ≡ reached_past_tag self }
+    {
+        Reached {
+            next: self.next + 1,
+            rules: self.rules + 1,
+            ..self
+        }
+    }
+
+    // What is told of an input of so many bytes, where its first rule ends here.
+    pub fn at_end(self, length: usize, input: u8) -> Result<usize, Refusal>
+        ensures { result ≡ end_of self length input }
+    {
+        if self.next < length {
+            return refused(Reason::LeftOver, self.next, input);
+        }
+        Ok(self.rules)
+    }
 }
 
 // How many rules and formula nodes a proof may have.
-#[derive(Clone, Copy)]
+// Kept: a parameter of `read_conclusion`, which is public and reads by any limits.
+#[derive(Clone, Copy, Debug, PartialEq, Eq)]
 pub struct Most {
     pub rules: usize,
     pub formulas: usize,
 }
 
-// The place after a byte.
-pub fn past_byte(from: Reached) -> Reached
-    requires { from.next + 1 < 2 ^ 64 }
-    ensures { result ≡ reached_past_byte from }
-{
-    Reached {
-        next: from.next + 1,
-        rules: from.rules,
-        formulas: from.formulas,
-    }
-}
-
-// The place after a rule's tag, where one rule more was met.
-pub fn past_tag(from: Reached) -> Reached
-    requires { (from.next + 1 < 2 ^ 64) × (from.rules + 1 < 2 ^ 64) }
-    ensures { result ≡ reached_past_tag from }
-{
-    Reached {
-        next: from.next + 1,
-        rules: from.rules + 1,
-        formulas: from.formulas,
-    }
-}
-
-// What is told of an input of so many bytes, where its first rule ends at `end`.
-pub fn at_end(end: Reached, length: usize, input: u8) -> Answer
-    ensures { result ≡ end_of end length input }
-{
-    if end.next < length {
-        return refused(7, end.next, input);
-    }
-    Answer::Good(end.rules)
+impl Most {
+    pub const LIMITS: Most = Most {
+        rules: MOST_RULES,
+        formulas: MOST_FORMULA_NODES,
+    };
 }

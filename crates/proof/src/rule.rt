@@ -6,11 +6,19 @@ ghost use Rattle.laws.specs.reading.WrittenProof.{carried};
 ghost use Rattle.proof.specs.Place.{FormulaAt, FormulasAt, ProofAt, ProofsAt, formulas_long, proofs_long};
 ghost use Rattle.proof.specs.Shape.{parts_after, Spread, rule_of, Sees};
 
-use crate::tag::{FORMULA, INDEX, carried_by};
+use crate::rule_tag::{CUT, FOCUS_NEGATIVE, FOCUS_POSITIVE};
+use reader::formula_tag::{LOLLI, NEG_ATOM, OF_COURSE, PAR, PLUS, TENSOR, WHY_NOT, WITH};
 use term::node::Row;
 
 // How many parts follow each tag of a formula: two bits a tag.
-const PARTS: usize = 155353728;
+// Kept: a number, as those of a term's tags (term::node), where a match on the tag makes a walk take twice as long.
+const PARTS: usize = 1 << (OF_COURSE * 2)
+    | 1 << (WHY_NOT * 2)
+    | 2 << (TENSOR * 2)
+    | 2 << (PAR * 2)
+    | 2 << (WITH * 2)
+    | 2 << (PLUS * 2)
+    | 2 << (LOLLI * 2);
 
 fn formula_parts(tag: usize) -> usize
     requires { tag < 32 }
@@ -24,9 +32,10 @@ fn look_formula(s: &[u8], at: usize) -> Row
     requires { (f : Formula) × FormulaAt s.now at f }
     ensures { (f : Formula) → FormulaAt s.now at f → Spread at f result }
 {
-    let tag = s[at] as usize;
+    let tag = s[at];
     let past = at + 1;
-    if tag < 3 {
+    // the two tags of atoms come first
+    if tag <= NEG_ATOM {
         let len = s[past] as usize;
         return Row {
             start: past + 1 + len,
@@ -35,11 +44,11 @@ fn look_formula(s: &[u8], at: usize) -> Row
     }
     Row {
         start: past,
-        parts: formula_parts(tag),
+        parts: formula_parts(tag as usize),
     }
 }
 
-// The place after n formulas.
+// The place after n formulas. A node's parts take its place in the row, so that no range counts the turns.
 pub fn skip_formulas(s: &[u8], at: usize, n: usize) -> usize
     requires { (fs : List Formula) × FormulasAt s.now at n fs }
     ensures { (fs : List Formula) → FormulasAt s.now at n fs → result ≡ at + formulas_long fs }
@@ -59,21 +68,22 @@ fn past_own(s: &[u8], at: usize) -> usize
     requires { (p : Proof) × ProofAt s.now at p }
     ensures { (p : Proof) → ProofAt s.now at p → result ≡ at + 1 + length (carried (rule_of p)) }
 {
+    let tag = s[at];
     let own = at + 1;
-    let carries = carried_by(s[at]);
-    if carries == FORMULA {
+    // Kept: tests and no match, with which a walk over a checked proof takes half as long again.
+    if tag == CUT {
         return skip_formulas(s, own, 1);
     }
-    if carries == INDEX {
+    if tag == FOCUS_POSITIVE || tag == FOCUS_NEGATIVE {
         return own + 2;
     }
     own
 }
 
 // A rule: its tag, where the formulas of `linear` are counted, how many premises there are, and where the first stands.
-#[derive(Clone, Copy)]
+#[derive(Clone, Copy, Debug, PartialEq, Eq)]
 pub struct Looked {
-    pub tag: usize,
+    pub tag: u8,
     pub linear: usize,
     pub premises: usize,
     pub first: usize,
@@ -83,7 +93,7 @@ pub fn look_rule(s: &[u8], at: usize) -> Looked
     requires { (p : Proof) × ProofAt s.now at p }
     ensures { (p : Proof) → ProofAt s.now at p → Sees at p result }
 {
-    let tag = s[at] as usize;
+    let tag = s[at];
     let linear = past_own(s, at);
     let many = s[linear] as usize;
     let count = skip_formulas(s, linear + 1, many);
@@ -97,6 +107,7 @@ pub fn look_rule(s: &[u8], at: usize) -> Looked
 }
 
 // The place after n proofs.
+// Kept: a twin of the loop above, since a trait or a closure for both would have to say what a look tells of any list of items, which is longer than the loop.
 pub fn skip_proofs(s: &[u8], at: usize, n: usize) -> usize
     requires { (ps : List Proof) × ProofsAt s.now at n ps }
     ensures { (ps : List Proof) → ProofsAt s.now at n ps → result ≡ at + proofs_long ps }

@@ -1,78 +1,61 @@
 // Reads a rule's tag, by what the rule carries.
-ghost use Rattle.std.specs.Prelude.{◌≡◌, drop};
+ghost use Rattle.std.specs.Prelude.{◌≡◌, ◌<◌, ◌≤◌, length, drop, OnOk, IfErr};
+ghost use Rattle.rules.specs.declared.Reason.TheVariants.{EndsInside};
 ghost use Rattle.rules.specs.Layout.{head_by_tag};
 ghost use Rattle.rules.specs.Proof.{rule_heads};
 ghost use Rattle.rules.specs.Reading.{tag as tag_of};
 ghost use Rattle.proof.specs.Seen.{carried_of, tag_seen};
 
-// Nothing, a formula, or an index; or a fault.
-#[derive(Clone, Copy)]
-pub enum Tag {
-    Plain,
-    Cut,
-    Focus,
-    Fault { number: u8, place: usize },
+use crate::rule_tag::{AXIOM, BLUR, CUT, FOCUS_NEGATIVE, FOCUS_POSITIVE};
+use rules::{Fault, Reason};
+
+// What a rule carries: nothing, a formula (Cut), or an index (either Focus).
+#[derive(Clone, Copy, Debug, PartialEq, Eq)]
+pub enum Carries {
+    Nothing,
+    Formula,
+    Index,
 }
 
-// The same as a number.
-const NO_RULE: u8 = 0;
-
-const NOTHING: u8 = 1;
-
-pub const FORMULA: u8 = 2;
-
-pub const INDEX: u8 = 3;
-
-// Those that carry something come first, so that a walk over a checked proof makes no other test.
-pub fn carried_by(tag: u8) -> u8
+// None for a tag that is no rule's: asked by a guard, since with a range of tags in its place a check of proofs takes a tenth longer.
+pub fn carried_by(tag: u8) -> Option<Carries>
     ensures { result ≡ carried_of (head_by_tag rule_heads tag) }
 {
-    if tag == 2 {
-        return FORMULA;
+    match tag {
+        CUT => Some(Carries::Formula),
+        FOCUS_POSITIVE | FOCUS_NEGATIVE => Some(Carries::Index),
+        _ if tag < AXIOM || BLUR < tag => None,
+        _ => Some(Carries::Nothing),
     }
-    if tag == 16 {
-        return INDEX;
+}
+
+// There is a byte at a place, or else the input ends there. It hands back no byte, with which a check of proofs takes 5 % longer.
+pub(crate) fn expect_byte(s: &[u8], at: usize) -> Result<(), Fault>
+    ensures ok { OnOk result (at < length s.now) }
+    ensures err { IfErr result (λ f. (length s.now ≤ at) × (f ≡ record { reason = EndsInside; place = at })) }
+{
+    if s.len() <= at {
+        return Err(Fault {
+            reason: Reason::EndsInside,
+            place: at,
+        });
     }
-    if tag == 17 {
-        return INDEX;
-    }
-    if tag < 1 {
-        return NO_RULE;
-    }
-    if 18 < tag {
-        return NO_RULE;
-    }
-    NOTHING
+    Ok(())
 }
 
 // The tag at a place, where `used` rules were met before.
-pub fn read_tag(s: &[u8], at: usize, used: usize, most: usize) -> Tag
+pub fn read_tag(s: &[u8], at: usize, used: usize, most: usize) -> Result<Carries, Fault>
     ensures { result ≡ tag_seen (tag_of most (head_by_tag rule_heads) used at (drop at s.now)) }
 {
-    if s.len() <= at {
-        return Tag::Fault {
-            number: 3,
-            place: at,
-        };
-    }
+    expect_byte(s, at)?;
     if most <= used {
-        return Tag::Fault {
-            number: 6,
+        return Err(Fault {
+            reason: Reason::OneTooMany,
             place: at,
-        };
+        });
     }
-    let carries = carried_by(s[at]);
-    if carries == NO_RULE {
-        return Tag::Fault {
-            number: 4,
-            place: at,
-        };
-    }
-    if carries == NOTHING {
-        return Tag::Plain;
-    }
-    if carries == FORMULA {
-        return Tag::Cut;
-    }
-    Tag::Focus
+    carried_by(s[at]).ok_or(Fault {
+        reason: Reason::NotListed,
+        place: at,
+    })
 }

@@ -1,4 +1,3 @@
 pub mod Stems
 pub mod Opposites
 pub mod Axioms
-pub mod Seeking

@@ -5,8 +5,7 @@ use Rattle.rules.specs.Basic.{Bytes}
 use Rattle.rules.specs.Name.{name_most, leads, Spelling}
 use Rattle.rules.specs.Layout.{Layout}
 use Rattle.rules.specs.Reading.{times, name, node}
-use Rattle.reader.specs.declared.class.Read.TheVariants.{Whole}
-use Rattle.reader.specs.View.{view}
+use Rattle.reader.specs.View.{view, past as whole}
 use Rattle.reader.specs.Letters.{letters_from}
 
 -- the name at `at` ends at r: its length is allowed, its first byte may lead, and it is no word
@@ -28,7 +27,7 @@ pub record NamesTo (s : Bytes) (P : Spelling) (at k r : ℕ) : Type 0 where
   pub near : r ≤ at + (name_most + 1) * k
   pub jumps : r ≡ jumped s at k
   pub few : letters_from s at (r - at) ≤ r - at - k
-  pub reads : (u : ℕ) → r ≤ length s → letters_from s at (r - at) ≡ r - at - k → view (times (name P) k u at (drop at s)) ≡ Whole r u
+  pub reads : (u : ℕ) → r ≤ length s → letters_from s at (r - at) ≡ r - at - k → view (times (name P) k u at (drop at s)) ≡ whole r u
 
 -- some nodes that were read from `at` on, where n were to be read: those of `known` that were not met are still to be read at r, if
 -- what stands in names is letters: all bytes but the tags and the lengths

@@ -1,5 +1,5 @@
 // What is read alike in terms and formulas: the classes of bytes, and names.
-ghost use Rattle.std.specs.Prelude.{◌≡◌, true, ◌-◌, ◌≤◌, length, replicate};
+ghost use Rattle.std.specs.Prelude.{◌≡◌, true, ◌+◌, ◌-◌, ◌≤◌, length, replicate};
 ghost use Rattle.std.proofs.lemmas.List.Edits.{sets};
 ghost use Rattle.rules.specs.Layout.{head_by_tag};
 ghost use Rattle.rules.specs.Name.{leads as leads_name, follows as follows_name, name_most};
@@ -16,11 +16,11 @@ pub enum Form {
     Formula,
 }
 
-// The place after what was read, and the nodes met so far; or a fault.
+// The place after what was read, and the nodes met so far.
 #[derive(Clone, Copy)]
-pub enum Read {
-    Whole { next: usize, met: usize },
-    Bad { number: u8, place: usize },
+pub struct Past {
+    pub next: usize,
+    pub met: usize,
 }
 
 // How many bytes a name may have.
@@ -98,44 +98,37 @@ const FORMULA_TAGS: [u32; 14] = [
     TAG + 2 * PART, // Lolli
 ];
 
-// The bytes from `from` to before `to` are of that class.
-fn mark(t: &mut [u32; 256], from: usize, to: usize, class: u32)
-    requires { to ≤ 256 }
-    ensures { t.new ≡ sets t.old from (replicate (to - from) class) }
+// The bytes from `from` to `to` are of that class.
+fn mark(t: &mut [u32; 256], from: u8, to: u8, class: u32)
+    requires { from ≤ to }
+    ensures { t.new ≡ sets t.old from (replicate (to + 1 - from) class) }
 {
-    let mut b = from;
-    while b < to {
-        t[b] = class;
-        b += 1;
-    }
+    t[from as usize..to as usize + 1].fill(class);
 }
 
 fn put_tags(t: &mut [u32; 256], tags: &[u32])
     requires { length tags.now ≤ 256 }
     ensures { t.new ≡ sets t.old 0 tags.now }
 {
-    let mut b = 0;
-    while b < tags.len() {
-        t[b] = tags[b];
-        b += 1;
-    }
+    t[..tags.len()].copy_from_slice(tags);
 }
 
 // The bytes of names: digits, letters and `_`.
 fn put_letters(t: &mut [u32; 256])
     ensures { t.new ≡ letters_in t.old }
 {
-    mark(t, 48, 58, DIGIT);
-    mark(t, 65, 91, LETTER);
-    mark(t, 95, 96, LETTER);
-    mark(t, 97, 123, LETTER);
+    mark(t, b'0', b'9', DIGIT);
+    mark(t, b'A', b'Z', LETTER);
+    mark(t, b'_', b'_', LETTER);
+    mark(t, b'a', b'z', LETTER);
 }
 
 // The letters that begin a word, counted from a small or a capital `a` on.
-fn put_beginnings(t: &mut [u32; 256], a: usize)
-    requires { a ≤ 97 }
-    ensures { t.new ≡ beginnings_in t.old a }
+fn put_beginnings(t: &mut [u32; 256], first: u8)
+    requires { first ≤ 97 }
+    ensures { t.new ≡ beginnings_in t.old first }
 {
+    let a = first as usize;
     t[a] = LETTER - OF_TWO - OF_SIX; // as absurd
     t[a + 2] = LETTER - OF_FOUR; // case copy
     t[a + 3] = LETTER - OF_SEVEN - OF_EIGHT; // discard derelict
@@ -151,7 +144,7 @@ pub fn letter_table() -> [u32; 256]
 {
     let mut t = [0u32; 256];
     put_letters(&mut t);
-    put_beginnings(&mut t, 97);
+    put_beginnings(&mut t, b'a');
     t
 }
 
@@ -164,7 +157,7 @@ pub fn table_of(form: Form) -> [u32; 256]
             put_tags(&mut t, &TERM_TAGS);
         }
         Form::Formula => {
-            put_beginnings(&mut t, 65);
+            put_beginnings(&mut t, b'A');
             put_tags(&mut t, &FORMULA_TAGS);
         }
     }

@@ -30,10 +30,10 @@ fn same_as(b: u8, k: u8, other: u8) -> u8
 fn letter(b: u8) -> u8
     ensures { result ≡ one (follows b) }
 {
-    let digit = within(b, 48, 57, 0);
-    let line = same_as(b, 95, digit);
-    let small = within(b, 97, 122, line);
-    within(b, 65, 90, small)
+    let digit = within(b, b'0', b'9', 0);
+    let line = same_as(b, b'_', digit);
+    let small = within(b, b'a', b'z', line);
+    within(b, b'A', b'Z', small)
 }
 
 // In a byte, so that many are counted at once.
@@ -42,10 +42,8 @@ fn count_block(s: &[u8], from: usize, to: usize) -> u8
     ensures { result ≡ letters_from s.now from (to - from) }
 {
     let mut count = 0;
-    let mut i = from;
-    while i < to {
+    for i in from..to {
         count += letter(s[i]);
-        i += 1;
     }
     count
 }
@@ -55,10 +53,7 @@ fn block_end(i: usize, to: usize) -> usize
     requires { i < to }
     ensures { (i < result) × (result ≤ to) × (result - i ≤ 128) }
 {
-    if to - i < 128 {
-        return to;
-    }
-    i + 128
+    i + (to - i).min(128)
 }
 
 pub fn count_letters(s: &[u8], from: usize, to: usize) -> usize

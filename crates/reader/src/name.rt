@@ -1,46 +1,38 @@
 // Skips names: a length byte, then letters that are no word.
-ghost use Rattle.std.specs.Prelude.{◌≡◌, true, ℕ, ◌+◌, ◌-◌, ◌≤◌, ◌<◌, length, take, drop};
+ghost use Rattle.std.specs.Prelude.{◌≡◌, true, ℕ, ◌+◌, ◌-◌, ◌≤◌, ◌<◌, length, take, drop, IfSome};
 ghost use Rattle.rules.specs.Name.{follows as follows_name, name_most};
+ghost use Rattle.rules.specs.declared.Reason.TheVariants.{BadName};
 ghost use Rattle.rules.specs.Reading.{byte_for, many, letters, spelled, times, name};
 ghost use Rattle.reader.specs.Classes.{Letters, Alphabet};
-ghost use Rattle.reader.specs.View.{Whole, view, skipped};
+ghost use Rattle.reader.specs.View.{past, fault, view, skipped};
 ghost use Rattle.reader.specs.Words.{spelling_of};
 
 use crate::class::{Form, follows, leads, longest_name, starts};
 use crate::word::is_word;
+use rules::{Fault, Reason};
 
-// The place after what was skipped, or a fault.
-#[derive(Clone, Copy)]
-pub enum Skip {
-    To(usize),
-    Fault { number: u8, place: usize },
-}
-
-fn fault(number: u8, place: usize) -> Skip
-    ensures { result ≡ Skip.Fault number place }
+pub fn fault<T>(reason: Reason, place: usize) -> Result<T, Fault>
+    ensures { result ≡ fault reason place }
 {
-    Skip::Fault { number, place }
+    Err(Fault { reason, place })
 }
 
 // The letters of a name after its first, up to `end`.
-fn skip_following(s: &[u8], t: &[u32; 256], at: usize, end: usize) -> Skip
+fn skip_following(s: &[u8], t: &[u32; 256], at: usize, end: usize) -> Result<usize, Fault>
     requires letters { Letters t.now }
-    requires end_in_bounds { end ≤ length s.now }
-    ensures { (u : ℕ) → skipped u result ≡ view (many (byte_for follows_name 5) (end - at) u at (drop at s.now)) }
+    requires end_in_bounds { (at ≤ end) × (end ≤ length s.now) }
+    ensures { (u : ℕ) → skipped u result ≡ view (many (byte_for follows_name BadName) (end - at) u at (drop at s.now)) }
 {
-    let mut p = at;
-    while p < end {
-        if follows(t, s[p]) {
-            p += 1;
-        } else {
-            return fault(5, p);
+    for p in at..end {
+        if !follows(t, s[p]) {
+            return fault(Reason::BadName, p);
         }
     }
-    Skip::To(p)
+    Ok(end)
 }
 
 // The letters of a name, up to `end`.
-fn skip_letters(s: &[u8], t: &[u32; 256], at: usize, end: usize) -> Skip
+fn skip_letters(s: &[u8], t: &[u32; 256], at: usize, end: usize) -> Result<usize, Fault>
     requires letters { Letters t.now }
     requires at_lt_end { (at < end) × (end ≤ length s.now) }
     ensures { (u : ℕ) → skipped u result ≡ view (letters (end - at) u at (drop at s.now)) }
@@ -49,7 +41,7 @@ fn skip_letters(s: &[u8], t: &[u32; 256], at: usize, end: usize) -> Skip
     if leads(t, s[at]) {
         skip_following(s, t, second, end)
     } else {
-        fault(5, at)
+        fault(Reason::BadName, at)
     }
 }
 
@@ -63,97 +55,90 @@ pub fn is_plain(s: &[u8], form: Form, t: &[u32; 256], at: usize, end: usize) -> 
         return true;
     }
     // no word ends in a digit
-    s[end - 1] < 65
+    s[end - 1] < b'A'
 }
 
 // The letters of a name, up to `end`, which are no word.
-pub fn skip_spelled(s: &[u8], form: Form, t: &[u32; 256], at: usize, end: usize) -> Skip
+pub fn skip_spelled(
+    s: &[u8],
+    form: Form,
+    t: &[u32; 256],
+    at: usize,
+    end: usize,
+) -> Result<usize, Fault>
     requires alphabet { Alphabet (spelling_of form) t.now }
     requires at_lt_end { (at < end) × (end ≤ at + name_most) × (end ≤ length s.now) }
     ensures { (u : ℕ) → skipped u result ≡ view (spelled (spelling_of form) (end - at) u at (drop at s.now)) }
 {
-    match skip_letters(s, t, at, end) {
-        Skip::To(next) => {
-            if is_plain(s, form, t, at, end) {
-                return Skip::To(next);
-            }
-            if is_word(s, form, at, end - at) {
-                return fault(15, at);
-            }
-            Skip::To(next)
-        }
-        Skip::Fault { number, place } => fault(number, place),
+    let next = skip_letters(s, t, at, end)?;
+    if is_plain(s, form, t, at, end) {
+        return Ok(next);
     }
+    if is_word(s, form, at, end - at) {
+        return fault(Reason::ReservedWord, at);
+    }
+    Ok(next)
 }
 
-// Where the name at `at` ends, if it is good and plainly no word, and else 0.
-pub fn plain_end(s: &[u8], form: Form, t: &[u32; 256], at: usize) -> usize
+// Where the name at `at` ends, if it is good and plainly no word.
+pub fn plain_end(s: &[u8], form: Form, t: &[u32; 256], at: usize) -> Option<usize>
     requires alphabet { Alphabet (spelling_of form) t.now }
     requires at_in_bounds { at < length s.now }
-    ensures { 0 < result → (u : ℕ) → Whole result u ≡ view (name (spelling_of form) u at (drop at s.now)) }
+    ensures { IfSome result (λ next. (u : ℕ) → past next u ≡ view (name (spelling_of form) u at (drop at s.now))) }
 {
     let n = s[at] as usize;
     let first = at + 1;
     let left = s.len() - first;
     if n < 1 {
-        return 0;
+        return None;
     }
     if longest_name(form) < n {
-        return 0;
+        return None;
     }
     if left < n {
-        return 0;
+        return None;
     }
     match skip_letters(s, t, first, first + n) {
-        Skip::To(past) => {
+        Ok(past) => {
             if is_plain(s, form, t, first, first + n) {
-                return past;
+                return Some(past);
             }
-            0
+            None
         }
-        Skip::Fault { number, place } => 0,
+        Err(_) => None,
     }
 }
 
-pub fn skip_name(s: &[u8], form: Form, t: &[u32; 256], at: usize) -> Skip
+pub fn skip_name(s: &[u8], form: Form, t: &[u32; 256], at: usize) -> Result<usize, Fault>
     requires { Alphabet (spelling_of form) t.now }
     ensures { (u : ℕ) → skipped u result ≡ view (name (spelling_of form) u at (drop at s.now)) }
 {
     if s.len() <= at {
-        return fault(3, at);
+        return fault(Reason::EndsInside, at);
     }
     let n = s[at] as usize;
     let first = at + 1;
     let left = s.len() - first;
     if n < 1 {
-        return fault(5, at);
+        return fault(Reason::BadName, at);
     }
     if longest_name(form) < n {
-        return fault(5, at);
+        return fault(Reason::BadName, at);
     }
     if left < n {
-        return fault(3, s.len());
+        return fault(Reason::EndsInside, s.len());
     }
     skip_spelled(s, form, t, first, first + n)
 }
 
-pub fn skip_names(s: &[u8], form: Form, t: &[u32; 256], at: usize, n: usize) -> Skip
+pub fn skip_names(s: &[u8], form: Form, t: &[u32; 256], at: usize, n: usize) -> Result<usize, Fault>
     requires alphabet { Alphabet (spelling_of form) t.now }
     requires at_in_bounds { at ≤ length s.now }
     ensures { (u : ℕ) → skipped u result ≡ view (times (name (spelling_of form)) n u at (drop at s.now)) }
 {
     let mut p = at;
-    let mut left = n;
-    while 0 < left {
-        match skip_name(s, form, t, p) {
-            Skip::To(next) => {
-                p = next;
-            }
-            Skip::Fault { number, place } => {
-                return fault(number, place);
-            }
-        }
-        left -= 1;
+    for _ in 0..n {
+        p = skip_name(s, form, t, p)?;
     }
-    Skip::To(p)
+    Ok(p)
 }

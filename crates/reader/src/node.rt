@@ -5,23 +5,15 @@ ghost use Rattle.reader.specs.Form.{layout_of};
 ghost use Rattle.reader.specs.Classes.{Classes};
 ghost use Rattle.reader.specs.View.{view};
 
-use crate::class::{Form, Read, code_of};
-use crate::name::{Skip, skip_names};
-
-pub fn bad(number: u8, place: usize) -> Read
-    ensures { result ≡ Read.Bad number place }
-{
-    Read::Bad { number, place }
-}
+use crate::class::{Form, Past, code_of};
+use crate::name::{fault, skip_names};
+use rules::{Fault, Reason};
 
 // How many nodes may still be met.
 pub fn room_for(most: usize, used: usize) -> usize
     ensures { result ≡ most - used }
 {
-    if used < most {
-        return most - used;
-    }
-    0
+    most.saturating_sub(used)
 }
 
 // Reads n nodes in a row from `at` on, where `used` were met before. Of the nodes `known`, which are those n and the parts of those met,
@@ -34,7 +26,7 @@ pub fn read_row(
     used: usize,
     most: usize,
     n: usize,
-) -> Read
+) -> Result<Past, Fault>
     requires classes { Classes (layout_of form) t.now }
     requires most_bound { (most ≤ 65536) × (n ≤ 524288) }
     ensures { result ≡ view (times (node (layout_of form) most most) n used at (drop at s.now)) }
@@ -45,29 +37,22 @@ pub fn read_row(
     let mut known = n;
     while met < known {
         if s.len() <= next {
-            return bad(3, next);
+            return fault(Reason::EndsInside, next);
         }
         let after = next + 1;
         let code = code_of(form, t, s[next]);
         if room <= met {
-            return bad(6, next);
+            return fault(Reason::OneTooMany, next);
         }
         if code == 0 {
-            return bad(4, next);
+            return fault(Reason::NotListed, next);
         }
-        match skip_names(s, form, t, after, code / 2 % 4) {
-            Skip::To(past) => {
-                next = past;
-            }
-            Skip::Fault { number, place } => {
-                return bad(number, place);
-            }
-        }
+        next = skip_names(s, form, t, after, code / 2 % 4)?;
         met += 1;
         known += code / 8;
     }
-    Read::Whole {
+    Ok(Past {
         next,
         met: used + met,
-    }
+    })
 }

@@ -21,13 +21,10 @@ fn spells(s: &[u8], form: Form, at: usize, n: usize, words: &[u8], w: usize) -> 
     requires { (at + n ≤ length s.now) × (w + n ≤ length words.now) }
     ensures { result ≡ same (compared form (take n (drop at s.now))) (take n (drop w words.now)) }
 {
-    let mut i = 0;
-    while i < n {
-        let b = compared_byte(form, s[at + i]);
-        if b != words[w + i] {
+    for i in 0..n {
+        if compared_byte(form, s[at + i]) != words[w + i] {
             return false;
         }
-        i += 1;
     }
     true
 }

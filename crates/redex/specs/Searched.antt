@@ -1,11 +1,9 @@
 -- What the search for the first redex goes by, and what it hands back. Assumes nothing: these are definitions.
-use Rattle.std.specs.Prelude.{ℕ, ◌+◌, ◌*◌, ◌/◌, ◌%◌, ◌^◌, Bool, ◌==◌, if◌then◌else◌}
+use Rattle.std.specs.Prelude.{ℕ, ◌+◌, ◌*◌, ◌/◌, ◌%◌, ◌^◌, Bool, ◌==◌, Result, Ok, Err, if◌then◌else◌}
 use Rattle.std.proofs.Math.Option.{Option, none, some}
 use Rattle.rules.specs.Term.{Term, size}
 use Rattle.term.specs.Node.{packed}
 use Rattle.redex.specs.Spot.{Spot, spot}
-use Rattle.redex.specs.declared.find.Sought.{Sought}
-use Rattle.redex.specs.declared.find.Sought.TheVariants.{Redex, After}
 
 -- how many parts are entered, two bits a tag
 abbrev pub enters_after : ℕ → ℕ
@@ -27,13 +25,13 @@ abbrev pub reduces : (k j : ℕ) → Bool
 reduces k j = wants k == gives j
 
 -- the place of the spot, or else the place after the n bytes at `at`
-abbrev pub sought_at : (at n : ℕ) → Option Spot → Sought
-sought_at at n none = After (at + n)
-sought_at at n (some q) = Redex (at + q.place)
+abbrev pub sought_at : (at n : ℕ) → Option Spot → Result ℕ ℕ
+sought_at at n none = Err (at + n)
+sought_at at n (some q) = Ok (at + q.place)
 
-abbrev pub sought : (at : ℕ) → Term → Sought
+abbrev pub sought : (at : ℕ) → Term → Result ℕ ℕ
 sought at t = sought_at at (size t) (spot t)
 
 -- what a number tells: twice the place, and one more where a redex is there
-abbrev pub told : ℕ → Sought
-told r = if r % 2 == 1 then Redex (r / 2) else After (r / 2)
+abbrev pub told : ℕ → Result ℕ ℕ
+told r = if r % 2 == 1 then Ok (r / 2) else Err (r / 2)

@@ -8,7 +8,7 @@ ghost use Rattle.redex.specs.Swept.{Swept};
 ghost use Rattle.redex.specs.After.{CalmAt};
 
 use crate::tags::{never_reduces, reduces};
-use reader::ahead::{Ahead, last_pair, names_end, stopped};
+use reader::ahead::{Ahead, last_pair, names_end};
 use reader::class::{Form, code_of};
 
 // What was gone over, and whether no node of it is a redex.
@@ -18,35 +18,15 @@ pub struct Calmly {
     pub calm: bool,
 }
 
-fn ended(next: usize, met: usize, known: usize, names: usize, calm: bool) -> Calmly
-    ensures { (result.gone.next ≡ next) × (result.gone.met ≡ met) × (result.gone.known ≡ known) × (result.gone.names ≡ names) × (result.calm ≡ calm) }
-{
-    let gone = stopped(next, met, known, names);
-    Calmly { gone, calm }
-}
-
-// Whether all was calm so far and a node with that tag is no redex either. Its first part follows its names; one with one name is none.
-fn calm_with(s: &[u8], calm: bool, tag: usize, names: usize, past: usize) -> bool
+// Whether a node with that tag is surely no redex. Its first part follows its names, which end at `past`; a node with one name is none.
+fn is_calm(s: &[u8], tag: usize, names: usize, past: usize) -> bool
     requires { tag < 20 }
-    ensures { result ≡ true → (calm ≡ true) × CalmAt s.now tag names past }
+    ensures { result ≡ true → CalmAt s.now tag names past }
 {
-    if names == 1 {
-        return calm;
-    }
-    if never_reduces(tag) {
-        return calm;
-    }
-    if s.len() <= past {
-        return false;
-    }
-    let first = s[past] as usize;
-    if 19 < first {
-        return false;
-    }
-    if reduces(tag, first) {
-        return false;
-    }
-    calm
+    names == 1
+        || never_reduces(tag)
+        || s.get(past)
+            .is_some_and(|first| *first < 20 && !reduces(tag, *first as usize))
 }
 
 // From the beginning of s on, where one node is to be read.
@@ -56,34 +36,28 @@ pub fn go_calmly(s: &[u8], t: &[u32; 256]) -> Calmly
     ensures { Gone (layout_of Term) s.now 0 1 result.gone.next result.gone.met result.gone.known result.gone.names × (result.gone.met ≤ 65600) × (result.calm ≡ true → Swept s.now result.gone.next 0) }
 {
     let stop = last_pair(s.len());
-    let mut next = 0;
-    let mut met = 0;
-    let mut known = 1;
-    let mut names = 0;
+    let mut gone = Ahead {
+        next: 0,
+        met: 0,
+        known: 1,
+        names: 0,
+    };
     let mut calm = true;
-    while met < known {
-        if stop <= next {
-            return ended(next, met, known, names, calm);
-        }
-        let tag = s[next];
+    while gone.met < gone.known && gone.next < stop {
+        let tag = s[gone.next];
         let code = code_of(Form::Term, t, tag);
         if code == 0 {
-            return ended(next, met, known, names, calm);
+            break;
         }
-        let first = next + 1;
         let few = code / 2 % 4;
-        let mut past = names_end(s, Form::Term, t, first, few, stop, true);
-        if past == 0 {
-            past = names_end(s, Form::Term, t, first, few, stop, false);
-            if past == 0 {
-                return ended(next, met, known, names, calm);
-            }
-        }
-        calm = calm_with(s, calm, tag as usize, few, past);
-        next = past;
-        met += 1;
-        known += code / 8;
-        names += few;
+        let Some(past) = names_end(s, Form::Term, t, gone.next + 1, few, stop) else {
+            break;
+        };
+        calm = calm && is_calm(s, tag as usize, few, past);
+        gone.next = past;
+        gone.met += 1;
+        gone.known += code / 8;
+        gone.names += few;
     }
-    ended(next, met, known, names, calm)
+    Calmly { gone, calm }
 }

@@ -8,7 +8,7 @@ use crate::tags::reduces;
 use term::node;
 
 // Whether no node is a redex, where none is before `from`. A node's first part follows its names, so each tag is held against the one
-// before it; a node without parts wants nothing of what follows it.
+// before it, and the first against 0, which is no tag; what is no tag, or has no parts, wants nothing of what follows it.
 pub fn calm(s: &[u8], from: usize) -> bool
     requires s_value { (t : Term) × (s.now ≡ encode t) }
     requires swept { Swept s.now from 0 }

@@ -1,31 +1,24 @@
 // The search for the first redex from the left.
-ghost use Rattle.std.specs.Prelude.{◌≡◌, ◌<◌, length};
+ghost use Rattle.std.specs.Prelude.{◌≡◌, ◌<◌, Ok, Err, length};
 ghost use Rattle.rules.specs.Term.{Term};
 ghost use Rattle.term.specs.Place.{TermAt};
-ghost use Rattle.redex.specs.declared.find.Sought.TheVariants.{Redex, After};
 ghost use Rattle.redex.specs.Searched.{sought, told};
 
 use crate::tags::{enters_of, reduces};
 use term::node;
 
-// The place of the redex; or, where there is none, the place after the term.
-#[derive(Clone, Copy)]
-pub enum Sought {
-    Redex(usize),
-    After(usize),
-}
-
-// What a search tells, in one number, which comes back in a register: twice the place, and one more where a redex is there.
+// What a search tells, in one number: twice the place, and one more where a redex is there.
+// Kept: a Result would come back from the walk by way of memory, a number comes back in a register.
 fn redex(place: usize) -> usize
     requires { place < 9223372036854775808 }
-    ensures { told result ≡ Redex place }
+    ensures { told result ≡ Ok place }
 {
     place * 2 + 1
 }
 
 fn after(next: usize) -> usize
     requires { next < 9223372036854775808 }
-    ensures { told result ≡ After next }
+    ensures { told result ≡ Err next }
 {
     next * 2
 }
@@ -62,15 +55,15 @@ fn seek(s: &&[u8], at: usize) -> usize
     seek(s, next)
 }
 
-// The first redex of the term at `at`.
-pub fn find(s: &[u8], at: usize) -> Sought
+// The place of the first redex of the term at `at`; or, where there is none, the place after the term.
+pub fn find(s: &[u8], at: usize) -> Result<usize, usize>
     requires { (t : Term) × TermAt s.now at t }
     ensures { (t : Term) → TermAt s.now at t → result ≡ sought at t }
 {
     let r = seek(&s, at);
     let place = r / 2;
     if r % 2 == 1 {
-        return Sought::Redex(place);
+        return Ok(place);
     }
-    Sought::After(place)
+    Err(place)
 }

@@ -1,4 +1,5 @@
 -- The call by its tests: short buffers, the reader, then the reduction. Assumes nothing.
+use Rattle.std.specs.Prelude.{Result, Ok, Err}
 use Prim.Native.Nat.{ℕ, ◌≤◌}
 use mathlib.Core.Path.{◌≡◌, refl, sym, ◌∙◌}
 use mathlib.Core.Bool.{false}
@@ -7,8 +8,8 @@ use borrow.Author.Tests.{le-leb}
 use Rattle.rules.specs.Basic.{Bytes}
 use Rattle.rules.specs.Limits.{limits, output_room, scratch_room}
 use Rattle.rules.specs.declared.Refusal.{Refusal}
-use Rattle.rules.specs.Refusal.{refuse, mapped, answered}
-use Rattle.rules.specs.declared.Answer.TheVariants.{Good, Refused}
+use Rattle.rules.specs.Refusal.{refuse, mapped}
+use Rattle.rules.specs.declared.Reason.TheVariants.{ShortBuffer}
 use Rattle.rules.specs.Term.{Term, nodes}
 use Rattle.rules.specs.Reading.{read_term}
 use Rattle.rules.specs.Reduction as rules
@@ -20,24 +21,24 @@ use Rattle.laws.specs.reading.Numbers.{term-spares}
 use Rattle.reader.specs.Accepted.{Accepts, accepts, refuses}
 use Rattle.term.specs.Given.{Reads}
 use Rattle.reduction.specs.Answers.{reduced_by, Reducing}
-use Rattle.reduction.specs.declared.Reduced.{Reduced}
-use Rattle.reduction.specs.declared.Reduced.TheVariants.{Refused as IsRefused}
+use Rattle.reduction.specs.declared.Reduction.{Reduction}
+use Rattle.reduction.specs.declared.Unreduced.{Unreduced}
 
 module _ (term : Bytes) (limit : ℕ) (out scratch : Bytes) where
   -- what the call ensures of its answer, its output and its scratch
-  abbrev pub Is : Reduced → Bytes → Bytes → Type 0
+  abbrev pub Is : Result Reduction Unreduced → Bytes → Bytes → Type 0
   Is a out' scratch' =
       (a ≡ reduced_by (reduce_call limits term limit out scratch).answer (reduce_call limits term limit out scratch).output_length)
       × ((out' ≡ (reduce_call limits term limit out scratch).output)
       × (scratch' ≡ (reduce_call limits term limit out scratch).scratch))
 
-  pub too_short : (a : Reduced) → work_room limits out scratch ≡ false → a ≡ reduced_by (refuse 1 0 0) 0 → Is a out scratch
+  pub too_short : (a : Result Reduction Unreduced) → work_room limits out scratch ≡ false → a ≡ reduced_by (refuse ShortBuffer 0 0) 0 → Is a out scratch
   unfolding reduce_call
   too_short a h e = (rw h e, (rw h, rw h))
 
   module _ (h : output_room limits ≤ length out) where
     module _ (k : scratch_room limits ≤ length scratch) where
-      pub not-read : (r : Refusal) → answered (mapped nodes (read_term limits 1 term)) ≡ Refused r → Is (IsRefused r 0) out scratch
+      pub not-read : (r : Refusal) → mapped nodes (read_term limits 1 term) ≡ Err r → Is (Err (record { refusal = r; length = 0 })) out scratch
       unfolding reduce_call
       not-read r e =
           let p = le-leb (output_room limits) (length out) h in
@@ -45,7 +46,7 @@ module _ (term : Bytes) (limit : ℕ) (out scratch : Bytes) where
           let f = refuses nodes (read_term limits 1 term) e in
           (rw (p, q, f), (rw (p, q, f), rw (p, q, f, term-spares limits 1 term r f)))
 
-      module _ (n : ℕ) (e : answered (mapped nodes (read_term limits 1 term)) ≡ Good n) where
+      module _ (n : ℕ) (e : mapped nodes (read_term limits 1 term) ≡ Ok n) where
         a : Accepts nodes (read_term limits 1 term) n
         a = accepts nodes (read_term limits 1 term) e
 
@@ -54,7 +55,7 @@ module _ (term : Bytes) (limit : ℕ) (out scratch : Bytes) where
             let w = term-sound limits 1 term a.value a.is in
             (a.value, record { whole = w.bytes; count = sym a.counts; fits = accepted-fits limits term a.value w; room = h })
 
-        pub reduced : (r : Reduced) (out' scratch' : Bytes) → Reducing (rules.reduce limits limit read.0) out scratch r out' scratch' → Is r out' scratch'
+        pub reduced : (r : Result Reduction Unreduced) (out' scratch' : Bytes) → Reducing (rules.reduce limits limit read.0) out scratch r out' scratch' → Is r out' scratch'
         unfolding reduce_call a read
         reduced r out' scratch' w =
             let p = le-leb (output_room limits) (length out) h in

@@ -1,8 +1,10 @@
 -- From the loop's answer to the call's: zeros behind the term that stands in the output, and in the scratch. Assumes nothing.
+use Rattle.rules.specs.declared.Reason.TheVariants.{Outgrows}
 use Prim.Native.Nat.{ℕ, ◌+◌, ◌-◌, ◌≤◌}
 use mathlib.Core.Path.{◌≡◌, sym, ap, ◌∙◌}
 use mathlib.Core.List.{◌++◌, append-nil}
 use native.Mathlib.Omega.{arith}
+use Rattle.std.specs.Prelude.{Result, Ok, Err}
 use lib.ListN.{length, take, drop, replicate, length-replicate}
 use lib.Seq.{sets, sets-eq, drop-length}
 use Rattle.rules.specs.Limits.{limits, output_room}
@@ -13,11 +15,10 @@ use Rattle.rules.specs.Reduction.{Reduced, stopped, outgrew}
 use Rattle.substitution.proofs.place.Writes.{zeros}
 use Rattle.reduction.specs.Turning.{last, Repeats}
 use Rattle.reduction.specs.Told.{repeated_of}
-use Rattle.reduction.specs.declared.course.Repeated.{Repeated}
-use Rattle.reduction.specs.declared.course.Repeated.TheVariants.{Stopped, Outgrown}
+use Rattle.reduction.specs.declared.course.Outgrown.{Outgrown}
 use Rattle.reduction.specs.Answers.{Reducing}
 use Rattle.reduction.specs.declared.Reduction.{Reduction}
-use Rattle.reduction.specs.declared.Reduced.TheVariants.{Stopped as IsStopped, Refused as IsRefused}
+use Rattle.std.specs.Prelude.{Ok, Err}
 
 zeros-behind : (out xs : Bytes) (l : ℕ) → take l out ≡ xs → l ≡ length xs → l ≤ length out → sets out l (replicate (length out - l) 0) ≡ xs ++ replicate (length out - length xs) 0
 zeros-behind out xs l e h g =
@@ -30,23 +31,25 @@ zeros-behind out xs l e h g =
     ∙ ap (λ (z : Bytes). z ++ zs) e
     ∙ ap (λ (k : ℕ). xs ++ replicate (length out - k) 0) h
 
-stops : (d : Reduced) {x : Reduction} → Stopped x ≡ repeated_of d → (d ≡ stopped x.steps x.counts x.normal (last d)) × (x.length ≡ size (last d))
+stops : (d : Reduced) {x : Reduction} → Ok x ≡ repeated_of d → (d ≡ stopped x.steps x.counts x.normal (last d)) × (x.length ≡ size (last d))
 stops (stopped n c b t) {x} e =
     let q : x ≡ record { steps = n; counts = c; normal = b; length = size t } = cc in
     (sym (ap (λ (y : Reduction). stopped y.steps y.counts y.normal t) q), ap (λ (y : Reduction). y.length) q)
 stops (outgrew n t) e = absurd (let z : ◌≡◌ {A = ℕ} 0 1 = cc in omega arith)
 
-over : (d : Reduced) {n l : ℕ} → Outgrown n l ≡ repeated_of d → (d ≡ outgrew n (last d)) × (l ≡ size (last d))
+over : (d : Reduced) {x : Outgrown} → Err x ≡ repeated_of d → (d ≡ outgrew x.steps (last d)) × (x.length ≡ size (last d))
 over (stopped n c b t) e = absurd (let z : ◌≡◌ {A = ℕ} 0 1 = cc in omega arith)
-over (outgrew n t) e = (cc, cc)
+over (outgrew n t) {x} e =
+    let q : x ≡ record { steps = n; length = size t } = cc in
+    (sym (ap (λ (y : Outgrown). outgrew y.steps t) q), ap (λ (y : Outgrown). y.length) q)
 
-module _ {d : Reduced} {out₁ : Bytes} {r : Repeated} (w : Repeats d out₁ r) (out : Bytes) (same : length out₁ ≡ length out) (h : output_room limits ≤ length out) where
+module _ {d : Reduced} {out₁ : Bytes} {r : Result Reduction Outgrown} (w : Repeats d out₁ r) (out : Bytes) (same : length out₁ ≡ length out) (h : output_room limits ≤ length out) where
   behind : (l : ℕ) → l ≡ size (last d) → {out₂ : Bytes} → out₂ ≡ sets out₁ l (replicate (length out₁ - l) 0) → out₂ ≡ encode (last d) ++ replicate (length out - size (last d)) 0
   behind l e {out₂} z =
       z ∙ zeros-behind out₁ (encode (last d)) l (rw e w.bytes) e (omega (arith, within limits (last d) w.fits))
       ∙ ap (λ (k : ℕ). encode (last d) ++ replicate (k - size (last d)) 0) same
 
-  module _ {x : Reduction} (e : r ≡ Stopped x) where
+  module _ {x : Reduction} (e : r ≡ Ok x) where
     abbrev l : ℕ
     l = x.length
 
@@ -57,16 +60,16 @@ module _ {d : Reduced} {out₁ : Bytes} {r : Repeated} (w : Repeats d out₁ r) 
     stop-room = omega (arith, at-stop.1, within limits (last d) w.fits)
 
     module _ (scratch scratch₁ : Bytes) {scratch₂ out₂ : Bytes} (p : length scratch₁ ≡ length scratch) (q : scratch₂ ≡ sets scratch₁ 0 (replicate (length scratch₁ - 0) 0)) (z : out₂ ≡ sets out₁ l (replicate (length out₁ - l) 0)) where
-      pub stop : Reducing d out scratch (IsStopped x) out₂ scratch₂
+      pub stop : Reducing d out scratch (Ok x) out₂ scratch₂
       stop =
           let s = at-stop in
           rw s.0 (record {
-            says = ap (λ (k : ℕ). IsStopped (record { steps = x.steps; counts = x.counts; normal = x.normal; length = k })) s.1;
+            says = ap (λ (k : ℕ). Ok (record { steps = x.steps; counts = x.counts; normal = x.normal; length = k })) s.1;
             leaves = behind l s.1 z;
             clears = q ∙ zeros scratch₁ (length scratch) p;
           })
 
-  module _ {n l : ℕ} (e : r ≡ Outgrown n l) where
+  module _ {n l : ℕ} (e : r ≡ Err (record { steps = n; length = l })) where
     at-over : (d ≡ outgrew n (last d)) × (l ≡ size (last d))
     at-over = over d (sym e ∙ w.says)
 
@@ -74,11 +77,11 @@ module _ {d : Reduced} {out₁ : Bytes} {r : Repeated} (w : Repeats d out₁ r) 
     over-room = omega (arith, at-over.1, within limits (last d) w.fits)
 
     module _ (scratch scratch₁ : Bytes) {scratch₂ out₂ : Bytes} (p : length scratch₁ ≡ length scratch) (q : scratch₂ ≡ sets scratch₁ 0 (replicate (length scratch₁ - 0) 0)) (z : out₂ ≡ sets out₁ l (replicate (length out₁ - l) 0)) where
-      pub outgrow : Reducing d out scratch (IsRefused (record { number = 8; place = n; input = 0 }) l) out₂ scratch₂
+      pub outgrow : Reducing d out scratch (Err (record { refusal = record { reason = Outgrows; place = n; input = 0 }; length = l })) out₂ scratch₂
       outgrow =
           let s = at-over in
           rw s.0 (record {
-            says = ap (λ (k : ℕ). IsRefused (record { number = 8; place = n; input = 0 }) k) s.1;
+            says = ap (λ (k : ℕ). Err (record { refusal = record { reason = Outgrows; place = n; input = 0 }; length = k })) s.1;
             leaves = behind l s.1 z;
             clears = q ∙ zeros scratch₁ (length scratch) p;
           })

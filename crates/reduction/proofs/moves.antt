@@ -12,3 +12,4 @@ mod Ups
 pub mod Seeking
 pub mod Redexes
 pub mod Wholes
+pub mod Places

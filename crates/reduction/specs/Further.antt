@@ -1,12 +1,11 @@
 -- Reduction with limit n + m is reduction with n and then with m, steps and counts added; what is left of a legal term is legal and is read
 -- again; the counts add up to the steps. By induction on the limit. Assumes nothing.
 use Prim.Native.Nat.{ℕ, zero, suc, ◌+◌}
-use Rattle.std.specs.Prelude.{◌≡◌, Bool, true}
+use Rattle.std.specs.Prelude.{◌≡◌, Bool, true, Ok}
 use Rattle.std.proofs.Math.Path.{refl, sym, ap}
 use Rattle.std.proofs.Common.{ap₂, ◌∙◌, add-zero, zero-add, suc-add, add-suc}
 use Rattle.rules.specs.Basic.{Bytes}
 use Rattle.rules.specs.Limits.{Limits}
-use Rattle.rules.specs.Refusal.{good}
 use Rattle.rules.specs.Legal.{Legal}
 use Rattle.rules.specs.Term.{Term, encode, fits}
 use Rattle.rules.specs.Reading.{read_term}
@@ -150,7 +149,7 @@ module _ (L : Limits) where
   keeps (suc limit) n c t l g = keep-turn limit (keeps limit) n c t l g (turn L t)
 
   -- WHAT IS LEFT IS LEGAL, and is read again
-  pub left-legal : (limit : ℕ) (i : Bytes) (t : Term) → read_term L 1 i ≡ good t → Legal (last (reduce L limit t)) × (read_term L 1 (encode (last (reduce L limit t))) ≡ good (last (reduce L limit t)))
+  pub left-legal : (limit : ℕ) (i : Bytes) (t : Term) → read_term L 1 i ≡ Ok t → Legal (last (reduce L limit t)) × (read_term L 1 (encode (last (reduce L limit t))) ≡ Ok (last (reduce L limit t)))
   left-legal limit i t e =
       let a = term-sound L 1 i t e in
       let k = keeps limit 0 zero_counts t a.legal (accepted-fits L i t a) in
@@ -158,18 +157,18 @@ module _ (L : Limits) where
 
 -- THE CALL WITH LIMIT n + m: where the call with n stopped at u, it ends as the call with m on the bytes of u, with what was done before added.
 pub record Twice (L : Limits) (i : Bytes) (n m : ℕ) (o s : Bytes) (k : ℕ) (c : Counts) (u : Term) : Type 0 where
-  pub reads : read_term L 1 (encode u) ≡ good u
+  pub reads : read_term L 1 (encode u) ≡ Ok u
   pub second : reduce_call L (encode u) m o s ≡ reduce_with o s (reduce_ending (reduce L m u))
   pub both : reduce_call L i (n + m) o s ≡ reduce_with o s (reduce_ending (after k c (reduce L m u)))
 
 module _ (L : Limits) (o s : Bytes) (w : work_room L o s ≡ true) where
-  called : (i : Bytes) (t : Term) (limit : ℕ) → read_term L 1 i ≡ good t → reduce_call L i limit o s ≡ reduce_with o s (reduce_ending (reduce L limit t))
+  called : (i : Bytes) (t : Term) (limit : ℕ) → read_term L 1 i ≡ Ok t → reduce_call L i limit o s ≡ reduce_with o s (reduce_ending (reduce L limit t))
   unfolding reduce_call
   called i t limit e = rw (w, e)
 
-  pub call-twice : (i : Bytes) (t : Term) (n m k : ℕ) (c : Counts) (b : Bool) (u : Term) → read_term L 1 i ≡ good t → reduce L n t ≡ stopped k c b u → Twice L i n m o s k c u
+  pub call-twice : (i : Bytes) (t : Term) (n m k : ℕ) (c : Counts) (b : Bool) (u : Term) → read_term L 1 i ≡ Ok t → reduce L n t ≡ stopped k c b u → Twice L i n m o s k c u
   call-twice i t n m k c b u e f =
-      let r : read_term L 1 (encode u) ≡ good u = rw f at (left-legal L n i t e).1 in
+      let r : read_term L 1 (encode u) ≡ Ok u = rw f at (left-legal L n i t e).1 in
       record {
         reads = r;
         second = called (encode u) u m r;

@@ -1,8 +1,8 @@
 // How far a bounded reduction has come: what a step adds, and what is told where it ends.
-ghost use Rattle.std.specs.Prelude.{◌≡◌, ◌<◌};
+ghost use Rattle.std.specs.Prelude.{◌≡◌, ◌<◌, Ok};
 ghost use Rattle.rules.specs.Reduction.{zero_counts, plus as plus_of};
 ghost use Rattle.reduction.specs.Counted.{total};
-ghost use Rattle.reduction.specs.Told.{onward};
+ghost use Rattle.reduction.specs.Told.{stopped_at, onward};
 
 use crate::Reduction;
 use crate::place::Place;
@@ -18,12 +18,11 @@ pub struct Course {
     pub counts: Counts,
 }
 
-// Stopped, at the limit or because no step remains; or a step outgrew the limits: the steps done, and the length of the last term
-// that fitted.
+// A step outgrew the limits: the steps done, and the length of the last term that fitted.
 #[derive(Clone, Copy)]
-pub enum Repeated {
-    Stopped(Reduction),
-    Outgrown { steps: u32, length: usize },
+pub struct Outgrown {
+    pub steps: u32,
+    pub length: usize,
 }
 
 pub fn no_counts() -> Counts
@@ -59,18 +58,32 @@ fn plus(rule: Rule, mut counts: Counts) -> Counts
     counts
 }
 
-// A contraction was made, and the search stands at `next`.
-pub fn one_more(course: Course, contraction: Contraction, next: Place) -> Course
-    requires { (total course.counts ≡ course.steps) × (course.steps < 4294967295) }
-    ensures { result ≡ onward course contraction next }
-{
-    let counts = course.counts;
-    let steps = course.steps + 1;
-    let rule = contraction.rule;
-    Course {
-        at: next,
-        nodes: contraction.nodes,
-        steps,
-        counts: plus(rule, counts),
+impl Course {
+    // A contraction was made, and the search stands at `next`.
+    pub fn one_more(self, contraction: Contraction, next: Place) -> Course
+        requires { (total self.counts ≡ self.steps) × (self.steps < 4294967295) }
+        ensures { result ≡ onward self contraction next }
+    {
+        let counts = self.counts;
+        let steps = self.steps + 1;
+        let rule = contraction.rule;
+        Course {
+            at: next,
+            nodes: contraction.nodes,
+            steps,
+            counts: plus(rule, counts),
+        }
+    }
+
+    // It ends here: at the limit, or because no step remains.
+    pub fn stopped(self, normal: bool, length: usize) -> Reduction
+        ensures { Ok result ≡ stopped_at self.steps self.counts normal length }
+    {
+        Reduction {
+            steps: self.steps,
+            counts: self.counts,
+            normal,
+            length,
+        }
     }
 }

@@ -10,17 +10,17 @@ ghost use Rattle.term.specs.Given.{Reads};
 ghost use Rattle.reduction.specs.Answers.{reduced_by, Reducing};
 
 use buffer::room::{leave, short};
-use course::Repeated;
+use course::Outgrown;
 use repeat::repeat_steps;
-use rules::{Answer, Counts, Refusal};
+use rules::{Counts, Reason, Refusal};
 
 mod course;
 mod land;
 mod moves;
 mod place;
 mod repeat;
+mod room;
 mod sight;
-mod turn;
 
 // The steps taken, one count for each rule, whether no step remains, and the length of the term in the output.
 #[derive(Clone, Copy)]
@@ -31,51 +31,62 @@ pub struct Reduction {
     pub length: usize,
 }
 
-// A refusal also tells the length of what was written: 8 leaves the last term that fitted.
+// A refusal, and the length of what was written: 8 leaves the last term that fitted.
 #[derive(Clone, Copy)]
-pub enum Reduced {
-    Stopped(Reduction),
-    Refused { refusal: Refusal, length: usize },
+pub struct Unreduced {
+    pub refusal: Refusal,
+    pub length: usize,
 }
 
 // The reduction of a term that was read: zeros behind what stands in the output, and in the scratch.
-fn reduce_read(term: &[u8], nodes: usize, limit: u32, out: &mut [u8], scratch: &mut [u8]) -> Reduced
+fn reduce_read(
+    term: &[u8],
+    nodes: usize,
+    limit: u32,
+    out: &mut [u8],
+    scratch: &mut [u8],
+) -> Result<Reduction, Unreduced>
     requires { ((t : Term) × Reads term.now nodes out.old t) × (scratch_room limits ≤ length scratch.old) }
     ensures { (t : Term) → Reads term.now nodes out.old t → Reducing (reduce limits limit t) out.old scratch.old result out.new scratch.new }
 {
     match repeat_steps(term, nodes, limit, out, scratch) {
-        Repeated::Stopped(reduction) => {
+        Ok(reduction) => {
             leave(out, reduction.length, scratch);
-            Reduced::Stopped(reduction)
+            Ok(reduction)
         }
-        Repeated::Outgrown { steps, length } => {
+        Err(Outgrown { steps, length }) => {
             leave(out, length, scratch);
-            Reduced::Refused {
+            Err(Unreduced {
                 refusal: Refusal {
-                    number: 8,
+                    reason: Reason::Outgrows,
                     place: steps as usize,
                     input: 0,
                 },
                 length,
-            }
+            })
         }
     }
 }
 
 // Steps up to the limit. A step past the limit is not tried; 8 gives the steps done, and leaves the last term that fitted.
-pub fn normalize_bounded(term: &[u8], limit: u32, out: &mut [u8], scratch: &mut [u8]) -> Reduced
+pub fn normalize_bounded(
+    term: &[u8],
+    limit: u32,
+    out: &mut [u8],
+    scratch: &mut [u8],
+) -> Result<Reduction, Unreduced>
     ensures value { result ≡ reduced_by (reduce_call limits term.now limit out.old scratch.old).answer (reduce_call limits term.now limit out.old scratch.old).output_length }
     ensures out_after { out.new ≡ (reduce_call limits term.now limit out.old scratch.old).output }
     ensures scratch_after { scratch.new ≡ (reduce_call limits term.now limit out.old scratch.old).scratch }
 {
     if short(out.len(), scratch.len()) {
-        return Reduced::Refused {
-            refusal: Refusal::of_no_input(1),
+        return Err(Unreduced {
+            refusal: Refusal::of_no_input(Reason::ShortBuffer),
             length: 0,
-        };
+        });
     }
     match reader::term_input(term, 1) {
-        Answer::Refused(refusal) => Reduced::Refused { refusal, length: 0 },
-        Answer::Good(nodes) => reduce_read(term, nodes, limit, out, scratch),
+        Err(refusal) => Err(Unreduced { refusal, length: 0 }),
+        Ok(nodes) => reduce_read(term, nodes, limit, out, scratch),
     }
 }

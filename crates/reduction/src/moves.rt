@@ -1,134 +1,97 @@
-// The moves of the search: into a node, on behind a term that has no step, and up.
+// The moves of the search: into a node, on behind a term that has no step, and up. A move breaks off where the search has come to the
+// end: the whole, of so many bytes, has no step.
 ghost use Rattle.rules.specs.Term.{Term};
-ghost use Rattle.reduction.specs.Standing.{Standing, Done, Entering, Passing, Goes, Finds};
+ghost use Rattle.reduction.specs.Standing.{Standing, Done, Entering, Passing, Reaches, Goes, Finds};
 
-use crate::place::{Place, SECOND};
+use crate::place::{Mark, Place};
 use crate::sight::{Seen, see};
 use buffer::run;
 use redex::tags::enters_of;
+use std::ops::ControlFlow;
 use term::node;
 
-// Into the node at i: its head is carried over, and the search stands at its first part.
-fn enter(
-    scratch: &[u8],
-    i: usize,
-    start: usize,
-    out: &mut [u8],
-    o: usize,
-    stack: &mut [u16],
-    depth: usize,
-) -> Place
-    requires { (w : Term) × Entering w out.old scratch.now stack.old o i depth start }
-    ensures { (w : Term) → Entering w out.old scratch.now stack.old o i depth start → Goes w out.new scratch.now stack.new start result }
+// Into the node at `place`: its head is carried over, and the search stands at its first part.
+fn enter(scratch: &[u8], place: Place, start: usize, out: &mut [u8], stack: &mut [Mark]) -> Place
+    requires { (w : Term) × Entering w out.old scratch.now stack.old place start }
+    ensures { (w : Term) → Entering w out.old scratch.now stack.old place start → Reaches w out.new scratch.now stack.new start result }
 {
-    stack[depth] = o as u16;
-    let past = run::copy(scratch, i, start, out, o);
+    let depth = place.depth;
+    let o = place.o;
+    stack[depth] = Some(o as u16);
     Place {
-        o: past,
+        o: run::copy(scratch, place.i, start, out, o),
         i: start,
         depth: depth + 1,
-        going: true,
     }
 }
 
 // Up from a term that has no step: to the next part that is entered, or to the end.
 fn climb(
     scratch: &[u8],
-    at: usize,
+    from: Place,
     out: &mut [u8],
-    to: usize,
-    stack: &mut [u16],
-    under: usize,
-) -> Place
-    requires { (w : Term) × Done w out.old scratch.now stack.old to at under }
-    ensures { (w : Term) → Done w out.old scratch.now stack.old to at under → Goes w out.new scratch.now stack.new at result }
+    stack: &mut [Mark],
+) -> ControlFlow<usize, Place>
+    requires { (w : Term) × Done w out.old scratch.now stack.old from }
+    ensures { (w : Term) → Done w out.old scratch.now stack.old from → Goes w out.new scratch.now stack.new from.i result }
 {
-    let mut i = at;
-    let mut o = to;
-    let mut depth = under;
-    while 0 < depth {
-        let top = depth - 1;
-        let mark = stack[top];
-        if mark == SECOND {
-            depth = top;
+    let mut i = from.i;
+    let mut o = from.o;
+    for top in (0..from.depth).rev() {
+        let Some(start) = stack[top] else {
             continue;
-        }
-        let start = mark as usize;
-        let tag = out[start] as usize;
+        };
+        let tag = out[start as usize] as usize;
         if enters_of(tag) == 2 {
-            stack[top] = SECOND;
-            return Place {
+            stack[top] = None;
+            return ControlFlow::Continue(Place {
                 o,
                 i,
-                depth,
-                going: true,
-            };
+                depth: top + 1,
+            });
         }
         let next = node::skip(scratch, i, node::parts_of(tag) - 1);
         o = run::copy(scratch, i, next, out, o);
         i = next;
-        depth = top;
     }
-    Place {
-        o,
-        i,
-        depth,
-        going: false,
-    }
+    ControlFlow::Break(o)
 }
 
-// On behind the term at i, which has no step and ends at `next`.
+// On behind the term at `place`, which has no step and ends at `next`.
 fn pass(
     scratch: &[u8],
-    i: usize,
+    place: Place,
     next: usize,
     out: &mut [u8],
-    o: usize,
-    stack: &mut [u16],
-    depth: usize,
-) -> Place
-    requires { (w : Term) × Passing w out.old scratch.now stack.old o i depth next }
-    ensures { (w : Term) → Passing w out.old scratch.now stack.old o i depth next → Goes w out.new scratch.now stack.new next result }
+    stack: &mut [Mark],
+) -> ControlFlow<usize, Place>
+    requires { (w : Term) × Passing w out.old scratch.now stack.old place next }
+    ensures { (w : Term) → Passing w out.old scratch.now stack.old place next → Goes w out.new scratch.now stack.new next result }
 {
-    let past = run::copy(scratch, i, next, out, o);
-    climb(scratch, next, out, past, stack, depth)
+    let behind = Place {
+        o: run::copy(scratch, place.i, next, out, place.o),
+        i: next,
+        depth: place.depth,
+    };
+    climb(scratch, behind, out, stack)
 }
 
 // Goes on to the first redex, or to the end.
 pub fn to_redex(
     scratch: &[u8],
-    at: usize,
+    from: Place,
     out: &mut [u8],
-    to: usize,
-    stack: &mut [u16],
-    under: usize,
-) -> Place
-    requires { (w : Term) × Standing w out.old scratch.now stack.old to at under }
-    ensures { (w : Term) → Standing w out.old scratch.now stack.old to at under → Finds w out.new scratch.now stack.new result }
+    stack: &mut [Mark],
+) -> ControlFlow<usize, Place>
+    requires { (w : Term) × Standing w out.old scratch.now stack.old from }
+    ensures { (w : Term) → Standing w out.old scratch.now stack.old from → Finds w out.new scratch.now stack.new result }
 {
-    let mut place = Place {
-        o: to,
-        i: at,
-        depth: under,
-        going: true,
-    };
-    while place.going {
-        let o = place.o;
-        let i = place.i;
-        let depth = place.depth;
-        match see(scratch, i) {
-            Seen::Redex => {
-                return place;
-            }
-            Seen::Inside(start) => {
-                place = enter(scratch, i, start, out, o, stack, depth);
-                continue;
-            }
-            Seen::Passed(next) => {
-                place = pass(scratch, i, next, out, o, stack, depth);
-                continue;
-            }
-        }
+    let mut place = from;
+    loop {
+        place = match see(scratch, place.i) {
+            Seen::Redex => return ControlFlow::Continue(place),
+            Seen::Inside(start) => enter(scratch, place, start, out, stack),
+            Seen::Passed(next) => pass(scratch, place, next, out, stack)?,
+        };
     }
-    place
 }

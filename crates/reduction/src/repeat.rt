@@ -1,40 +1,67 @@
 // Steps up to the limit. The search for a redex goes on where the last contraction was: what it has passed stands in the output, what it has
 // yet to see at the end of the scratch.
-ghost use Rattle.std.specs.Prelude.{◌≤◌, length};
+ghost use Rattle.std.specs.Prelude.{◌≤◌, ℕ, length};
 ghost use Rattle.rules.specs.Limits.{limits, scratch_room};
 ghost use Rattle.rules.specs.Term.{Term};
 ghost use Rattle.rules.specs.Reduction.{reduce};
 ghost use Rattle.term.specs.Given.{Reads};
-ghost use Rattle.reduction.specs.Turning.{Stands, Room, Repeats};
+ghost use Rattle.reduction.specs.Turning.{Stands, AtRedex, Repeats, Turns};
 
 use crate::Reduction;
-use crate::course::{Course, Repeated, no_counts};
+use crate::course::{Course, Outgrown, no_counts};
+use crate::land::fire;
 use crate::moves::to_redex;
-use crate::turn::{Turned, turn};
+use crate::place::{Mark, Place};
+use crate::room::Room;
 use buffer::run;
 use rules::{MOST_BYTES, MOST_NODES};
+use std::ops::ControlFlow;
 
-// Reduces the whole in which the search stands, and leaves it in the output.
+// Contracts the redex at `place`. If that outgrows the limits, the last term that fitted is left in the output.
+fn contract_here(
+    course: Course,
+    place: Place,
+    out: &mut [u8],
+    scratch: &mut [u8],
+    stack: &[Mark],
+    room: &mut Room,
+) -> Result<Course, Outgrown>
+    requires { (limit : ℕ) × (t : Term) × AtRedex limit t out.old scratch.old stack.now course place }
+    ensures { (limit : ℕ) (t : Term) → AtRedex limit t out.old scratch.old stack.now course place → Turns limit t course.steps out.new scratch.new stack.now result }
+{
+    match fire(out, scratch, place, stack, course.nodes, room) {
+        Some(fired) => Ok(course.one_more(fired.contraction, fired.place)),
+        None => Err(Outgrown {
+            steps: course.steps,
+            length: run::copy(scratch, place.i, scratch.len(), out, place.o),
+        }),
+    }
+}
+
+// Reduces the whole in which the search stands, and leaves it in the output. A step past the limit is not tried.
 fn go_on(
     from: Course,
     limit: u32,
     out: &mut [u8],
     scratch: &mut [u8],
-    stack: &mut [u16],
-    places: &mut [u16; MOST_NODES],
-    made: &mut [u8],
-) -> Repeated
-    requires { ((t : Term) × Stands limit t out.old scratch.old stack.old from) × Room places.old made.old }
+    stack: &mut [Mark],
+    room: &mut Room,
+) -> Result<Reduction, Outgrown>
+    requires { (t : Term) × Stands limit t out.old scratch.old stack.old from }
     ensures { (t : Term) → Stands limit t out.old scratch.old stack.old from → Repeats (reduce limits limit t) out.new result }
 {
     let mut course = from;
     loop {
-        match turn(course, limit, out, scratch, stack, places, made) {
-            Turned::Ended(repeated) => {
-                return repeated;
+        match to_redex(scratch, course.at, out, stack) {
+            ControlFlow::Break(length) => {
+                return Ok(course.stopped(true, length));
             }
-            Turned::On(next) => {
-                course = next;
+            ControlFlow::Continue(place) => {
+                if course.steps == limit {
+                    let length = run::copy(scratch, place.i, scratch.len(), out, place.o);
+                    return Ok(course.stopped(false, length));
+                }
+                course = contract_here(course, place, out, scratch, stack, room)?;
             }
         }
     }
@@ -46,14 +73,16 @@ fn with_room(
     limit: u32,
     out: &mut [u8],
     scratch: &mut [u8],
-    stack: &mut [u16],
-) -> Repeated
+    stack: &mut [Mark],
+) -> Result<Reduction, Outgrown>
     requires { (t : Term) × Stands limit t out.old scratch.old stack.old from }
     ensures { (t : Term) → Stands limit t out.old scratch.old stack.old from → Repeats (reduce limits limit t) out.new result }
 {
-    let mut places = [0u16; MOST_NODES];
-    let mut made = [0u8; MOST_BYTES];
-    go_on(from, limit, out, scratch, stack, &mut places, &mut made)
+    let mut room = Room {
+        places: [0; MOST_NODES],
+        made: [0; MOST_BYTES],
+    };
+    go_on(from, limit, out, scratch, stack, &mut room)
 }
 
 // Reduces a term that was read. Room to contract is made only where there is a redex.
@@ -63,28 +92,29 @@ pub fn repeat_steps(
     limit: u32,
     out: &mut [u8],
     scratch: &mut [u8],
-) -> Repeated
+) -> Result<Reduction, Outgrown>
     requires { ((t : Term) × Reads term.now nodes out.old t) × (scratch_room limits ≤ length scratch.old) }
     ensures { (t : Term) → Reads term.now nodes out.old t → Repeats (reduce limits limit t) out.new result }
 {
-    let mut stack = [0u16; MOST_NODES];
+    let mut stack: [Mark; MOST_NODES] = [None; MOST_NODES];
     let begin = scratch.len() - term.len();
     run::copy(term, 0, term.len(), scratch, begin);
-    let at = to_redex(scratch, begin, out, 0, &mut stack, 0);
-    let counts = no_counts();
-    if at.going {
-        let from = Course {
-            at,
-            nodes,
-            steps: 0,
-            counts,
-        };
-        return with_room(from, limit, out, scratch, &mut stack);
-    }
-    Repeated::Stopped(Reduction {
+    let at = Place {
+        o: 0,
+        i: begin,
+        depth: 0,
+    };
+    let from = Course {
+        at,
+        nodes,
         steps: 0,
-        counts,
-        normal: true,
-        length: at.o,
-    })
+        counts: no_counts(),
+    };
+    match to_redex(scratch, at, out, &mut stack) {
+        ControlFlow::Break(length) => Ok(from.stopped(true, length)),
+        ControlFlow::Continue(at) => {
+            let course = Course { at, ..from };
+            with_room(course, limit, out, scratch, &mut stack)
+        }
+    }
 }

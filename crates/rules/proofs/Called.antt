@@ -1,5 +1,6 @@
 -- Every public call as numbers, at small limits, so that a table can list what a call answers and what it leaves in the buffers that it is lent.
 -- Assumes nothing: these are definitions.
+use Rattle.std.specs.Prelude.{Ok, Err}
 use Prim.Native.Nat.{ℕ, ◌+◌, ◌-◌}
 use mathlib.Core.Bool.{Bool, true, false}
 use mathlib.Core.List.{List, [], ◌∷◌}
@@ -7,7 +8,7 @@ use mathlib.Core.Option.{Option, none, some}
 use lib.ListN.{length, replicate}
 use Rattle.rules.specs.Basic.{Bytes, ◌‥◌, digits}
 use Rattle.rules.specs.Limits.{Limits}
-use Rattle.rules.specs.Refusal.{Refusal, Outcome, good, refused}
+use Rattle.rules.specs.Refusal.{Refusal, Outcome, number_of}
 use Rattle.rules.specs.Name.{leads, follows, before, is_a_word}
 use Rattle.rules.specs.Formula.{formula_nodes}
 use Rattle.rules.specs.Term.{nodes, encode, fits}
@@ -83,8 +84,8 @@ lent_to (loads o k f) = o ∷ []
 
 -- an answer as numbers: 0 and what it says; or the refusal's number, place and input
 abbrev pub numbers : {A : Type 0} → (A → List ℕ) → Outcome A → List ℕ
-numbers f (good a) = 0 ∷ f a
-numbers f (refused r) = r.number ∷ r.place ∷ r.input ∷ []
+numbers f (Ok a) = 0 ∷ f a
+numbers f (Err r) = number_of r.reason ∷ r.place ∷ r.input ∷ []
 
 abbrev pub single : ℕ → List ℕ
 single n = n ∷ []
@@ -105,7 +106,7 @@ reduce_numbers a = a.steps ∷ (count_numbers a.counts ‥ single (bool_number a
 
 abbrev pub fault_numbers : Option Refusal → List ℕ
 fault_numbers none = 0 ∷ []
-fault_numbers (some r) = r.number ∷ r.place ∷ r.input ∷ []
+fault_numbers (some r) = number_of r.reason ∷ r.place ∷ r.input ∷ []
 
 abbrev pub entry_numbers : List Entry → List ℕ
 entry_numbers [] = []

@@ -1,4 +1,5 @@
 -- Extraction: every rule with 0 to 3 premises, every kind of Cut, Axiom's search, the counter's bound; each term's size too. One table, computed.
+use Rattle.std.specs.Prelude.{Ok, Err}
 use Prim.Native.Nat.{ℕ, suc, ◌-◌}
 use Prim.Native.String.{String}
 use mathlib.Core.Path.{◌≡◌, refl}
@@ -8,7 +9,7 @@ use lib.ListN.{take}
 use lib.Dec.{eqb}
 use Rattle.rules.specs.Basic.{Bytes, say, digits}
 use Rattle.rules.specs.Limits.{Limits, limits}
-use Rattle.rules.specs.Refusal.{Outcome, good, refused}
+use Rattle.rules.specs.Refusal.{Outcome, number_of}
 use Rattle.rules.specs.Formula.{Formula, atom, constant, exponential, connective, plain, negated, Bottom, Top, Zero, OfCourse, WhyNot, Tensor, Par, With, Plus, Lolli}
 use Rattle.rules.specs.Term.{Term, nodes, encode, size}
 use Rattle.rules.specs.Proof.{Proof, proof, row, Rule, plain as plain_rule, focus, cut, FocusPositive, FocusNegative, Axiom, OneIntro, BottomIntro, TensorIntro, ParIntro, TopIntro, WithIntro, PlusIntroLeft, PlusIntroRight, OfCourseIntro, WhyNotIntro, Weakening, Contraction, Dereliction, Blur}
@@ -62,17 +63,17 @@ abbrev pub fitting : (bytes nodes : ℕ) → Limits
 fitting b n = record { bytes = b; nodes = n; rules = 0; formulas = 0 }
 
 abbrev pub is_good : Outcome (Term × ℕ) → Bool
-is_good (good r) = true
-is_good (refused r) = false
+is_good (Ok r) = true
+is_good (Err r) = false
 
 abbrev pub is8 : Outcome (Term × ℕ) → Bool
-is8 (good r) = false
-is8 (refused r) = eqb r.number 8
+is8 (Ok r) = false
+is8 (Err r) = eqb (number_of r.reason) 8
 
 -- the text and the counter; and at the term's own size it is given, at one byte or one node less it is 8
 abbrev pub answered : (counter : ℕ) → Proof → Answer → Outcome (Term × ℕ) → Bool
-answered n p (w ▹ m) (refused r) = false
-answered n p (w ▹ m) (good r) =
+answered n p (w ▹ m) (Err r) = false
+answered n p (w ▹ m) (Ok r) =
     equal (text r.0) (say w) && (eqb r.1 m && (is_good (extract_from (fitting (size r.0) (nodes r.0)) n p)
     && (is8 (extract_from (fitting (size r.0 - 1) (nodes r.0)) n p) && is8 (extract_from (fitting (size r.0) (nodes r.0 - 1)) n p))))
 
@@ -84,12 +85,12 @@ each r k [] = eqb k 4
 each r k (a ∷ as') = right-from 0 (proof r (𝟏 ∷ []) (row (take k premises))) a && each r (suc k) as'
 
 abbrev pub bytes_are : Bytes → Outcome (Term × ℕ) → Bool
-bytes_are s (good r) = equal (encode r.0) s
-bytes_are s (refused r) = false
+bytes_are s (Ok r) = equal (encode r.0) s
+bytes_are s (Err r) = false
 
 abbrev pub refused_by : ℕ → Outcome (Term × ℕ) → Bool
-refused_by n (good r) = false
-refused_by n (refused r) = eqb r.number n && (eqb r.place 0 && eqb r.input 0)
+refused_by n (Ok r) = false
+refused_by n (Err r) = eqb (number_of r.reason) n && (eqb r.place 0 && eqb r.input 0)
 
 unfoldable pub right : Row → Bool
 unfolding text encode nodes extract_from extract oldest axiom_name digits

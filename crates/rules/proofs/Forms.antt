@@ -6,10 +6,10 @@ use mathlib.Core.Bool.{Bool, true, false, ◌&&◌}
 use mathlib.Core.List.{List, [], ◌∷◌, map}
 use lib.ListN.{length}
 use lib.Dec.{eqb}
-use Rattle.std.specs.Prelude.{if◌then◌else◌}
+use Rattle.std.specs.Prelude.{if◌then◌else◌, Ok, Err}
 use Rattle.rules.specs.Basic.{Bytes, say, digits}
 use Rattle.rules.specs.Limits.{limits}
-use Rattle.rules.specs.Refusal.{Outcome, good, refused}
+use Rattle.rules.specs.Refusal.{Outcome}
 use Rattle.rules.specs.Name.{leads, follows, is_a_word}
 use Rattle.rules.specs.Formula.{encode_formula, formula_nodes}
 use Rattle.rules.specs.Term.{nodes, encode, parts}
@@ -29,8 +29,8 @@ pub data Row : Type 0 where
   ◌gives◌next◌ : (bytes text : String) (counter : ℕ) → Row
 
 abbrev pub good_and : {A : Type 0} → Outcome A → (A → Bool) → Bool
-good_and (good a) k = k a
-good_and (refused r) k = false
+good_and (Ok a) k = k a
+good_and (Err r) k = false
 
 abbrev pub all_equal : List Bytes → List Bytes → Bool
 all_equal [] [] = true

@@ -1,4 +1,5 @@
 -- The patches to try, P1 to P12 of document 01: one table, one statement, computed.
+use Rattle.std.specs.Prelude.{Ok, Err}
 use Prim.Native.Nat.{ℕ}
 use Prim.Native.String.{String}
 use mathlib.Core.Path.{◌≡◌, refl}
@@ -7,7 +8,7 @@ use mathlib.Core.List.{List, [], ◌∷◌, map, foldr}
 use lib.ListN.{length}
 use Rattle.rules.specs.Basic.{Bytes, say, digits, ◌‥◌}
 use Rattle.rules.specs.Limits.{Limits, limits}
-use Rattle.rules.specs.Refusal.{Outcome, good, refused}
+use Rattle.rules.specs.Refusal.{Outcome}
 use Rattle.rules.specs.Formula.{connective, Tensor}
 use Rattle.rules.specs.Term.{Term, var, leaf, one, two, abs, both, branch, pair, app, discard, let_a_pair, copy, fst, abort, nodes, encode, fits}
 use Rattle.rules.specs.Proof.{Proof, Axiom, OneIntro}
@@ -75,8 +76,8 @@ reduce_answer (stopped n c b t) = reduces n c b t
 reduce_answer (outgrew n t) = refuses
 
 abbrev pub extract_answer : Outcome (Term × ℕ) → Answer
-extract_answer (good r) = extracted r.0 r.1
-extract_answer (refused r) = refuses
+extract_answer (Ok r) = extracted r.0 r.1
+extract_answer (Err r) = refuses
 
 unfoldable pub answer : Question → Answer
 unfolding shown nodes step contract subst reduce_from fits encode extract_from extract oldest axiom_name digits

@@ -1,11 +1,12 @@
 -- Document 01's own facts of the stored form, and each of its refusals once, as one table that antt computes. Assumes nothing.
+use Rattle.std.specs.Prelude.{Ok, Err}
 use Prim.Native.Nat.{ℕ}
 use mathlib.Core.Path.{◌≡◌, refl}
 use mathlib.Core.List.{List, [], ◌∷◌, ◌++◌, map}
 use lib.ListN.{length, set, take, drop, replicate}
 use Rattle.rules.specs.Basic.{Bytes, low-high}
 use Rattle.rules.specs.Limits.{limits, wide_limits, block_count_for, output_room, text_room, formula_text_room, stored_room, scratch_room, entry_room}
-use Rattle.rules.specs.Refusal.{Outcome, good, refused}
+use Rattle.rules.specs.Refusal.{Outcome, number_of}
 use Rattle.rules.specs.declared.Kind.TheVariants.{Term, Proof}
 use Rattle.rules.specs.Reading.{byte, times, tag, too_many, node, whole, read_term}
 use Rattle.rules.specs.Stored.{check, weighed, block_body, blocks, stored, open_block, opened_blocks, opened, two_bytes}
@@ -35,8 +36,8 @@ numbers-are = refl
 
 -- what a file opens as: 0 and the content, or the number, place and input of its refusal
 pub shown : Outcome Bytes → Bytes
-shown (good s) = 0 ∷ s
-shown (refused r) = r.number ∷ r.place ∷ r.input ∷ []
+shown (Ok s) = 0 ∷ s
+shown (Err r) = number_of r.reason ∷ r.place ∷ r.input ∷ []
 
 -- a file with its first block's check put right
 repaired : Bytes → Bytes

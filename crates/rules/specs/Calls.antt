@@ -1,11 +1,13 @@
 -- Every public call: its answer, its output and its scratch, of all inputs and all lent buffers.
 -- Assumes nothing: these are definitions.
-use Rattle.std.specs.Prelude.{ℕ, ◌+◌, ◌-◌, Bool, ◌&&◌, List, [], ◌∷◌, length, take, drop, if◌then◌else◌}
+use Rattle.std.specs.Prelude.{ℕ, ◌+◌, ◌-◌, Bool, ◌&&◌, List, [], ◌∷◌, length, take, drop, if◌then◌else◌, Ok, Err}
 use Rattle.std.proofs.Math.Option.{Option, none, some}
 use Rattle.std.proofs.Math.ListN.{get_elem?}
 use Rattle.rules.specs.Basic.{Bytes, ◌≤?◌}
 use Rattle.rules.specs.Limits.{Limits, output_room, text_room, formula_text_room, stored_room, scratch_room, entry_room}
-use Rattle.rules.specs.Refusal.{Refusal, Outcome, good, refused, refuse, ◌>>=◌, mapped, outgrows}
+pub use Rattle.rules.specs.declared.Places.{Places}
+use Rattle.rules.specs.Refusal.{Refusal, Outcome, refuse, ◌>>=◌, mapped}
+use Rattle.rules.specs.declared.Reason.TheVariants.{Outgrows, NoSuchChild}
 use Rattle.rules.specs.Name.{encode_names}
 use Rattle.rules.specs.Formula.{formula_nodes}
 use Rattle.rules.specs.Term.{Term, encode, nodes, size, names, parts, fits}
@@ -51,7 +53,7 @@ formula_text_call L f o = wrote o (lent (room_for (formula_text_room L) o) (byte
 
 -- 8, outside reduction: the finished term breaks a limit.
 abbrev pub grown : Limits → Term → Outcome Bytes
-grown L t = if fits L t then good (encode t) else refuse outgrows 0 0
+grown L t = if fits L t then Ok (encode t) else refuse Outgrows 0 0
 
 -- substitute: inputs 1 the term, 2 the name, 3 what is put in.
 unfoldable pub substituted : Limits → (term name value : Bytes) → Outcome Bytes
@@ -70,12 +72,12 @@ pub data StepAnswer : Type 0 where
   Found : Rule → (place output_length : ℕ) → StepAnswer
 
 abbrev pub step_ending : Limits → Stepped → Ending StepAnswer
-step_ending L normal = writes_nothing (good Normal)
-step_ending L (found r p h t) = if step_fits L h t then answers (Found r p (length (encode t))) (encode t) else writes_nothing (refuse outgrows 0 0)
+step_ending L normal = writes_nothing (Ok Normal)
+step_ending L (found r p h t) = if step_fits L h t then answers (Found r p (length (encode t))) (encode t) else writes_nothing (refuse Outgrows 0 0)
 
 abbrev pub read_ending : {A B : Type 0} → Outcome A → (A → Ending B) → Ending B
-read_ending (good a) k = k a
-read_ending (refused r) k = writes_nothing (refused r)
+read_ending (Ok a) k = k a
+read_ending (Err r) k = writes_nothing (Err r)
 
 unfoldable pub step_call : Limits → (term output scratch : Bytes) → Worked StepAnswer
 step_call L t o s = worked o s (lent (work_room L o s) (read_ending (read_term L 1 t) (λ u. step_ending L (step u))))
@@ -88,7 +90,7 @@ pub record ReduceAnswer : Type 0 where
 
 abbrev pub reduce_ending : Reduced → Ending ReduceAnswer
 reduce_ending (stopped n c b t) = answers (record { steps = n; counts = c; none_left = b }) (encode t)
-reduce_ending (outgrew n t) = record { says = refuse outgrows n 0; writes = some (encode t) }
+reduce_ending (outgrew n t) = record { says = refuse Outgrows n 0; writes = some (encode t) }
 
 -- 8 leaves the last term that fitted, so the length of what stands in the output is told beside the answer.
 pub record ReduceCall : Type 0 where
@@ -111,11 +113,6 @@ is_normal_call L t = mapped (λ u. is_normal_term (step u)) (read_term L 1 t)
 unfoldable pub is_straight_call : Limits → (term : Bytes) → Outcome Bool
 is_straight_call L t = mapped straight (read_term L 1 t)
 
--- Where a part stands in bytes: the place of its first byte, and the place after its last.
-pub record Places : Type 0 where
-  pub from : ℕ
-  pub end : ℕ
-
 -- The parts stand behind the tag and the names, one after the other.
 abbrev pub places_from : (place : ℕ) → List Term → List Places
 places_from i [] = []
@@ -126,8 +123,8 @@ part_places t = places_from (1 + length (encode_names (names t))) (parts t)
 
 -- 14: the term has no such child.
 abbrev pub or_no_child : Option Places → Outcome Places
-or_no_child none = refuse 14 0 0
-or_no_child (some p) = good p
+or_no_child none = refuse NoSuchChild 0 0
+or_no_child (some p) = Ok p
 
 -- locate: where child k stands, counted from 0.
 unfoldable pub locate_call : Limits → (term : Bytes) → (k : ℕ) → Outcome Places
@@ -137,24 +134,24 @@ locate_call L t k = do
 
 -- child: the part of the caller's bytes that is child k; refused, an empty part.
 abbrev pub part_or_empty : (bytes : Bytes) → Outcome Places → Bytes
-part_or_empty s (good p) = take (p.end - p.from) (drop p.from s)
-part_or_empty s (refused r) = []
+part_or_empty s (Ok p) = take (p.end - p.from) (drop p.from s)
+part_or_empty s (Err r) = []
 
 unfoldable pub child_call : Limits → (term : Bytes) → (k : ℕ) → Bytes
 child_call L t k = part_or_empty t (locate_call L t k)
 
 -- and where in the caller's bytes that part starts; an empty part stands at their start
 abbrev pub start_or_first : Outcome Places → ℕ
-start_or_first (good p) = p.from
-start_or_first (refused r) = 0
+start_or_first (Ok p) = p.from
+start_or_first (Err r) = 0
 
 unfoldable pub child_start : Limits → (term : Bytes) → (k : ℕ) → ℕ
 child_start L t k = start_or_first (locate_call L t k)
 
 -- a second call tells the number and place
 abbrev pub fault_of : {A : Type 0} → Outcome A → Option Refusal
-fault_of (good a) = none
-fault_of (refused r) = some r
+fault_of (Ok a) = none
+fault_of (Err r) = some r
 
 unfoldable pub child_fault_call : Limits → (term : Bytes) → (k : ℕ) → Option Refusal
 child_fault_call L t k = fault_of (locate_call L t k)
@@ -190,9 +187,9 @@ abbrev pub extract_ending : Outcome (Term × ℕ) → Ending ℕ
 extract_ending o = bytes_or (mapped (λ r. encode r.0) o)
 
 abbrev pub counter_after : {A : Type 0} → (before : ℕ) → Outcome A → Outcome (Term × ℕ) → ℕ
-counter_after n (good a) (good r) = r.1
-counter_after n (good a) (refused r) = n
-counter_after n (refused f) o = n
+counter_after n (Ok a) (Ok r) = r.1
+counter_after n (Ok a) (Err r) = n
+counter_after n (Err f) o = n
 
 abbrev pub extract_with : (output scratch : Bytes) (entries : List Entry) (counter : ℕ) → Outcome (Term × ℕ) → Ending ℕ → Extracted
 extract_with o s es n x e =

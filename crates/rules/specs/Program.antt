@@ -1,10 +1,11 @@
 -- Program `patchrun`: what it prints for a stored term on standard input (01, "Run").
 -- Assumes nothing: these are definitions.
-use Rattle.std.specs.Prelude.{ℕ, Bool, true, false, [], ◌∷◌}
+use Rattle.std.specs.Prelude.{ℕ, Bool, true, false, [], ◌∷◌, Ok, Err}
 use Prim.Native.String.{String}
 use Rattle.rules.specs.Basic.{Bytes, say, decimal, ◌‥◌}
 use Rattle.rules.specs.Limits.{Limits}
-use Rattle.rules.specs.Refusal.{Refusal, Outcome, good, refused, refuse, ◌>>=◌, outgrows}
+use Rattle.rules.specs.Refusal.{Refusal, Outcome, refuse, number_of, ◌>>=◌}
+use Rattle.rules.specs.declared.Reason.TheVariants.{Outgrows}
 use Rattle.rules.specs.Reading.{read_term}
 use Rattle.rules.specs.Text.{text}
 use Rattle.rules.specs.Reduction.{Counts, Reduced, stopped, outgrew, reduce}
@@ -29,15 +30,15 @@ counts_line n c b =
     ‥ field " derelict " c.derelict ‥ field " copy " c.copy ‥ field " discard " c.discard ‥ say " normal " ‥ say (yes_no b) ‥ 10 ∷ []
 
 unfoldable pub refusal_line : Refusal → Bytes
-refusal_line r = field "refused " r.number ‥ field " at " r.place ‥ 10 ∷ []
+refusal_line r = field "refused " (number_of r.reason) ‥ field " at " r.place ‥ 10 ∷ []
 
 abbrev pub report : Outcome Bytes → Bytes
-report (good s) = s
-report (refused r) = refusal_line r
+report (Ok s) = s
+report (Err r) = refusal_line r
 
 abbrev pub reduced_report : Reduced → Outcome Bytes
-reduced_report (stopped n c b t) = good (text t ‥ 10 ∷ counts_line n c b)
-reduced_report (outgrew n t) = refuse outgrows n 0
+reduced_report (stopped n c b t) = Ok (text t ‥ 10 ∷ counts_line n c b)
+reduced_report (outgrew n t) = refuse Outgrows n 0
 
 unfoldable pub patchrun : Limits → (stdin : Bytes) → Bytes
 patchrun L f = report (do

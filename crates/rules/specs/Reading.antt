@@ -1,21 +1,22 @@
 -- Reading the three forms: one reading from the left that stops at the first fault (01, "Refusal numbers", "Order").
 -- A reader is at a position of the input, with a count of what it has met so far and the bytes that are left.
 -- Assumes nothing: these are definitions.
-use Rattle.std.specs.Prelude.{ℕ, zero, suc, ◌+◌, ◌-◌, ◌*◌, Bool, List, [], ◌∷◌, length, if◌then◌else◌}
+use Rattle.std.specs.Prelude.{ℕ, zero, suc, ◌+◌, ◌-◌, ◌*◌, Bool, List, [], ◌∷◌, length, if◌then◌else◌, Ok}
 use Rattle.std.proofs.Math.Option.{Option, none, some}
 use Rattle.rules.specs.Basic.{Bytes, ◌<?◌, ◌≤?◌, between}
 use Rattle.rules.specs.Limits.{Limits}
-use Rattle.rules.specs.Refusal.{Outcome, good, refuse}
+use Rattle.rules.specs.Refusal.{Reason, Outcome, refuse}
+use Rattle.rules.specs.declared.Reason.TheVariants.{InputTooLong, EndsInside, NotListed, BadName, OneTooMany, LeftOver, ReservedWord}
 use Rattle.rules.specs.Name.{Name, leads, follows, name_most, Spelling, name_spelling}
 use Rattle.rules.specs.Layout.{Layout, Tuple, head_by_tag}
 use Rattle.rules.specs.Formula.{Formula, formulas}
 use Rattle.rules.specs.Term.{Term, terms}
 use Rattle.rules.specs.Proof.{Proof, proof, row, Rule, plain, cut, focus, RuleHead, a_plain, a_cut, a_focus, rule_heads}
 
--- What was read, with the count of what was met, the next position and the rest; or a fault, its number and its place.
+-- What was read, with the count of what was met, the next position and the rest; or a fault, why and where.
 pub data Got (S A : Type 0) : Type 0 where
   got : A → S → (next : ℕ) → (rest : Bytes) → Got S A
-  bad : (number place : ℕ) → Got S A
+  bad : Reason → (place : ℕ) → Got S A
 
 abbrev pub Reader : Type 0 → Type 0 → Type 0
 Reader S A = (met : S) (at : ℕ) (rest : Bytes) → Got S A
@@ -47,49 +48,49 @@ many m (suc n) = do
 
 -- 3: the input ends inside an item, at its length, which is the position where nothing is left.
 unfoldable pub byte : {S : Type 0} → Reader S ℕ
-byte u at [] = bad 3 at
+byte u at [] = bad EndsInside at
 byte u at (b ∷ r) = got b u (at + 1) r
 
 -- What is allowed of what is read, or else a fault where that begins.
-abbrev pub only : {S A : Type 0} → (allowed : A → Bool) (number : ℕ) → Reader S A → Reader S A
+abbrev pub only : {S A : Type 0} → (allowed : A → Bool) → Reason → Reader S A → Reader S A
 only ok n m u at r = and_then (m u at r) (λ x u' p r'. if ok x then got x u' p r' else bad n at)
 
 -- 4 for a premise count, 5 in a name
-unfoldable pub byte_for : {S : Type 0} → (allowed : ℕ → Bool) (number : ℕ) → Reader S ℕ
+unfoldable pub byte_for : {S : Type 0} → (allowed : ℕ → Bool) → Reason → Reader S ℕ
 byte_for ok n = only ok n byte
 
 -- n bytes are there, or else 3.
 unfoldable pub room : {S : Type 0} → ℕ → Reader S (Unit {0})
-room n u at r = if n ≤? length r then got tt u at r else bad 3 (at + length r)
+room n u at r = if n ≤? length r then got tt u at r else bad EndsInside (at + length r)
 
 unfoldable pub letters : {S : Type 0} → ℕ → Reader S Name
 letters n = do
-  b ← byte_for leads 5
-  bs ← many (byte_for follows 5) (n - 1)
+  b ← byte_for leads BadName
+  bs ← many (byte_for follows BadName) (n - 1)
   pure (b ∷ bs)
 
 -- 15: a word, at its first letter.
 unfoldable pub spelled : {S : Type 0} → Spelling → ℕ → Reader S Name
-spelled P n = only P.allowed 15 (letters n)
+spelled P n = only P.allowed ReservedWord (letters n)
 
 -- In a name: 3 for a missing length, 5 for a bad length, 3 for missing bytes, 5 for a bad byte, 15 for a word.
 unfoldable pub name : {S : Type 0} → Spelling → Reader S Name
 name P = do
-  n ← byte_for (between 1 P.longest) 5
+  n ← byte_for (between 1 P.longest) BadName
   _ ← room n
   spelled P n
 
 abbrev pub listed : {H : Type 0} → (met at next : ℕ) → Bytes → Option H → Got ℕ H
-listed u at p r none = bad 4 at
+listed u at p r none = bad NotListed at
 listed u at p r (some h) = got h (u + 1) p r
 
 -- At a node the order is 3, 6, 4: a tag is there; it is not one too many; it is listed.
 unfoldable pub tag : {H : Type 0} → (most : ℕ) → (ℕ → Option H) → Reader ℕ H
-tag most heads u at r = and_then (byte u at r) (λ k u' p r'. if u <? most then listed u at p r' (heads k) else bad 6 at)
+tag most heads u at r = and_then (byte u at r) (λ k u' p r'. if u <? most then listed u at p r' (heads k) else bad OneTooMany at)
 
 -- where no node may follow
 unfoldable pub too_many : {A : Type 0} → Reader ℕ A
-too_many u at r = and_then (byte u at r) (λ k u' p r'. bad 6 at)
+too_many u at r = and_then (byte u at r) (λ k u' p r'. bad OneTooMany at)
 
 -- A node: its tag, its names, its parts. Nodes nest no deeper than there are, so a depth of `most` is enough.
 unfoldable pub node : {H A : Type 0} → Layout H A → (most depth : ℕ) → Reader ℕ A
@@ -138,19 +139,19 @@ proof_at L (suc depth) = do
   r ← rule_of (counting_formulas (node formulas L.formulas L.formulas)) h
   n ← byte
   linear ← many (counting_formulas (node formulas L.formulas L.formulas)) n
-  m ← byte_for (◌≤? 3) 4
+  m ← byte_for (◌≤? 3) NotListed
   ps ← many (proof_at L depth) m
   pure (proof r linear (row ps))
 
 -- 7: bytes left over, at the first of them.
 abbrev pub ended : {S A : Type 0} → (input : ℕ) → Got S A → Outcome A
-ended i (got x u at []) = good x
-ended i (got x u at (b ∷ r)) = refuse 7 at i
+ended i (got x u at []) = Ok x
+ended i (got x u at (b ∷ r)) = refuse LeftOver at i
 ended i (bad n p) = refuse n p i
 
 -- 2: input over 4,096 bytes; then one reading.
 unfoldable pub whole : {S A : Type 0} → Limits → (input : ℕ) → Bytes → Reader S A → S → Outcome A
-whole L i s m u = if L.bytes <? length s then refuse 2 L.bytes i else ended i (m u 0 s)
+whole L i s m u = if L.bytes <? length s then refuse InputTooLong L.bytes i else ended i (m u 0 s)
 
 unfoldable pub read_term : Limits → (input : ℕ) → Bytes → Outcome Term
 read_term L i s = whole L i s (node terms L.nodes L.nodes) 0
@@ -163,4 +164,4 @@ read_proof L i s = whole L i s (proof_at L L.rules) (record { rules = 0; formula
 
 -- A bare name argument has no length byte; empty or over 24 bytes is 5 at 0.
 unfoldable pub read_name : (input : ℕ) → Bytes → Outcome Name
-read_name i s = if between 1 name_most (length s) then ended i (spelled name_spelling (length s) (tt {0}) 0 s) else refuse 5 0 i
+read_name i s = if between 1 name_most (length s) then ended i (spelled name_spelling (length s) (tt {0}) 0 s) else refuse BadName 0 i

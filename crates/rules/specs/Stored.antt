@@ -1,9 +1,10 @@
 -- The stored form: blocks of 512 bytes (01, "Stored form", refusals 10 to 13).
 -- Assumes nothing: these are definitions.
-use Rattle.std.specs.Prelude.{ℕ, zero, suc, ◌+◌, ◌-◌, ◌*◌, ◌/◌, ◌%◌, Bool, true, not, ◌&&◌, ◌||◌, [], ◌∷◌, length, take, drop, get_or, replicate, if◌then◌else◌, ◌==◌}
+use Rattle.std.specs.Prelude.{ℕ, zero, suc, ◌+◌, ◌-◌, ◌*◌, ◌/◌, ◌%◌, Bool, true, not, ◌&&◌, ◌||◌, [], ◌∷◌, length, take, drop, get_or, replicate, if◌then◌else◌, ◌==◌, Ok}
 use Rattle.rules.specs.Basic.{Bytes, ◌<?◌, between, ◌‥◌, low-high}
 use Rattle.rules.specs.Limits.{Limits, block_bytes, block_content, block_count_for, stored_room}
-use Rattle.rules.specs.Refusal.{Outcome, good, refuse, ◌>>=◌, mapped}
+use Rattle.rules.specs.Refusal.{Outcome, refuse, ◌>>=◌, mapped}
+use Rattle.rules.specs.declared.Reason.TheVariants.{StoredLength, BlockCheck, BlockHead, UnusedNotZero}
 use Rattle.rules.specs.Reading.{read_term, read_proof}
 pub use Rattle.rules.specs.declared.Kind.{Kind}
 use Rattle.rules.specs.declared.Kind.TheVariants.{Term, Proof}
@@ -79,23 +80,23 @@ rest_wrong i b = not (all_zero (drop (4 + used_bytes_in (length_in b) i) (take 5
 -- Block by block 11, 12, 13; else the block's content.
 unfoldable pub open_block : Limits → Kind → (file : Bytes) → (number : ℕ) → Bytes → Outcome Bytes
 open_block L k f i b =
-    if check_wrong b then refuse 11 i 1
-    else (if is_head_wrong L k f i b then refuse 12 i 1
-    else (if rest_wrong i b then refuse 13 i 1
-    else good (take (used_bytes_in (length_in b) i) (drop 4 b))))
+    if check_wrong b then refuse BlockCheck i 1
+    else (if is_head_wrong L k f i b then refuse BlockHead i 1
+    else (if rest_wrong i b then refuse UnusedNotZero i 1
+    else Ok (take (used_bytes_in (length_in b) i) (drop 4 b))))
 
 unfoldable pub opened_blocks : Limits → Kind → (file : Bytes) → (first many : ℕ) → Outcome Bytes
-opened_blocks L k f i zero = good []
+opened_blocks L k f i zero = Ok []
 opened_blocks L k f i (suc n) = do
   here ← open_block L k f i (block_at f i)
   rest ← opened_blocks L k f (suc i) n
-  good (here ‥ rest)
+  Ok (here ‥ rest)
 
 -- 10: stored length 0, no multiple of 512, or over 4,608. Then the blocks, then the content from 3 on, places counted in the content.
 unfoldable pub opened : Limits → Kind → (file : Bytes) → Outcome Bytes
 opened L k f =
-    if (length f == 0) || (not (length f % block_bytes == 0) || (stored_room L <? length f)) then refuse 10 0 1
+    if (length f == 0) || (not (length f % block_bytes == 0) || (stored_room L <? length f)) then refuse StoredLength 0 1
     else do
       s ← opened_blocks L k f 0 (length f / block_bytes)
       _ ← read_kind L k 1 s
-      good s
+      Ok s

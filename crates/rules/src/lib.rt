@@ -3,6 +3,7 @@
 
 ghost use Rattle.std.specs.Prelude.{◌≡◌};
 ghost use Rattle.rules.specs.Name.{lower_of};
+ghost use Rattle.rules.specs.Refusal.{number_of};
 ghost use Rattle.rules.specs.Stored.{kind_byte};
 
 // The limits. specs/Limits.antt has the same numbers, and the contracts hold the code to those.
@@ -41,13 +42,7 @@ pub const LONGEST_ATOM: usize = 16;
 pub fn lower_byte(b: u8) -> u8
     ensures { result ≡ lower_of b }
 {
-    if b < 65 {
-        return b;
-    }
-    if 90 < b {
-        return b;
-    }
-    b + 32
+    b.to_ascii_lowercase()
 }
 
 // An extraction may not leave the counter over this.
@@ -56,36 +51,101 @@ pub const MOST_COUNTER: usize = 100_000_000;
 // The limit on steps of the programs.
 pub const PROGRAM_STEPS: u32 = 1000;
 
-// A refusal: its number and place as document 01's table has them, and the input that it is about: 1, 2 or 3, or 0 for none.
-#[derive(Clone, Copy)]
+// Why a call is refused, in the order of the numbers that document 01's table gives, from 1 on.
+#[derive(Clone, Copy, Debug, PartialEq, Eq)]
+pub enum Reason {
+    ShortBuffer,
+    InputTooLong,
+    EndsInside,
+    NotListed,
+    BadName,
+    OneTooMany,
+    LeftOver,
+    Outgrows,
+    CounterOver,
+    StoredLength,
+    BlockCheck,
+    BlockHead,
+    UnusedNotZero,
+    NoSuchChild,
+    ReservedWord,
+}
+
+impl Reason {
+    // Its number.
+    pub fn number(self) -> u8
+        ensures { result ≡ number_of self }
+    {
+        match self {
+            Reason::ShortBuffer => 1,
+            Reason::InputTooLong => 2,
+            Reason::EndsInside => 3,
+            Reason::NotListed => 4,
+            Reason::BadName => 5,
+            Reason::OneTooMany => 6,
+            Reason::LeftOver => 7,
+            Reason::Outgrows => 8,
+            Reason::CounterOver => 9,
+            Reason::StoredLength => 10,
+            Reason::BlockCheck => 11,
+            Reason::BlockHead => 12,
+            Reason::UnusedNotZero => 13,
+            Reason::NoSuchChild => 14,
+            Reason::ReservedWord => 15,
+        }
+    }
+}
+
+// A fault of a reading: why, and where.
+#[derive(Clone, Copy, Debug, PartialEq, Eq)]
+pub struct Fault {
+    pub reason: Reason,
+    pub place: usize,
+}
+
+impl Fault {
+    // The refusal of an input that has this fault.
+    pub fn of_input(self, input: u8) -> Refusal
+        ensures { result ≡ record { reason = self.reason; place = self.place; input = input } }
+    {
+        Refusal {
+            reason: self.reason,
+            place: self.place,
+            input,
+        }
+    }
+}
+
+// A refusal: why, the place as document 01's table has it, and the input that it is about: 1, 2 or 3, or 0 for none.
+#[derive(Clone, Copy, Debug, PartialEq, Eq)]
 pub struct Refusal {
-    pub number: u8,
+    pub reason: Reason,
     pub place: usize,
     pub input: u8,
 }
 
 impl Refusal {
     // One that is about no place of an input: 1, 8, 9 or 14.
-    pub fn of_no_input(number: u8) -> Refusal
-        ensures { result ≡ record { number = number; place = 0; input = 0 } }
+    pub fn of_no_input(reason: Reason) -> Refusal
+        ensures { result ≡ record { reason = reason; place = 0; input = 0 } }
     {
         Refusal {
-            number,
+            reason,
             place: 0,
             input: 0,
         }
     }
 }
 
-// A count (the bytes written, or the nodes of what was read), or a refusal.
-#[derive(Clone, Copy)]
-pub enum Answer {
-    Good(usize),
-    Refused(Refusal),
+// Where a part stands in bytes: the place of its first byte, and the place after its last.
+#[derive(Clone, Copy, Debug, PartialEq, Eq)]
+pub struct Places {
+    pub from: usize,
+    pub end: usize,
 }
 
 // What a stored file holds.
-#[derive(Clone, Copy)]
+#[derive(Clone, Copy, Debug, PartialEq, Eq)]
 pub enum Kind {
     Term,
     Proof,
@@ -104,7 +164,7 @@ impl Kind {
 }
 
 // The rules of reduction, in the order of their counts.
-#[derive(Clone, Copy)]
+#[derive(Clone, Copy, Debug, PartialEq, Eq)]
 pub enum Rule {
     App,
     Let,
@@ -117,7 +177,7 @@ pub enum Rule {
 }
 
 // One count for each of them.
-#[derive(Clone, Copy)]
+#[derive(Clone, Copy, Debug, Default, PartialEq, Eq)]
 pub struct Counts {
     pub app: u32,
     pub lets: u32,

@@ -1,3 +1,3 @@
-pub mod Taken
 pub mod Answers
+pub mod Taken
 pub mod Laws

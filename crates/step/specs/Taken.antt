@@ -4,13 +4,15 @@ use Rattle.std.proofs.Math.Option.{Option}
 use Rattle.std.proofs.lemmas.List.Edits.{sets}
 use Rattle.rules.specs.Basic.{Bytes}
 use Rattle.rules.specs.Limits.{limits, output_room}
-use Rattle.rules.specs.Term.{Term, encode, nodes, size, fits}
+use Rattle.rules.specs.Term.{Term, encode, nodes, fits}
 use Rattle.rules.specs.declared.Rule.{Rule}
+use Rattle.rules.specs.Refusal.{Outcome}
 use Rattle.rules.specs.Step.{by, contract, Stepped, normal, found, step_fits}
 use Rattle.redex.specs.Around.{Frame}
 use Rattle.redex.specs.Spot.{placed}
-use Rattle.step.specs.declared.take.Taken.{Taken}
-use Rattle.step.specs.declared.take.Taken.TheVariants.{Normal, Found, Outgrown}
+use Rattle.rules.specs.Calls.{step_ending}
+use Rattle.step.specs.declared.Stepped.{Stepped as Answered}
+use Rattle.step.specs.Answers.{step_answered}
 
 -- the redex t, contracted where it stands
 unfoldable pub contracted : (place : ℕ) → (Term → Term) → Term → Stepped
@@ -29,15 +31,12 @@ pub record Framed (src : Bytes) (n place : ℕ) (out : Bytes) (f : Term → Term
   pub result : Term
   pub contracts : contract t ≡ by rule half result
 
--- a step's answer, and the output: a new term that fits is written, and nothing else
-abbrev pub taken_of : Stepped → Taken
-taken_of normal = Normal
-taken_of (found r p h t) = if step_fits limits h t then Found (record { rule = r; place = p; length = size t }) else Outgrown
-
+-- the output of a step: a new term that fits is written, and nothing else
 abbrev pub written_of : Stepped → Bytes → Bytes
 written_of normal out = out
 written_of (found r p h t) out = if step_fits limits h t then sets out 0 (encode t) else out
 
-pub record Takes (s : Stepped) (out out' : Bytes) (r : Taken) : Type 0 where
-  pub says : r ≡ taken_of s
+-- the answer as the rules end a step, and the output before it is cleared
+pub record Takes (s : Stepped) (out out' : Bytes) (r : Outcome Answered) : Type 0 where
+  pub says : r ≡ step_answered (step_ending limits s).says
   pub leaves : out' ≡ written_of s out

@@ -7,13 +7,13 @@ ghost use Rattle.rules.specs.Term.{Term};
 ghost use Rattle.rules.specs.Step.{step as step_of};
 ghost use Rattle.rules.specs.Calls.{step_call, is_normal_call};
 ghost use Rattle.term.specs.Given.{Reads};
-ghost use Rattle.step.specs.Answers.{step_answered, normal_answered, Stepping};
+ghost use Rattle.step.specs.Answers.{step_answered, Stepping};
 
 use buffer::room::short;
 use buffer::run;
 use redex::read::{Resting, none_left, read_resting};
-use rules::{Answer, Refusal, Rule};
-use take::{Taken, take_step};
+use rules::{Reason, Refusal, Rule};
+use take::take_step;
 
 mod take;
 
@@ -29,55 +29,46 @@ pub struct Found {
 pub enum Stepped {
     Normal,
     Found(Found),
-    Refused(Refusal),
-}
-
-// Whether a term is normal.
-#[derive(Clone, Copy)]
-pub enum Normality {
-    Known(bool),
-    Refused(Refusal),
 }
 
 // A step of a term that was read: zeros behind the next term, and in the scratch.
-fn step_read(term: &[u8], nodes: usize, out: &mut [u8], scratch: &mut [u8]) -> Stepped
+fn step_read(
+    term: &[u8],
+    nodes: usize,
+    out: &mut [u8],
+    scratch: &mut [u8],
+) -> Result<Stepped, Refusal>
     requires { ((t : Term) × Reads term.now nodes out.old t) × (scratch_room limits ≤ length scratch.old) }
     ensures { (t : Term) → Reads term.now nodes out.old t → Stepping (step_of t) out.old scratch.old result out.new scratch.new }
 {
-    let taken = take_step(term, nodes, out, scratch);
+    let stepped = take_step(term, nodes, out, scratch);
     run::clear(scratch, 0);
-    match taken {
-        Taken::Normal => Stepped::Normal,
-        Taken::Outgrown => Stepped::Refused(Refusal::of_no_input(8)),
-        Taken::Found(found) => {
-            run::clear(out, found.length);
-            Stepped::Found(found)
-        }
+    let step = stepped?;
+    if let Stepped::Found(found) = step {
+        run::clear(out, found.length);
     }
+    Ok(step)
 }
 
 // The next term, written to out, with zeros behind it; or Normal, and out untouched.
-pub fn step(term: &[u8], out: &mut [u8], scratch: &mut [u8]) -> Stepped
+pub fn step(term: &[u8], out: &mut [u8], scratch: &mut [u8]) -> Result<Stepped, Refusal>
     ensures value { result ≡ step_answered (step_call limits term.now out.old scratch.old).answer }
     ensures out_after { out.new ≡ (step_call limits term.now out.old scratch.old).output }
     ensures scratch_after { scratch.new ≡ (step_call limits term.now out.old scratch.old).scratch }
 {
     if short(out.len(), scratch.len()) {
-        return Stepped::Refused(Refusal::of_no_input(1));
+        return Err(Refusal::of_no_input(Reason::ShortBuffer));
     }
-    match reader::term_input(term, 1) {
-        Answer::Refused(r) => Stepped::Refused(r),
-        Answer::Good(nodes) => step_read(term, nodes, out, scratch),
-    }
+    let nodes = reader::term_input(term, 1)?;
+    step_read(term, nodes, out, scratch)
 }
 
 // Whether step finds nothing.
-pub fn is_normal(term: &[u8]) -> Normality
-    ensures { result ≡ normal_answered (is_normal_call limits term.now) }
+pub fn is_normal(term: &[u8]) -> Result<bool, Refusal>
+    ensures { result ≡ is_normal_call limits term.now }
 {
-    match read_resting(term, 1) {
-        Resting::Refused(r) => Normality::Refused(r),
-        Resting::Unsure(_) => Normality::Known(none_left(term)),
-        Resting::Calm(_) => Normality::Known(true),
+    match read_resting(term, 1)? {
+        Resting::Unsure(_) => Ok(none_left(term)),
+        Resting::Calm(_) => Ok(true),
     }
 }

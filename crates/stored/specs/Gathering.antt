@@ -1,14 +1,12 @@
 -- A turn of the loop that opens all blocks: a refusal ends it, a block's content goes behind what was gathered. Assumes nothing.
-use Rattle.std.specs.Prelude.{ℕ, suc, ◌+◌, ◌-◌, ◌*◌, ◌≤◌, ◌<◌, ◌≡◌, refl, [], ◌++◌, length, take, drop}
+use Rattle.std.specs.Prelude.{ℕ, suc, ◌+◌, ◌-◌, ◌*◌, ◌≤◌, ◌<◌, ◌≡◌, refl, [], ◌++◌, length, take, drop, Ok, Err}
 use Rattle.std.proofs.Common.{sym, ap, ◌∙◌, append_assoc, add-one, arith, length-append, length-drop, take_at, length-take-le}
 use Rattle.std.proofs.lemmas.List.Edits.{sets-eq}
 use Rattle.std.proofs.Math.Seq.{slice, length-slice}
 use Rattle.rules.specs.Basic.{Bytes}
 use Rattle.rules.specs.Limits.{Limits, block_bytes}
-use Rattle.rules.specs.Refusal.{Outcome, good, refused, mapped, ◌>>=◌}
+use Rattle.rules.specs.Refusal.{Outcome, mapped, ◌>>=◌}
 use Rattle.rules.specs.declared.Refusal.{Refusal}
-use Rattle.rules.specs.declared.Answer.{Answer}
-use Rattle.rules.specs.declared.Answer.TheVariants.{Good, Refused}
 use Rattle.rules.specs.declared.Kind.{Kind}
 use Rattle.rules.specs.Stored.{block_at, open_block, opened_blocks}
 use Rattle.buffer.specs.Wrote.{Wrote}
@@ -20,12 +18,12 @@ abbrev pub behind : Bytes → Outcome Bytes → Outcome Bytes
 behind s o = mapped (λ (r : Bytes). s ++ r) o
 
 pub behind-nil : (o : Outcome Bytes) → o ≡ behind [] o
-behind-nil (good s) = refl
-behind-nil (refused r) = refl
+behind-nil (Ok s) = refl
+behind-nil (Err r) = refl
 
 behind-behind : (s t : Bytes) (o : Outcome Bytes) → behind s (behind t o) ≡ behind (s ++ t) o
-behind-behind s t (good r) = ap good (sym (append_assoc s t r))
-behind-behind s t (refused r) = refl
+behind-behind s t (Ok r) = ap Ok (sym (append_assoc s t r))
+behind-behind s t (Err r) = refl
 
 -- what stands up to the end of a run that was written
 pub wrote-take : {out out' xs : Bytes} {at past : ℕ} → Wrote out at xs out' past → at + length xs ≤ length out → take past out' ≡ take at out ++ xs
@@ -46,13 +44,13 @@ copied b u h = (slice-part 4 u b (omega arith), length-slice 4 (4 + u) b h ∙ o
 
 -- the first block of those that are left, and the others
 abbrev pub joined : (here rest : Outcome Bytes) → Outcome Bytes
-joined (good s) o = behind s o
-joined (refused r) o = refused r
+joined (Ok s) o = behind s o
+joined (Err r) o = Err r
 
-join : (here rest : Outcome Bytes) → ◌>>=◌ here (λ (s : Bytes). ◌>>=◌ rest (λ (t : Bytes). good (s ++ t))) ≡ joined here rest
-join (good s) (good t) = refl
-join (good s) (refused r) = refl
-join (refused r) o = refl
+join : (here rest : Outcome Bytes) → ◌>>=◌ here (λ (s : Bytes). ◌>>=◌ rest (λ (t : Bytes). Ok (s ++ t))) ≡ joined here rest
+join (Ok s) (Ok t) = refl
+join (Ok s) (Err r) = refl
+join (Err r) o = refl
 
 pub open_blocks-suc : (L : Limits) (k : Kind) (f : Bytes) (i n : ℕ) → opened_blocks L k f i (suc n) ≡ joined (open_block L k f i (block_at f i)) (opened_blocks L k f (suc i) n)
 unfolding opened_blocks
@@ -66,7 +64,7 @@ open_blocks-first L k f i many h =
     ∙ open_blocks-suc L k f i (many - (i + 1))
     ∙ ap (λ (j : ℕ). joined (open_block L k f i (block_at f i)) (opened_blocks L k f j (many - (i + 1)))) (sym (add-one i))
 
-module _ (L : Limits) (k : Kind) (f content b : Bytes) (i many at : ℕ) (r : Answer) (more : i < many) (here : b ≡ block_at f i) (o : OpenedBlock L k f i b r)
+module _ (L : Limits) (k : Kind) (f content b : Bytes) (i many at : ℕ) (r : Outcome ℕ) (more : i < many) (here : b ≡ block_at f i) (o : OpenedBlock L k f i b r)
     (so_far : opened_blocks L k f 0 many ≡ behind (take at content) (opened_blocks L k f i (many - i))) where
   abbrev rest : Outcome Bytes
   rest = opened_blocks L k f (i + 1) (many - (i + 1))
@@ -76,13 +74,13 @@ module _ (L : Limits) (k : Kind) (f content b : Bytes) (i many at : ℕ) (r : An
       so_far
       ∙ ap (behind (take at content)) (open_blocks-first L k f i many more ∙ ap (λ (x : Outcome Bytes). joined x rest) (ap (open_block L k f i) (sym here) ∙ o.outcome))
 
-  pub stops : (x : Refusal) → r ≡ Refused x → opened_blocks L k f 0 many ≡ refused x
-  stops x e = turn ∙ ap (λ (a : Answer). behind (take at content) (joined (taken a (drop 4 b)) rest)) e
+  pub stops : (x : Refusal) → r ≡ Err x → opened_blocks L k f 0 many ≡ Err x
+  stops x e = turn ∙ ap (λ (a : Outcome ℕ). behind (take at content) (joined (taken a (drop 4 b)) rest)) e
 
-  pub goes_on : (u past : ℕ) (content' : Bytes) → r ≡ Good u → take past content' ≡ take at content ++ take u (drop 4 b)
+  pub goes_on : (u past : ℕ) (content' : Bytes) → r ≡ Ok u → take past content' ≡ take at content ++ take u (drop 4 b)
       → opened_blocks L k f 0 many ≡ behind (take past content') rest
   goes_on u past content' e w =
       turn
-      ∙ ap (λ (a : Answer). behind (take at content) (joined (taken a (drop 4 b)) rest)) e
+      ∙ ap (λ (a : Outcome ℕ). behind (take at content) (joined (taken a (drop 4 b)) rest)) e
       ∙ behind-behind (take at content) (take u (drop 4 b)) rest
       ∙ ap (λ (s : Bytes). behind s rest) (sym w)

@@ -1,6 +1,6 @@
 -- A file that loads is the stored form of its content: each opened block is the block that storing writes. Over any limits. Assumes nothing.
 use Prim.Native.Nat.{ℕ, zero, suc, ◌+◌, ◌-◌, ◌*◌, ◌/◌, ◌%◌, ◌<◌}
-use Rattle.std.specs.Prelude.{◌≡◌, Bool, true, false, [], ◌∷◌, ◌++◌, ltb, replicate, if◌then◌else◌}
+use Rattle.std.specs.Prelude.{◌≡◌, Bool, true, false, [], ◌∷◌, ◌++◌, ltb, replicate, if◌then◌else◌, Ok}
 use Rattle.std.proofs.Math.Path.{refl, sym, ap}
 use Rattle.std.proofs.Common.{◌∙◌, zero-add, length-append, length-drop, take-append-drop, drop-cons, drop-drop, take-take, drop_at, get_or-take, length-take-le, ltb-true, ltb-false}
 use Rattle.std.proofs.Math.Nat.{sub-zero}
@@ -9,7 +9,6 @@ use Rattle.std.proofs.Math.ListN.{length, get_or, take, drop, drop_of_length-le}
 use Rattle.std.proofs.Math.Seq.{take_at, get_or-drop}
 use Rattle.rules.specs.Basic.{Bytes, low-high}
 use Rattle.rules.specs.Limits.{Limits, block_bytes, block_content, block_count_for}
-use Rattle.rules.specs.Refusal.{good}
 use Rattle.rules.specs.declared.Kind.{Kind}
 use Rattle.rules.specs.Stored.{kind_byte, check, block_body, block, blocks, stored, block_at, length_in, used_bytes_in, padded, all_zero, open_block, opened_blocks, opened}
 use Rattle.laws.specs.reading.Octets.{Octets}
@@ -102,7 +101,7 @@ module _ (L : Limits) (k : Kind) (f : Bytes) (many : ℕ) (octets : Octets f) (w
   length_at i h = length-take-le block_bytes (drop (block_bytes * i) f) (omega (arith, length-drop (block_bytes * i) f))
 
   -- the parts from a block on
-  module _ (i n : ℕ) (t : Bytes) (e : i + suc n ≡ many) (o : opened_blocks L k f i (suc n) ≡ good t) where
+  module _ (i n : ℕ) (t : Bytes) (e : i + suc n ≡ many) (o : opened_blocks L k f i (suc n) ≡ Ok t) where
     abbrev j : Joined (open_block L k f i (block_at f i)) (opened_blocks L k f (suc i) n) t
     j = blocks-right L k f i n t o
 
@@ -115,7 +114,7 @@ module _ (L : Limits) (k : Kind) (f : Bytes) (many : ℕ) (octets : Octets f) (w
         ∙ length-content i (block_at f i) (length_at i (omega arith))
         ∙ ap (λ (m : ℕ). used_bytes_in m i) right.head.alike
 
-  length_from : (i n : ℕ) (t : Bytes) → i + n ≡ many → opened_blocks L k f i n ≡ good t → length t ≡ size - block_content * i
+  length_from : (i n : ℕ) (t : Bytes) → i + n ≡ many → opened_blocks L k f i n ≡ Ok t → length t ≡ size - block_content * i
   length_from i zero t e o = ap length (blocks-none L k f i t o) ∙ omega arith
   length_from i (suc n) t e o =
       let j = blocks-right L k f i n t o in
@@ -125,7 +124,7 @@ module _ (L : Limits) (k : Kind) (f : Bytes) (many : ℕ) (octets : Octets f) (w
       ap length (sym j.all) ∙ length-append j.here j.rest ∙ omega arith
 
   module _ (s : Bytes) (length-s : length s ≡ size) where
-    blocks_from : (i n : ℕ) (t : Bytes) → i + n ≡ many → opened_blocks L k f i n ≡ good t → t ≡ drop (block_content * i) s → drop (block_bytes * i) f ≡ blocks k i n s
+    blocks_from : (i n : ℕ) (t : Bytes) → i + n ≡ many → opened_blocks L k f i n ≡ Ok t → t ≡ drop (block_content * i) s → drop (block_bytes * i) f ≡ blocks k i n s
     unfolding blocks
     blocks_from i zero t e o d = drop_of_length-le f {i = block_bytes * i} (omega arith)
     blocks_from i (suc n) t e o d =
@@ -157,7 +156,7 @@ module _ (L : Limits) (k : Kind) (f : Bytes) (many : ℕ) (octets : Octets f) (w
         low p i h = rw (get_or-take block_bytes (drop (block_bytes * i) f) p 0 h, get_or-drop (block_bytes * i) f p 0) (octet-at f octets (block_bytes * i + p))
 
 -- a file that loads is the stored form of its content
-pub loaded-stored : (L : Limits) (k : Kind) (f s : Bytes) → Octets f → opened L k f ≡ good s → f ≡ stored k s
+pub loaded-stored : (L : Limits) (k : Kind) (f s : Bytes) → Octets f → opened L k f ≡ Ok s → f ≡ stored k s
 unfolding stored
 loaded-stored L k f s octets o =
     let p = opens L k f s o in
@@ -172,5 +171,5 @@ loaded-stored L k f s octets o =
     ∙ ap (λ (n : ℕ). blocks k 0 n s) (sym count ∙ ap block_count_for (sym l))
 
 -- so one file holds it
-pub one-file : (L : Limits) (k : Kind) (f g s : Bytes) → Octets f → Octets g → opened L k f ≡ good s → opened L k g ≡ good s → f ≡ g
+pub one-file : (L : Limits) (k : Kind) (f g s : Bytes) → Octets f → Octets g → opened L k f ≡ Ok s → opened L k g ≡ Ok s → f ≡ g
 one-file L k f g s a b e h = loaded-stored L k f s a e ∙ sym (loaded-stored L k g s b h)

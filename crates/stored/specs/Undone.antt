@@ -1,6 +1,6 @@
 -- Loading undoes storing: each block of a stored form opens as its part of the content, and the parts make up the content. Over any limits. Assumes nothing.
 use Prim.Native.Nat.{ℕ, zero, suc, ◌+◌, ◌-◌, ◌*◌, ◌/◌, ◌%◌, ◌≤◌, ◌<◌}
-use Rattle.std.specs.Prelude.{◌≡◌, refl, Bool, true, false, [], ◌∷◌, ◌++◌, length, get_or, take, replicate, ltb, if◌then◌else◌}
+use Rattle.std.specs.Prelude.{◌≡◌, refl, Bool, true, false, [], ◌∷◌, ◌++◌, length, get_or, take, replicate, ltb, if◌then◌else◌, Ok, Err}
 use Rattle.std.proofs.Common.{sym, ◌∙◌, append_assoc, add-zero, zero-add, length-append, length-drop, drop_of_length-le, take-append-drop, take_at, drop_at, get_or-append-add, drop-drop, length-take-le}
 use Rattle.std.proofs.Math.Path.{ap}
 use native.Mathlib.Omega.{arith}
@@ -8,7 +8,8 @@ use Rattle.std.proofs.Math.ListN.{drop}
 use Rattle.std.proofs.Math.Seq.{take-append_seam, drop-append-add}
 use Rattle.rules.specs.Basic.{Bytes, low-high}
 use Rattle.rules.specs.Limits.{Limits, block_bytes, block_content, block_count_for, output_room, stored_room}
-use Rattle.rules.specs.Refusal.{Outcome, good, refused, mapped}
+use Rattle.rules.specs.Refusal.{Outcome, mapped}
+use Rattle.rules.specs.declared.Reason.TheVariants.{EndsInside}
 use Rattle.rules.specs.Term.{terms}
 use Rattle.rules.specs.Reading.{Got, bad, Met, byte, tag, too_many, node, proof_at, ended, whole, read_term, read_proof}
 use Rattle.rules.specs.declared.Refusal.{Refusal}
@@ -114,54 +115,54 @@ module _ (L : Limits) (k : Kind) (s : Bytes) (least : 1 ≤ length s) (most : le
         count = ap block_count_for e ∙ omega arith;
       })
 
-  pub stored-opens : (i : ℕ) → i < many → open_block L k file i (block_at file i) ≡ good (part k i s)
+  pub stored-opens : (i : ℕ) → i < many → open_block L k file i (block_at file i) ≡ Ok (part k i s)
   stored-opens i h =
       ap (open_block L k file i) (stored_at i h)
       ∙ opens-good L k file i (block k i s) (block-check k i s) (stored-head i h) (block-clean k i s)
-      ∙ ap good (block-content k i s)
+      ∙ ap Ok (block-content k i s)
 
   -- the parts from a block on
-  parts_from : (i n : ℕ) → i + n ≡ many → opened_blocks L k file i n ≡ good (drop (block_content * i) s)
+  parts_from : (i n : ℕ) → i + n ≡ many → opened_blocks L k file i n ≡ Ok (drop (block_content * i) s)
   unfolding opened_blocks
-  parts_from i zero e = ap good (sym (drop_of_length-le s {i = block_content * i} (omega arith)))
+  parts_from i zero e = ap Ok (sym (drop_of_length-le s {i = block_content * i} (omega arith)))
   parts_from i (suc n) e =
       let d : block_content * i + block_content ≡ block_content * suc i = omega arith in
       open_blocks-suc L k file i n
       ∙ ap (λ (o : Outcome Bytes). joined o (opened_blocks L k file (suc i) n)) (stored-opens i (omega arith))
-      ∙ ap (joined (good (part k i s))) (parts_from (suc i) n (omega arith))
-      ∙ ap (λ (r : Bytes). good (r ++ drop (block_content * suc i) s)) (take-used i s)
-      ∙ ap (λ (m : ℕ). good (take block_content (drop (block_content * i) s) ++ drop m s)) (sym d)
-      ∙ ap (λ (r : Bytes). good (take block_content (drop (block_content * i) s) ++ r)) (sym (drop-drop block_content (block_content * i) s))
-      ∙ ap good (take-append-drop block_content (drop (block_content * i) s))
+      ∙ ap (joined (Ok (part k i s))) (parts_from (suc i) n (omega arith))
+      ∙ ap (λ (r : Bytes). Ok (r ++ drop (block_content * suc i) s)) (take-used i s)
+      ∙ ap (λ (m : ℕ). Ok (take block_content (drop (block_content * i) s) ++ drop m s)) (sym d)
+      ∙ ap (λ (r : Bytes). Ok (take block_content (drop (block_content * i) s) ++ r)) (sym (drop-drop block_content (block_content * i) s))
+      ∙ ap Ok (take-append-drop block_content (drop (block_content * i) s))
 
-  pub stored-blocks : opened_blocks L k file 0 (length file / block_bytes) ≡ good s
+  pub stored-blocks : opened_blocks L k file 0 (length file / block_bytes) ≡ Ok s
   stored-blocks =
       let l = length-stored k s in
       let e : length file / block_bytes ≡ many = omega arith in
       ap (opened_blocks L k file 0) e ∙ parts_from 0 many (zero-add many)
 
 -- nothing reads as a term or a proof
-node-none : (m d : ℕ) → node terms m d 0 0 [] ≡ bad 3 0
+node-none : (m d : ℕ) → node terms m d 0 0 [] ≡ bad EndsInside 0
 unfolding node too_many tag byte
 node-none m zero = refl
 node-none m (suc d) = refl
 
-proof-none : (L : Limits) (d : ℕ) (u : Met) → proof_at L d u 0 [] ≡ bad 3 0
+proof-none : (L : Limits) (d : ℕ) (u : Met) → proof_at L d u 0 [] ≡ bad EndsInside 0
 unfolding proof_at too_many tag byte
 proof-none L zero u = refl
 proof-none L (suc d) u = refl
 
-not-read : {A S : Type 0} (t : Bool) (r : Refusal) (i : ℕ) (g : Got S A) → g ≡ bad 3 0 → mapped (λ (_ : A). tt {0}) (if t then refused r else ended i g) ≡ good tt → ⊥
+not-read : {A S : Type 0} (t : Bool) (r : Refusal) (i : ℕ) (g : Got S A) → g ≡ bad EndsInside 0 → mapped (λ (_ : A). tt {0}) (if t then Err r else ended i g) ≡ Ok tt → ⊥
 not-read true r i g e h = let z : ◌≡◌ {A = ℕ} 0 1 = cc in omega arith
 not-read false r i g e h = let q = ap (λ x. mapped (λ _. tt {0}) (ended i x)) e in let z : ◌≡◌ {A = ℕ} 0 1 = cc in omega arith
 
-pub read_some : (L : Limits) (k : Kind) (i : ℕ) (s : Bytes) → read_kind L k i s ≡ good tt → 1 ≤ length s
+pub read_some : (L : Limits) (k : Kind) (i : ℕ) (s : Bytes) → read_kind L k i s ≡ Ok tt → 1 ≤ length s
 unfolding read_term read_proof whole
 read_some L Term i [] h = absurd (not-read (ltb L.bytes 0) _ i _ (node-none L.nodes L.nodes) h)
 read_some L Proof i [] h = absurd (not-read (ltb L.bytes 0) _ i _ (proof-none L L.rules _) h)
 read_some L k i (b ∷ s) h = omega arith
 
-module _ (L : Limits) (k : Kind) (s : Bytes) (read : read_kind L k 1 s ≡ good tt) where
+module _ (L : Limits) (k : Kind) (s : Bytes) (read : read_kind L k 1 s ≡ Ok tt) where
   stored-size : is_size_wrong L (length (stored k s)) ≡ false
   stored-size =
       let l = length-stored k s in
@@ -170,7 +171,7 @@ module _ (L : Limits) (k : Kind) (s : Bytes) (read : read_kind L k 1 s ≡ good 
       right-size L (length (stored k s)) (record { some = omega arith; blocks = omega arith; most = omega arith })
 
   -- loading undoes storing
-  pub opened-stored : opened L k (stored k s) ≡ good s
+  pub opened-stored : opened L k (stored k s) ≡ Ok s
   unfolding opened
   opened-stored = rw (stored-size, stored-blocks L k s (read_some L k 1 s read) (read_short L k 1 s read), read)
 

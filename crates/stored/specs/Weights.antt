@@ -1,5 +1,5 @@
 -- Laws of the weighed sum of a block and of bytes that are all zero, by recursion on the bytes. Assumes nothing.
-use Rattle.std.specs.Prelude.{ℕ, zero, suc, ◌+◌, ◌-◌, ◌*◌, ◌≤◌, ◌<◌, ◌≡◌, refl, Bool, true, false, ◌&&◌, [], ◌∷◌, ◌++◌, eqb, length, take, drop, get_or, replicate}
+use Rattle.std.specs.Prelude.{ℕ, zero, suc, ◌+◌, ◌-◌, ◌*◌, ◌≤◌, ◌<◌, ◌≡◌, refl, Bool, true, false, ◌&&◌, [], ◌∷◌, ◌++◌, eqb, length, take, drop, get_or, replicate, fold}
 use Rattle.std.proofs.Common.{sym, ap, ◌∙◌, add-mul, one-mul, mul-zero, add-one, arith, drop_of_length-le, take-append-drop, drop-cons, eqb-true, ne_eqb}
 use Rattle.std.proofs.Math.Bool.{and-true}
 use Rattle.std.specs.Int.Bits.{bit_or, or_add_and, or_zero_l}
@@ -44,6 +44,12 @@ or-zero (suc a) b =
 and_assoc : (a b c : Bool) → ((a && b) && c) ≡ (a && (b && c))
 and_assoc true b c = refl
 and_assoc false b c = refl
+
+-- bytes that are gathered by their bits are all zero exactly if the whole is
+pub all-gathered : (any : ℕ) (s : Bytes) → eqb (fold bit_or any s) 0 ≡ (eqb any 0 && all_zero s)
+all-gathered any [] = sym (and-true (eqb any 0))
+all-gathered any (b ∷ s) =
+    all-gathered (bit_or any b) s ∙ ap (λ (u : Bool). u && all_zero s) (or-zero any b) ∙ and_assoc (eqb any 0) (eqb b 0) (all_zero s)
 
 -- one byte more is gathered; the end of the bytes
 module _ (s : Bytes) (i any : ℕ) (t : Bool) where

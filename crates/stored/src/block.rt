@@ -6,14 +6,14 @@ ghost use Rattle.stored.specs.Opening.{OpenedBlock, fault_first};
 
 use crate::check::{CHECK_AT, check_of, zero_from};
 use reader::refused;
-use rules::{Answer, BLOCK_BYTES, BLOCK_CONTENT, Kind, MOST_BYTES};
+use rules::{BLOCK_BYTES, BLOCK_CONTENT, Kind, MOST_BYTES, Reason, Refusal};
 
 // How many blocks hold so much content.
 pub fn blocks_for(size: usize) -> usize
     requires { size ≤ 65535 }
     ensures { result ≡ block_count_for size }
 {
-    (size + BLOCK_CONTENT - 1) / BLOCK_CONTENT
+    size.div_ceil(BLOCK_CONTENT)
 }
 
 // How much of a block is content, of so many bytes in all.
@@ -21,16 +21,8 @@ pub fn used_in(size: usize, number: usize) -> usize
     requires { number < 256 }
     ensures { result ≡ used_bytes_in size number }
 {
-    let before = BLOCK_CONTENT * number;
-    if size <= before {
-        return 0;
-    }
-    let left = size - before;
-    if left < BLOCK_CONTENT {
-        left
-    } else {
-        BLOCK_CONTENT
-    }
+    size.saturating_sub(BLOCK_CONTENT * number)
+        .min(BLOCK_CONTENT)
 }
 
 // The number that two bytes make, low byte first.
@@ -38,7 +30,7 @@ pub fn two_bytes(s: &[u8], at: usize) -> usize
     requires { at + 1 < length s.now }
     ensures { result ≡ two_bytes s.now at }
 {
-    s[at] as usize + 256 * s[at + 1] as usize
+    usize::from(u16::from_le_bytes([s[at], s[at + 1]]))
 }
 
 // Refusal 12: kind, number, length, or the length and block 0 or the file's size do not go together.
@@ -46,43 +38,33 @@ pub fn head_wrong(kind: Kind, file: &[u8], number: usize, block: &[u8]) -> bool
     requires { (4 ≤ length file.now) × (4 ≤ length block.now) }
     ensures { result ≡ is_head_wrong limits kind file.now number block.now }
 {
-    if block[0] != kind.byte() {
-        return true;
-    }
-    if block[1] as usize != number {
-        return true;
-    }
     let size = two_bytes(block, 2);
-    if size < 1 {
-        return true;
-    }
-    if MOST_BYTES < size {
-        return true;
-    }
-    if size != two_bytes(file, 2) {
-        return true;
-    }
-    blocks_for(size) != file.len() / BLOCK_BYTES
+    block[0] != kind.byte()
+        || usize::from(block[1]) != number
+        || size < 1
+        || MOST_BYTES < size
+        || size != two_bytes(file, 2)
+        || blocks_for(size) != file.len() / BLOCK_BYTES
 }
 
-// The first fault of a block, in the order of the rules, or 0: whether its check, its head, its rest is wrong.
-fn first_fault(sum: bool, head: bool, rest: bool) -> u8
+// The first fault of a block, in the order of the rules: whether its check, its head, its rest is wrong.
+fn first_fault(sum: bool, head: bool, rest: bool) -> Option<Reason>
     ensures { result ≡ fault_first sum head rest }
 {
     if sum {
-        return 11;
+        return Some(Reason::BlockCheck);
     }
     if head {
-        return 12;
+        return Some(Reason::BlockHead);
     }
     if rest {
-        return 13;
+        return Some(Reason::UnusedNotZero);
     }
-    0
+    None
 }
 
 // Opens a block of a file: 11, 12, 13 in that order, or how much of it is content.
-pub fn open_block(kind: Kind, file: &[u8], number: usize, block: &[u8]) -> Answer
+pub fn open_block(kind: Kind, file: &[u8], number: usize, block: &[u8]) -> Result<usize, Refusal>
     requires { (number < 256) × (4 ≤ length file.now) × (length block.now ≡ block_bytes) }
     ensures { OpenedBlock limits kind file.now number block.now result }
 {
@@ -91,9 +73,8 @@ pub fn open_block(kind: Kind, file: &[u8], number: usize, block: &[u8]) -> Answe
     let clean = zero_from(&block[..CHECK_AT], end);
     let sum = two_bytes(block, CHECK_AT) != check_of(block, end, clean);
     let head = head_wrong(kind, file, number, block);
-    let fault = first_fault(sum, head, !clean);
-    if fault != 0 {
-        return refused(fault, number, 1);
+    match first_fault(sum, head, !clean) {
+        Some(reason) => refused(reason, number, 1),
+        None => Ok(used),
     }
-    Answer::Good(used)
 }

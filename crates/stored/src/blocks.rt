@@ -8,7 +8,7 @@ ghost use Rattle.stored.specs.Opening.{gather_room, OpenedBlocks};
 use crate::block::{blocks_for, open_block};
 use crate::writing::put_block;
 use buffer::run::copy;
-use rules::{Answer, BLOCK_BYTES, Kind};
+use rules::{BLOCK_BYTES, Kind, Refusal};
 
 // Writes the stored form of content, and returns the place after it.
 pub fn put_blocks(kind: Kind, content: &[u8], out: &mut [u8]) -> usize
@@ -16,38 +16,24 @@ pub fn put_blocks(kind: Kind, content: &[u8], out: &mut [u8]) -> usize
     ensures { Wrote out.old 0 (stored kind content.now) out.new result }
 {
     let many = blocks_for(content.len());
-    let mut number = 0;
-    let mut at = 0;
-    while number < many {
-        let end = at + BLOCK_BYTES;
-        put_block(kind, number, content, &mut out[at..end]);
-        number += 1;
-        at = end;
+    for number in 0..many {
+        let at = BLOCK_BYTES * number;
+        put_block(kind, number, content, &mut out[at..at + BLOCK_BYTES]);
     }
-    at
+    BLOCK_BYTES * many
 }
 
 // Opens the blocks of a file, and puts their content together.
-pub fn open_blocks(kind: Kind, file: &[u8], content: &mut [u8]) -> Answer
+pub fn open_blocks(kind: Kind, file: &[u8], content: &mut [u8]) -> Result<usize, Refusal>
     requires { (4 ≤ length file.now) × (length file.now ≤ stored_room limits) × (gather_room limits ≤ length content.old) }
     ensures { OpenedBlocks limits kind file.now content.new result }
 {
-    let many = file.len() / BLOCK_BYTES;
-    let mut number = 0;
     let mut at = 0;
-    while number < many {
+    for number in 0..file.len() / BLOCK_BYTES {
         let from = BLOCK_BYTES * number;
-        let end = from + BLOCK_BYTES;
-        let block = &file[from..end];
-        match open_block(kind, file, number, block) {
-            Answer::Refused(r) => {
-                return Answer::Refused(r);
-            }
-            Answer::Good(used) => {
-                at = copy(block, 4, 4 + used, content, at);
-                number += 1;
-            }
-        }
+        let block = &file[from..from + BLOCK_BYTES];
+        let used = open_block(kind, file, number, block)?;
+        at = copy(block, 4, 4 + used, content, at);
     }
-    Answer::Good(at)
+    Ok(at)
 }

@@ -18,10 +18,8 @@ pub fn weigh(body: &[u8]) -> u32
 {
     let mut bytes: u32 = 0;
     let mut sum: u32 = 0;
-    let mut i = body.len();
-    while 0 < i {
-        i -= 1;
-        bytes += body[i] as u32;
+    for byte in body.iter().rev() {
+        bytes += u32::from(*byte);
         sum += bytes;
     }
     sum
@@ -31,13 +29,8 @@ pub fn weigh(body: &[u8]) -> u32
 pub fn zero_from(body: &[u8], from: usize) -> bool
     ensures { result ≡ all_zero (drop from body.now) }
 {
-    let mut any: u8 = 0;
-    let mut i = from;
-    while i < body.len() {
-        any |= body[i];
-        i += 1;
-    }
-    any == 0
+    let rest = &body[from.min(body.len())..];
+    rest.iter().fold(0, |any, byte| any | byte) == 0
 }
 
 // The check of a block's first 510 bytes, of which `clean` says whether they are zero from `end` on.
@@ -45,10 +38,8 @@ pub fn check_of(block: &[u8], end: usize, clean: bool) -> usize
     requires { (end ≤ 510) × (length block.now ≡ block_bytes) × (clean ≡ all_zero (drop end (take 510 block.now))) }
     ensures { result ≡ check (take 510 block.now) }
 {
-    if clean {
-        return weigh(&block[..end]) as usize % CHECK_MODULUS;
-    }
-    weigh(&block[..CHECK_AT]) as usize % CHECK_MODULUS
+    let weighty = if clean { end } else { CHECK_AT };
+    weigh(&block[..weighty]) as usize % CHECK_MODULUS
 }
 
 // The check, behind a body that is zero from `end` on.
@@ -56,7 +47,6 @@ pub fn put_check(block: &mut [u8], end: usize)
     requires { (end ≤ 510) × (length block.old ≡ block_bytes) × (all_zero (drop end (take 510 block.old)) ≡ true) }
     ensures { block.new ≡ take 510 block.old ++ low-high (check (take 510 block.old)) }
 {
-    let check = check_of(block, end, true);
-    block[CHECK_AT] = (check % 256) as u8;
-    block[CHECK_AT + 1] = (check / 256) as u8;
+    let check = check_of(block, end, true) as u16;
+    block[CHECK_AT..].copy_from_slice(&check.to_le_bytes());
 }

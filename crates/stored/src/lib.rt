@@ -3,7 +3,6 @@
 
 ghost use Rattle.std.specs.Prelude.{◌≡◌, ◌≤◌, length, take};
 ghost use Rattle.rules.specs.Limits.{limits, stored_room};
-ghost use Rattle.rules.specs.Refusal.{answered};
 ghost use Rattle.rules.specs.Stored.{stored, read_kind};
 ghost use Rattle.rules.specs.Calls.{store_call, load_call};
 ghost use Rattle.stored.specs.Storing.{is_size_wrong};
@@ -13,7 +12,7 @@ use blocks::{open_blocks, put_blocks};
 use buffer::run::{clear, copy};
 use proof::proof_input;
 use reader::{refused, term_input};
-use rules::{Answer, BLOCK_BYTES, BLOCK_CONTENT, Kind, OUTPUT_ROOM, Refusal, STORED_ROOM};
+use rules::{BLOCK_BYTES, BLOCK_CONTENT, Kind, OUTPUT_ROOM, Reason, Refusal, STORED_ROOM};
 
 pub mod block;
 mod blocks;
@@ -27,37 +26,31 @@ const GATHER_ROOM: usize = STORED_ROOM / BLOCK_BYTES * BLOCK_CONTENT;
 fn size_wrong(size: usize) -> bool
     ensures { result ≡ is_size_wrong limits size }
 {
-    if size == 0 {
-        return true;
-    }
-    if size % BLOCK_BYTES != 0 {
-        return true;
-    }
-    STORED_ROOM < size
+    size == 0 || size % BLOCK_BYTES != 0 || STORED_ROOM < size
 }
 
 // The stored form of content, then zeros.
-fn put_stored(kind: Kind, content: &[u8], out: &mut [u8]) -> Answer
+fn put_stored(kind: Kind, content: &[u8], out: &mut [u8]) -> Result<usize, Refusal>
     requires { (length content.now ≤ limits.bytes) × (stored_room limits ≤ length out.old) }
     ensures { Filled out.old (stored kind content.now) out.new result }
 {
     let size = put_blocks(kind, content, out);
     clear(out, size);
-    Answer::Good(size)
+    Ok(size)
 }
 
 // The content that was gathered, then zeros.
-fn put_content(s: &[u8], size: usize, out: &mut [u8]) -> Answer
+fn put_content(s: &[u8], size: usize, out: &mut [u8]) -> Result<usize, Refusal>
     requires { (size ≤ length s.now) × (size ≤ length out.old) }
     ensures { Filled out.old (take size s.now) out.new result }
 {
     let past = copy(s, 0, size, out, 0);
     clear(out, past);
-    Answer::Good(past)
+    Ok(past)
 }
 
 // What content must read as, by its kind.
-fn content_input(kind: Kind, content: &[u8]) -> Answer
+fn content_input(kind: Kind, content: &[u8]) -> Result<usize, Refusal>
     ensures { read_kind limits kind 1 content.now ≡ accepted result }
 {
     match kind {
@@ -67,36 +60,30 @@ fn content_input(kind: Kind, content: &[u8]) -> Answer
 }
 
 // Writes content of a kind in its stored form.
-pub fn store(kind: Kind, content: &[u8], out: &mut [u8]) -> Answer
-    ensures value { result ≡ answered (store_call limits kind content.now out.old).answer }
+pub fn store(kind: Kind, content: &[u8], out: &mut [u8]) -> Result<usize, Refusal>
+    ensures value { result ≡ (store_call limits kind content.now out.old).answer }
     ensures out_after { out.new ≡ (store_call limits kind content.now out.old).output }
 {
     if out.len() < STORED_ROOM {
-        return Answer::Refused(Refusal::of_no_input(1));
+        return Err(Refusal::of_no_input(Reason::ShortBuffer));
     }
-    match content_input(kind, content) {
-        Answer::Refused(r) => Answer::Refused(r),
-        Answer::Good(_) => put_stored(kind, content, out),
-    }
+    content_input(kind, content)?;
+    put_stored(kind, content, out)
 }
 
 // Gives the content of a stored file. It is gathered in a buffer of its own, since a refusal leaves the output untouched.
-pub fn load(kind: Kind, file: &[u8], out: &mut [u8]) -> Answer
-    ensures value { result ≡ answered (load_call limits kind file.now out.old).answer }
+pub fn load(kind: Kind, file: &[u8], out: &mut [u8]) -> Result<usize, Refusal>
+    ensures value { result ≡ (load_call limits kind file.now out.old).answer }
     ensures out_after { out.new ≡ (load_call limits kind file.now out.old).output }
 {
     if out.len() < OUTPUT_ROOM {
-        return Answer::Refused(Refusal::of_no_input(1));
+        return Err(Refusal::of_no_input(Reason::ShortBuffer));
     }
     if size_wrong(file.len()) {
-        return refused(10, 0, 1);
+        return refused(Reason::StoredLength, 0, 1);
     }
     let mut content = [0u8; GATHER_ROOM];
-    match open_blocks(kind, file, &mut content) {
-        Answer::Refused(r) => Answer::Refused(r),
-        Answer::Good(size) => match content_input(kind, &content[..size]) {
-            Answer::Refused(r) => Answer::Refused(r),
-            Answer::Good(_) => put_content(&content, size, out),
-        },
-    }
+    let size = open_blocks(kind, file, &mut content)?;
+    content_input(kind, &content[..size])?;
+    put_content(&content, size, out)
 }

@@ -15,10 +15,8 @@ fn put_head(kind: Kind, number: usize, size: usize, block: &mut [u8])
     requires { (number < 256) × (size ≤ 65535) × (4 ≤ length block.old) }
     ensures { block.new ≡ sets block.old 0 (kind_byte kind ∷ number ∷ low-high size) }
 {
-    block[0] = kind.byte();
-    block[1] = number as u8;
-    block[2] = (size % 256) as u8;
-    block[3] = (size / 256) as u8;
+    let [low, high] = (size as u16).to_le_bytes();
+    block[..4].copy_from_slice(&[kind.byte(), number as u8, low, high]);
 }
 
 // All of a block before its check: its head, its content, zeros. The answer is where the content ends.

@@ -1,4 +1,3 @@
 pub mod Node
 pub mod Counts
 pub mod Place
-pub mod Verdict

@@ -7,37 +7,16 @@ ghost use Rattle.straight.specs.Node.{plain_tag};
 ghost use Rattle.straight.specs.Place.{Binds};
 
 use crate::uses::uses_in;
-
-const CASE: usize = 9;
-
-const FST: usize = 11;
-
-const SND: usize = 12;
-
-const DISCARD: usize = 16;
-
-const COPY: usize = 17;
+use term::{node, tag};
 
 // Whether a node of this tag may stand in a straight term.
 pub fn plain(tag: usize) -> bool
     ensures { result ≡ plain_tag tag }
 {
-    if tag == CASE {
-        return false;
-    }
-    if tag == FST {
-        return false;
-    }
-    if tag == SND {
-        return false;
-    }
-    if tag == DISCARD {
-        return false;
-    }
-    if tag == COPY {
-        return false;
-    }
-    true
+    !matches!(
+        u8::try_from(tag),
+        Ok(tag::CASE | tag::FST | tag::SND | tag::DISCARD | tag::COPY)
+    )
 }
 
 // Whether the name at `name` stands at this one binder only and is used exactly once, in the term at `covers`.
@@ -45,16 +24,8 @@ pub fn once(s: &[u8], name: usize, covers: usize) -> bool
     requires { (w : Term) × (x : Name) × (e : Term) × Binds s.now name covers w x e }
     ensures { (w : Term) → (x : Name) → (e : Term) → Binds s.now name covers w x e → result ≡ once_in w (x over e) }
 {
-    let len = s[name] as usize;
-    let from = name + 1;
-    let end = from + len;
-    let all = uses_in(s, 0, &s[from..end]);
-    if all.stands != 1 {
-        return false;
-    }
-    if all.uses != 1 {
-        return false;
-    }
-    let inside = uses_in(s, covers, &s[from..end]);
-    inside.uses == 1
+    let sought = node::name(s, name);
+    let all = uses_in(s, 0, sought);
+    let single = all.stands == 1 && all.uses == 1;
+    single && uses_in(s, covers, sought).uses == 1
 }

@@ -10,18 +10,13 @@ ghost use Rattle.rules.specs.Calls.{is_straight_call};
 ghost use Rattle.term.specs.Place.{TermAt};
 ghost use Rattle.straight.specs.Node.{passes_in};
 ghost use Rattle.straight.specs.Place.{Within};
-ghost use Rattle.straight.specs.Verdict.{verdict};
 
 use binder::{once, plain};
-use rules::{Answer, Refusal};
-use term::node;
+use rules::Refusal;
+use term::{node, tag};
 
 pub mod binder;
 pub mod uses;
-
-const LET_PAIR: usize = 4;
-
-const ABS: usize = 5;
 
 // The binder of an Abs.
 fn abs_passes(s: &[u8], at: usize) -> bool
@@ -40,10 +35,7 @@ fn let_passes(s: &[u8], at: usize) -> bool
     let row = node::parts_at(s, at);
     let body = node::skip(s, row.start, 1);
     let second = node::after_names(s, at + 1, 1);
-    if once(s, at + 1, body) {
-        return once(s, second, body);
-    }
-    false
+    once(s, at + 1, body) && once(s, second, body)
 }
 
 // A node by itself, without its parts.
@@ -51,14 +43,11 @@ fn passes(s: &[u8], at: usize) -> bool
     requires { (w : Term) × (t : Term) × Within s.now at w t }
     ensures { (w : Term) → (t : Term) → Within s.now at w t → result ≡ passes_in w t }
 {
-    let tag = s[at] as usize;
-    if tag == ABS {
-        return abs_passes(s, at);
+    match s[at] {
+        tag::ABS => abs_passes(s, at),
+        tag::LET_PAIR => let_passes(s, at),
+        other => plain(other as usize),
     }
-    if tag == LET_PAIR {
-        return let_passes(s, at);
-    }
-    plain(tag)
 }
 
 // Every node of the term.
@@ -79,18 +68,9 @@ fn all_pass(s: &[u8]) -> bool
     true
 }
 
-// Yes or no, or a refusal.
-#[derive(Clone, Copy)]
-pub enum Verdict {
-    Good(bool),
-    Refused(Refusal),
-}
-
-pub fn is_straight(term: &[u8]) -> Verdict
-    ensures { result ≡ verdict (is_straight_call limits term.now) }
+pub fn is_straight(term: &[u8]) -> Result<bool, Refusal>
+    ensures { result ≡ is_straight_call limits term.now }
 {
-    match reader::check_term(term) {
-        Answer::Refused(r) => Verdict::Refused(r),
-        Answer::Good(_) => Verdict::Good(all_pass(term)),
-    }
+    reader::check_term(term)?;
+    Ok(all_pass(term))
 }

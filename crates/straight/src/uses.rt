@@ -5,20 +5,7 @@ ghost use Rattle.rules.specs.Term.{Term};
 ghost use Rattle.term.specs.Place.{TermAt, NameAt, NamesAt};
 ghost use Rattle.straight.specs.Counts.{PastNames, AtNode, InTerm};
 
-use term::node;
-
-const VAR: usize = 1;
-
-// 1 if the name at `at` is the name sought, else 0.
-fn is_it(s: &[u8], at: usize, name: &[u8]) -> usize
-    requires { (y : Name) × NameAt s.now at y }
-    ensures { (y : Name) → NameAt s.now at y → result ≡ (if same_name name.now y then 1 else 0) }
-{
-    if node::same_name(s, at, name) {
-        return 1;
-    }
-    0
-}
+use term::{node, tag};
 
 // Names in a row: the place after them, and how many of them are the name sought.
 #[derive(Clone, Copy)]
@@ -31,15 +18,13 @@ fn same_names(s: &[u8], at: usize, n: usize, name: &[u8]) -> SameNames
     requires { (xs : List Name) × NamesAt s.now at n xs }
     ensures { (xs : List Name) → NamesAt s.now at n xs → PastNames name.now at xs result }
 {
-    let mut i = at;
-    let mut left = n;
+    let mut next = at;
     let mut same = 0;
-    while 0 < left {
-        same += is_it(s, i, name);
-        i = node::after_names(s, i, 1);
-        left -= 1;
+    for _ in 0..n {
+        same += usize::from(node::same_name(s, next, name));
+        next = node::after_names(s, next, 1);
     }
-    SameNames { next: i, same }
+    SameNames { next, same }
 }
 
 // A node: where its parts start, how many there are, and how often the node itself uses the name and has it at a binder.
@@ -55,23 +40,19 @@ fn uses_at(s: &[u8], at: usize, name: &[u8]) -> NodeUses
     requires { (t : Term) × TermAt s.now at t }
     ensures { (t : Term) → TermAt s.now at t → AtNode name.now at t result }
 {
-    let tag = s[at] as usize;
-    let parts = node::parts_of(tag);
-    let names = node::names_of(tag);
-    let p = same_names(s, at + 1, names, name);
-    if tag == VAR {
-        return NodeUses {
-            start: p.next,
-            parts,
-            uses: p.same,
-            stands: 0,
-        };
-    }
+    let tag = s[at];
+    let parts = node::parts_of(tag as usize);
+    let named = same_names(s, at + 1, node::names_of(tag as usize), name);
+    let start = named.next;
+    let (uses, stands) = match tag {
+        tag::VAR => (named.same, 0),
+        _ => (0, named.same),
+    };
     NodeUses {
-        start: p.next,
+        start,
         parts,
-        uses: 0,
-        stands: p.same,
+        uses,
+        stands,
     }
 }
 
@@ -86,16 +67,16 @@ pub fn uses_in(s: &[u8], at: usize, name: &[u8]) -> TermUses
     requires { (t : Term) × TermAt s.now at t }
     ensures { (t : Term) → TermAt s.now at t → InTerm name.now t result }
 {
-    let mut i = at;
+    let mut next = at;
     let mut left = 1;
     let mut uses = 0;
     let mut stands = 0;
     while 0 < left {
-        let m = uses_at(s, i, name);
-        left = left - 1 + m.parts;
-        uses += m.uses;
-        stands += m.stands;
-        i = m.start;
+        let own = uses_at(s, next, name);
+        left = left - 1 + own.parts;
+        uses += own.uses;
+        stands += own.stands;
+        next = own.start;
     }
     TermUses { uses, stands }
 }

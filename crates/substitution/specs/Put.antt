@@ -1,6 +1,6 @@
 -- What is written for a redex, and what it is made of: a body, the places of a name in it, and the values that go in. Assumes nothing: these are definitions.
-use Rattle.std.specs.Prelude.{ℕ, ◌+◌, ◌<◌, ◌≤◌, ◌^◌, ◌≡◌, ◌&&◌, List, length, if◌then◌else◌}
-use Rattle.std.proofs.Math.Option.{Option}
+use Rattle.std.specs.Prelude.{ℕ, ◌+◌, ◌≤◌, ◌≡◌, ◌&&◌, List, length, if◌then◌else◌, Option, Some, None}
+use Rattle.std.proofs.Math.Option.{Option as Maybe}
 use Rattle.std.proofs.lemmas.List.Edits.{sets}
 use Rattle.rules.specs.Basic.{Bytes}
 use Rattle.rules.specs.Limits.{limits, output_room}
@@ -12,14 +12,13 @@ use Rattle.term.specs.Given.{Given}
 use Rattle.substitution.specs.Beside.{fits_beside}
 use Rattle.substitution.specs.Tally.{then_moved}
 use Rattle.substitution.specs.declared.tally.Tally.{Tally}
-use Rattle.substitution.specs.declared.put.Put.{Put}
-use Rattle.substitution.specs.declared.put.Put.TheVariants.{Written, Outgrown}
+use Rattle.substitution.specs.declared.put.Written.{Written}
 
--- the body e, with the places where x is free in it, so many at the start of the row; it stands in a whole of n nodes and l bytes, and
--- the value v has m nodes
-pub record Putting (body : Bytes) (row : List ℕ) (count gap : ℕ) (value : Bytes) (m n l : ℕ) (x : Name) (e v : Term) : Type 0 where
+-- the body e, with the places where x is free in it, and the bytes of x at each; it stands in a whole of n nodes and l bytes, and the value v
+-- has m nodes
+pub record Putting (body : Bytes) (row : List ℕ) (gap : ℕ) (value : Bytes) (m n l : ℕ) (x : Name) (e v : Term) : Type 0 where
   pub body_is : body ≡ encode e
-  pub held : Held row count (places x e 0)
+  pub places-are : row ≡ places x e 0
   pub gap_is : gap ≡ 2 + length x
   pub value-is : Given value m v
   pub nodes-in : nodes e ≤ n
@@ -27,33 +26,28 @@ pub record Putting (body : Bytes) (row : List ℕ) (count gap : ℕ) (value : By
   pub few : n ≤ limits.nodes
   pub short : l ≤ limits.bytes + limits.bytes
 
--- the same for two values, v for x first; beside the redex stand `rest` bytes
-pub record Turns (body : Bytes) (row : List ℕ) (count gap : ℕ) (a : Bytes) (k : ℕ) (b : Bytes) (m n rest : ℕ) (x : Name) (e v w : Term) : Type 0 where
+-- the same for two values, v for x first; the places are so many at the start of the row, and the whole breaks no limit
+pub record Turns (body : Bytes) (row : List ℕ) (count gap : ℕ) (a : Bytes) (k : ℕ) (b : Bytes) (m n l : ℕ) (x : Name) (e v w : Term) : Type 0 where
   pub body_is : body ≡ encode e
   pub held : Held row count (places x e 0)
   pub gap_is : gap ≡ 2 + length x
   pub first : Given a k v
   pub second : Given b m w
   pub nodes-in : nodes e ≤ n
+  pub bytes-in : size e ≤ l
   pub few : n ≤ limits.nodes
-  pub short : rest + size e ≤ limits.bytes
+  pub short : l ≤ limits.bytes
 
 -- u is written if it fits beside so many other nodes and bytes, and what was there halfway fits by itself, and so much was moved for it; else
 -- the output is as it was
-pub record Puts (others rest : ℕ) (half : Option Term) (t : Tally) (u : Term) (out out' : Bytes) (r : Put) : Type 0 where
-  pub says : r ≡ (if half_fits limits half && fits_beside others rest u then Written t (others + nodes u) else Outgrown)
+pub record Puts (others rest : ℕ) (half : Maybe Term) (t : Tally) (u : Term) (out out' : Bytes) (r : Option Written) : Type 0 where
+  pub says : r ≡ (if half_fits limits half && fits_beside others rest u then Some (record { tally = t; nodes = others + nodes u }) else None)
   pub leaves : out' ≡ (if half_fits limits half && fits_beside others rest u then sets out 0 (encode u) else out)
 
 -- a buffer to work in or to write to
 abbrev pub Room : Bytes → Type 0
 Room b = output_room limits ≤ length b
 
--- what was moved for both can be counted
-abbrev pub Countable : (first : Tally) → Put → Type 0
-Countable a (Written b n) = (a.runs + b.runs < 2 ^ 64) × (a.values + b.values < 2 ^ 64)
-Countable a Outgrown = Unit {0}
-
 -- what was put behind a first that is counted too
-abbrev pub put_after : (first : Tally) → Put → Put
-put_after a (Written b n) = Written (then_moved a b) n
-put_after a Outgrown = Outgrown
+abbrev pub written_after : (first : Tally) → Written → Written
+written_after a b = record { tally = then_moved a b.tally; nodes = b.nodes }

@@ -3,42 +3,35 @@
 
 ghost use Rattle.std.specs.Prelude.{◌≡◌};
 ghost use Rattle.rules.specs.Limits.{limits};
-ghost use Rattle.rules.specs.Refusal.{answered};
 ghost use Rattle.rules.specs.Term.{Term};
 ghost use Rattle.rules.specs.Reading.{read_term, read_name};
 ghost use Rattle.rules.specs.Calls.{substitute_call};
 ghost use Rattle.substitution.specs.Work.{inputs, Job, Done};
 
 use buffer::{room, run};
-use put::{Put, put_in};
-use rules::{Answer, MOST_NODES, Refusal};
+use put::{Body, Size, Value, put_in};
+use rules::{MOST_NODES, Reason, Refusal};
 
 pub mod place;
 pub mod put;
 pub mod splice;
 pub mod tally;
 
-// The inputs of a substitution: how many nodes the term has, and the value; or a refusal.
+// The inputs of a substitution: how many nodes the term has, and the value.
 #[derive(Clone, Copy)]
-enum Inputs {
-    Read { nodes: usize, added: usize },
-    Refused(Refusal),
+struct Inputs {
+    nodes: usize,
+    added: usize,
 }
 
 // Reads the inputs, in the order of the arguments.
-fn read_inputs(term: &[u8], name: &[u8], value: &[u8]) -> Inputs
+fn read_inputs(term: &[u8], name: &[u8], value: &[u8]) -> Result<Inputs, Refusal>
     ensures { result ≡ inputs (read_term limits 1 term.now) (read_name 2 name.now) (read_term limits 3 value.now) }
 {
-    match reader::term_input(term, 1) {
-        Answer::Refused(r) => Inputs::Refused(r),
-        Answer::Good(nodes) => match reader::name_input(name, 2) {
-            Answer::Refused(r) => Inputs::Refused(r),
-            Answer::Good(_) => match reader::term_input(value, 3) {
-                Answer::Refused(r) => Inputs::Refused(r),
-                Answer::Good(added) => Inputs::Read { nodes, added },
-            },
-        },
-    }
+    let nodes = reader::term_input(term, 1)?;
+    reader::name_input(name, 2)?;
+    let added = reader::term_input(value, 3)?;
+    Ok(Inputs { nodes, added })
 }
 
 // The term with the value at each place where the name is free, if it fits.
@@ -50,30 +43,32 @@ fn replace(
     added: usize,
     out: &mut [u8],
     scratch: &mut [u8],
-) -> Answer
+) -> Result<usize, Refusal>
     requires { (t : Term) × (v : Term) × Job term.now name.now value.now out.old nodes added t v }
     ensures { (t : Term) → (v : Term) → Job term.now name.now value.now out.old nodes added t v → Done name.now t v out.old scratch.old result out.new scratch.new }
 {
     run::clear(scratch, 0);
     let mut row = [0u16; MOST_NODES];
     let found = place::find_places(term, name, &mut row);
-    let gap = 2 + name.len();
-    match put_in(
-        term,
-        &row,
-        found.count,
-        gap,
-        value,
-        added,
+    let body = Body {
+        bytes: term,
+        places: &row[..found.count],
+        gap: found.gap,
+    };
+    let value = Value {
+        bytes: value,
+        nodes: added,
+    };
+    let whole = Size {
         nodes,
-        term.len(),
-        out,
-    ) {
-        Put::Outgrown => Answer::Refused(Refusal::of_no_input(8)),
-        Put::Written { tally, nodes: _ } => {
-            let size = tally.past();
+        bytes: term.len(),
+    };
+    match put_in(body, value, whole, out) {
+        None => Err(Refusal::of_no_input(Reason::Outgrows)),
+        Some(written) => {
+            let size = written.tally.past();
             run::clear(out, size);
-            Answer::Good(size)
+            Ok(size)
         }
     }
 }
@@ -85,16 +80,14 @@ pub fn substitute(
     value: &[u8],
     out: &mut [u8],
     scratch: &mut [u8],
-) -> Answer
-    ensures value { result ≡ answered (substitute_call limits term.now name.now value.now out.old scratch.old).answer }
+) -> Result<usize, Refusal>
+    ensures value { result ≡ (substitute_call limits term.now name.now value.now out.old scratch.old).answer }
     ensures out_after { out.new ≡ (substitute_call limits term.now name.now value.now out.old scratch.old).output }
     ensures scratch_after { scratch.new ≡ (substitute_call limits term.now name.now value.now out.old scratch.old).scratch }
 {
     if room::short(out.len(), scratch.len()) {
-        return Answer::Refused(Refusal::of_no_input(1));
+        return Err(Refusal::of_no_input(Reason::ShortBuffer));
     }
-    match read_inputs(term, name, value) {
-        Inputs::Refused(r) => Answer::Refused(r),
-        Inputs::Read { nodes, added } => { replace(term, nodes, name, value, added, out, scratch) }
-    }
+    let inputs = read_inputs(term, name, value)?;
+    replace(term, inputs.nodes, name, value, inputs.added, out, scratch)
 }

@@ -9,7 +9,8 @@ ghost use Rattle.substitution.specs.Places.{places as places_of, open_places, Ro
 use rules::MOST_NODES;
 use term::node;
 
-// The place after a term, and after what was kept: in one number, which comes back in a register.
+// The place after a term, and after what was kept.
+// Kept: in one number, which comes back in a register; a struct from the walk below, which calls itself and is not inlined, comes back in memory.
 fn come_to(next: usize, to: usize) -> usize
     requires { (next ≤ limits.bytes) × (to ≤ limits.nodes) }
     ensures { (result % 65536 ≡ next) × (result / 65536 ≡ to) }
@@ -58,22 +59,24 @@ fn find(
     find(s, b % 65536, others / 2, name, row, b / 65536)
 }
 
-// The place after the term, and how many places were kept.
+// The place after the term, how many places were kept, and the bytes of the variable that stands at each.
 #[derive(Clone, Copy)]
 pub struct KeptPlaces {
     pub next: usize,
     pub count: usize,
+    pub gap: usize,
 }
 
 // Keeps where `name` is free in the term at the start of s, and tells where that ends.
 pub fn find_places(s: &[u8], name: &[u8], places: &mut [u16; MOST_NODES]) -> KeptPlaces
     requires term_at { (t : Term) × TermAt s.now 0 t × (nodes t ≤ limits.nodes) }
     requires s_len_bound { (length s.now ≤ limits.bytes) × Row places.old }
-    ensures { (t : Term) → TermAt s.now 0 t → (result.next ≡ size t) × Wrote places.old 0 (places_of name.now t 0) places.new result.count }
+    ensures { (t : Term) → TermAt s.now 0 t → (result.next ≡ size t) × Wrote places.old 0 (places_of name.now t 0) places.new result.count × (result.gap ≡ 2 + length name.now) }
 {
     let found = find(&s, 0, 0, &name, places, 0);
     KeptPlaces {
         next: found % 65536,
         count: found / 65536,
+        gap: 2 + name.len(),
     }
 }

@@ -9,12 +9,9 @@ pub fn splice(body: &[u8], places: &[u16], gap: usize, value: &[u8], out: &mut [
     ensures { Splices body.now places.now gap value.now out.old out.new result }
 {
     let mut tally = Tally::none();
-    let mut k = 0;
-    while k < places.len() {
-        let place = places[k] as usize;
-        tally = tally.run(body, place, out);
+    for place in places {
+        tally = tally.run(body, *place as usize, out);
         tally = tally.value(value, gap, out);
-        k += 1;
     }
     tally.run(body, body.len(), out)
 }

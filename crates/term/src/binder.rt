@@ -1,5 +1,8 @@
 // What the binders of a node cover, as a mask of the node's parts: 1 for the first, 2 for the second, 4 for the third.
+// Kept: a number, since a walk over a term hands it on in a register and halves it from part to part.
 ghost use Rattle.std.specs.Prelude.{◌≡◌, ◌||◌, ◌+◌, if◌then◌else◌, ◌==◌};
+
+pub const NONE: usize = 0;
 
 // Abs.
 const ABS_BODY: usize = 1;
@@ -18,10 +21,7 @@ const BRANCHES: usize = 6;
 pub fn by_one(x: bool) -> usize
     ensures { result ≡ (if x then 1 else 0) }
 {
-    if x {
-        return ABS_BODY;
-    }
-    0
+    if x { ABS_BODY } else { NONE }
 }
 
 // What the two binders of a node cover, where x and y tell whether each is the name sought.
@@ -29,22 +29,12 @@ pub fn by_two(x: bool, y: bool, parts: usize) -> usize
     ensures { result ≡ (if parts == 2 then (if x || y then 2 else 0) else ((if x then 2 else 0) + (if y then 4 else 0))) }
 {
     if parts == 2 {
-        if x {
-            return PAIR_BODY;
-        }
-        if y {
-            return PAIR_BODY;
-        }
-        return 0;
+        return if x || y { PAIR_BODY } else { NONE };
     }
-    if x {
-        if y {
-            return BRANCHES;
-        }
-        return LEFT;
+    match (x, y) {
+        (true, true) => BRANCHES,
+        (true, false) => LEFT,
+        (false, true) => RIGHT,
+        (false, false) => NONE,
     }
-    if y {
-        return RIGHT;
-    }
-    0
 }

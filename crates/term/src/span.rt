@@ -1,36 +1,41 @@
 // Where names and terms end, and how many nodes a term has.
-ghost use Rattle.std.specs.Prelude.{[], ◌∷◌, ◌+◌};
+ghost use Rattle.std.specs.Prelude.{List, [], ◌∷◌, ◌+◌};
 ghost use Rattle.rules.specs.Name.{Name};
 ghost use Rattle.rules.specs.Term.{Term};
 ghost use Rattle.term.specs.Place.{TermAt, TermsAt, NamesAt};
-ghost use Rattle.term.specs.Measured.{Measured, MeasuredTwo, Named};
+ghost use Rattle.term.specs.Measured.{Measured, MeasuredRow, MeasuredTwo, Named};
 
 use crate::node;
 
-// The place after a term, and its nodes.
+// The place after a term or a row of terms, and their nodes.
 #[derive(Clone, Copy)]
 pub struct Extent {
     pub next: usize,
     pub nodes: usize,
 }
 
+// n terms in a row. A node's parts take its place in the row, so that no range counts the turns.
+pub(crate) fn span_row(s: &[u8], at: usize, n: usize) -> Extent
+    requires { (ts : List Term) × TermsAt s.now at n ts }
+    ensures { (ts : List Term) → TermsAt s.now at n ts → MeasuredRow at ts result }
+{
+    let mut next = at;
+    let mut left = n;
+    let mut nodes = 0;
+    while 0 < left {
+        let row = node::parts_at(s, next);
+        left = left - 1 + row.parts;
+        next = row.start;
+        nodes += 1;
+    }
+    Extent { next, nodes }
+}
+
 pub fn span(s: &[u8], at: usize) -> Extent
     requires { (t : Term) × TermAt s.now at t }
     ensures { (t : Term) → TermAt s.now at t → Measured at t result }
 {
-    let mut i = at;
-    let mut left = 1;
-    let mut count = 0;
-    while 0 < left {
-        let tag = s[i] as usize;
-        left = left - 1 + node::parts_of(tag);
-        i = node::after_names(s, i + 1, node::names_of(tag));
-        count += 1;
-    }
-    Extent {
-        next: i,
-        nodes: count,
-    }
+    span_row(s, at, 1)
 }
 
 // Two terms in a row: where the second starts and ends, and the nodes of each.

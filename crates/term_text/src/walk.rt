@@ -1,15 +1,14 @@
-// The text of a checked term. A walk hands back the place after the text, times 65,536, and the place after the bytes, in one number.
+// The text of a checked term. A walk hands back the place after the text, times 65,536, and the place after the bytes, in one number,
+// since a struct would come back by way of memory.
 ghost use Rattle.rules.specs.Name.{Name};
 ghost use Rattle.rules.specs.Term.{Term, two as two_of, both as both_of, branch as branch_of, discard as discard_of, let_a_pair as let_pair_of, copy as copy_of};
 ghost use Rattle.term_text.specs.Task.{TermTask, TermDone, Whole};
 
-use crate::phrase::{
-    as_names, between, bound_name, case_end, case_word, copy_word, discard_words, in_word,
-    last_name, leaf, left_name, let_names, past_names, right_name, sign,
-};
+use crate::phrase::{case_end, last_name, leaf, one_name, past_names, sign, two_names};
 use term::node::{one_part, skip};
+use term::tag::{ABS, APP, CASE, DISCARD, LET_PAIR, PAIR, TRIVIAL, UNIT, VAR};
 use words::name::past;
-use words::word::{byte, closed};
+use words::word::{byte, closed, word};
 
 // The first part is not printed.
 #[cycle(case_copy_discard_let_pair_walk_whole)]
@@ -18,7 +17,7 @@ fn discard(s: &[u8], at: usize, out: &mut [u8], to: usize) -> usize
     ensures { (a : Term) → (b : Term) → TermTask s.now at out.old to (two_of discard_of a b) → TermDone at out.old to (two_of discard_of a b) out.new result }
 {
     let x = at + 1;
-    let a = discard_words(out, to);
+    let a = word(out, to, b"discard in ");
     walk(&*s, skip(s, x, 1), out, a)
 }
 
@@ -28,9 +27,9 @@ fn let_pair(s: &[u8], at: usize, out: &mut [u8], to: usize) -> usize
     ensures { (x : Name) → (y : Name) → (e : Term) → (b : Term) → TermTask s.now at out.old to (both_of let_pair_of x y e b) → TermDone at out.old to (both_of let_pair_of x y e b) out.new result }
 {
     let x = at + 1;
-    let a = let_names(s, x, out, to);
+    let a = two_names(s, x, out, to, b"let (", b") = ");
     let e = walk(&*s, past_names(s, x), out, a);
-    let b = in_word(out, e / 65536);
+    let b = word(out, e / 65536, b" in ");
     walk(&*s, e % 65536, out, b)
 }
 
@@ -40,9 +39,9 @@ fn copy(s: &[u8], at: usize, out: &mut [u8], to: usize) -> usize
     ensures { (x : Name) → (y : Name) → (e : Term) → (b : Term) → TermTask s.now at out.old to (both_of copy_of x y e b) → TermDone at out.old to (both_of copy_of x y e b) out.new result }
 {
     let x = at + 1;
-    let a = copy_word(out, to);
+    let a = word(out, to, b"copy ");
     let e = walk(&*s, past_names(s, x), out, a);
-    let b = as_names(s, x, out, e / 65536);
+    let b = two_names(s, x, out, e / 65536, b" as (", b") in ");
     walk(&*s, e % 65536, out, b)
 }
 
@@ -53,11 +52,11 @@ fn case(s: &[u8], at: usize, out: &mut [u8], to: usize) -> usize
 {
     let x = at + 1;
     let y = past(s, x);
-    let a = case_word(out, to);
+    let a = word(out, to, b"case ");
     let e = walk(&*s, past_names(s, x), out, a);
-    let b = left_name(s, x, out, e / 65536);
+    let b = one_name(s, x, out, e / 65536, b" of { inl ", b" => ");
     let l = walk(&*s, e % 65536, out, b);
-    let c = right_name(s, y, out, l / 65536);
+    let c = one_name(s, y, out, l / 65536, b" | inr ", b" => ");
     let r = walk(&*s, l % 65536, out, c);
     case_end(out, r)
 }
@@ -69,10 +68,10 @@ fn whole(s: &[u8], at: usize, out: &mut [u8], to: usize) -> usize
     ensures { (t : Term) → Whole t → TermTask s.now at out.old to t → TermDone at out.old to t out.new result }
 {
     match s[at] {
-        2 | 10 => leaf(&*s, at, out, to),
-        4 => let_pair(&*s, at, out, to),
-        9 => case(&*s, at, out, to),
-        16 => discard(&*s, at, out, to),
+        UNIT | TRIVIAL => leaf(&*s, at, out, to),
+        LET_PAIR => let_pair(&*s, at, out, to),
+        CASE => case(&*s, at, out, to),
+        DISCARD => discard(&*s, at, out, to),
         _ => copy(&*s, at, out, to),
     }
 }
@@ -86,25 +85,23 @@ pub fn walk(s: &[u8], at: usize, out: &mut [u8], to: usize) -> usize
     let tag = s[at];
     let x = at + 1;
     match tag {
-        1 => last_name(s, x, out, to, 0),
-        3 | 6 => {
+        VAR => last_name(s, x, out, to, 0),
+        PAIR | APP => {
             let a = byte(out, to, b'(');
             let l = walk(&*s, x, out, a);
-            let b = between(tag, out, l / 65536);
+            let b = sign(tag, out, l / 65536);
             let r = walk(&*s, l % 65536, out, b);
             closed(out, r, 1)
         }
-        5 => {
+        ABS => {
             let e = past(s, x);
-            let o = bound_name(s, x, out, to);
+            let o = one_name(s, x, out, to, b"\xce\xbb", b". ");
             walk(&*s, e, out, o)
         }
-        _ => {
-            if one_part(tag) == 1 {
-                let o = sign(tag, out, to);
-                return walk(&*s, x, out, o);
-            }
-            whole(&*s, at, out, to)
+        _ if one_part(tag) => {
+            let o = sign(tag, out, to);
+            walk(&*s, x, out, o)
         }
+        _ => whole(&*s, at, out, to),
     }
 }

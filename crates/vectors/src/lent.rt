@@ -1,49 +1,25 @@
 // What a call is lent: buffers that are filled before it, and what it leaves in them.
-use buffer::run;
 
 // No zero, so that what is left as it was can be told from what is set to zero.
-const FILLED: u8 = 170;
+pub const FILLED: u8 = 170;
 
-// What is left in a buffer, as the list has it.
-const AS_IT_WAS: u64 = 0;
-
-const ANSWERED: u64 = 1;
-
-const OTHER: u64 = 2;
-
-pub fn fill(buffer: &mut [u8]) {
-    let mut i = 0;
-    while i < buffer.len() {
-        buffer[i] = FILLED;
-        i += 1;
-    }
+// What is left in a buffer, by its number in the list.
+#[derive(Clone, Copy, Debug, PartialEq, Eq)]
+pub enum Left {
+    AsItWas,
+    Answered,
+    Other,
 }
 
-fn all_are(bytes: &[u8], b: u8) -> bool {
-    let mut i = 0;
-    while i < bytes.len() {
-        if bytes[i] != b {
-            return false;
+impl Left {
+    // Whether a buffer is as it was filled, or holds the wanted bytes and then zeros to its end.
+    pub fn of(buffer: &[u8], wanted: &[u8]) -> Left {
+        if buffer.iter().all(|byte| *byte == FILLED) {
+            return Left::AsItWas;
         }
-        i += 1;
+        match buffer.strip_prefix(wanted) {
+            Some(rest) if rest.iter().all(|byte| *byte == 0) => Left::Answered,
+            _ => Left::Other,
+        }
     }
-    true
-}
-
-// Whether a buffer is as it was filled, or holds the wanted bytes and then zeros to its end.
-pub fn left(buffer: &[u8], wanted: &[u8]) -> u64 {
-    if all_are(buffer, FILLED) {
-        return AS_IT_WAS;
-    }
-    let n = wanted.len();
-    if buffer.len() < n {
-        return OTHER;
-    }
-    if !run::same(&buffer[..n], wanted) {
-        return OTHER;
-    }
-    if !all_are(&buffer[n..], 0) {
-        return OTHER;
-    }
-    ANSWERED
 }

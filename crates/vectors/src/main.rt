@@ -1,118 +1,71 @@
 // Replays a list of answers on every public call, and says of each call how many records there were and how many were right.
 // The list (stdin) is printed by `make vectors`: the answers are the Rust's own, and of refusals those of the model of the rules.
-// A call more is a number and a name in call_names, a line in its shape in calls, and its answer where host/cases prints the list.
+// A call more is a number and a name in call, an arm in calls, and its answer where host/cases prints the list.
 #![tactic(auto)]
 
-ghost use Rattle.std.specs.Prelude.{◌≤◌};
-
-use call_names::{CHILD, EXTRACTOR, print, print_name};
-use list::{NUMBERS, field, number, record_length};
+use call::CALLS;
 use program::input::read_full;
-use replay::{asked_right, part_right};
+use record::split_record;
+use replay::is_right;
+use std::fmt::Display;
 use std::io;
 use std::io::Write;
 
-mod call_names;
+mod call;
 mod calls;
 mod in_row;
 mod lent;
-mod list;
+mod record;
 mod replay;
 mod with_row;
 
-// How much is lent of a buffer that is long enough for any call.
-fn room(list: &[u8], i: usize, most: usize) -> usize
-    ensures { result ≤ most }
-{
-    let n = number(field(list, NUMBERS), i) as usize;
-    if most < n {
-        return most;
-    }
-    n
+// So many records are replayed, and counted, at most.
+const MOST_RECORDS: u64 = 65536;
+
+// How many records there were, and how many were right.
+#[derive(Clone, Copy)]
+struct Tally {
+    records: u64,
+    right: u64,
 }
 
-fn is_right(call: u8, list: &[u8], out: &mut [u8], scratch: &mut [u8]) -> bool {
-    if call < 1 {
-        return false;
-    }
-    if EXTRACTOR < call {
-        return false;
-    }
-    if call == CHILD {
-        return part_right(list);
-    }
-    let n = room(list, 1, out.len());
-    let m = room(list, 2, scratch.len());
-    asked_right(call, list, &mut out[..n], &mut scratch[..m])
-}
+// One for all calls, and one for each.
+type Tallies = [Tally; 20];
 
-fn count(tally: &mut [u64; 32], call: u8) {
-    let k = call as usize;
-    if k < 32 {
-        if tally[k] < 65536 {
-            tally[k] = tally[k] + 1;
+fn count(tallies: &mut Tallies, number: u8, right: bool) {
+    if let Some(tally) = tallies.get_mut(usize::from(number)) {
+        tally.records = MOST_RECORDS.min(tally.records.saturating_add(1));
+        if right {
+            tally.right = MOST_RECORDS.min(tally.right.saturating_add(1));
         }
     }
 }
 
-// The first record of the list; how long it is.
-fn replay_one(
-    list: &[u8],
-    out: &mut [u8],
-    scratch: &mut [u8],
-    records: &mut [u64; 32],
-    right: &mut [u64; 32],
-) -> usize {
-    if list.len() < 1 {
-        return 0;
-    }
-    let call = list[0];
-    count(records, 0);
-    count(records, call);
-    if is_right(call, list, out, scratch) {
-        count(right, 0);
-        count(right, call);
-    }
-    record_length(list)
-}
-
-fn replay_all(
-    list: &[u8],
-    out: &mut [u8],
-    scratch: &mut [u8],
-    records: &mut [u64; 32],
-    right: &mut [u64; 32],
-) {
-    let mut at = 0;
-    let mut turns: u64 = 0;
-    while turns < 65536 {
-        if list.len() <= at {
-            return;
+fn replay_all(list: &[u8], out: &mut [u8], scratch: &mut [u8], tallies: &mut Tallies) {
+    let mut rest = list;
+    for _ in 0..MOST_RECORDS {
+        match split_record(rest) {
+            Some((record, behind)) => {
+                let right = is_right(&record, out, scratch);
+                count(tallies, 0, right);
+                count(tallies, record.call, right);
+                rest = behind;
+            }
+            None => return,
         }
-        let n = replay_one(&list[at..], out, scratch, records, right);
-        if list.len() - at < n {
-            return;
-        }
-        at += n;
-        turns += 1;
     }
 }
 
-fn print_line<W: Write>(out: &mut W, call: u8, right: u64, records: u64) -> io::Result<()> {
-    print_name(out, call)?;
-    print(out, b": ")?;
-    write!(out, "{right}")?;
-    print(out, b" of ")?;
-    write!(out, "{records}")?;
-    print(out, b" right\n")
+fn print_line<W: Write>(out: &mut W, name: &impl Display, tally: Tally) -> io::Result<()> {
+    let records = tally.records;
+    let right = tally.right;
+    writeln!(out, "{name}: {right} of {records} right")
 }
 
-fn print_all<W: Write>(out: &mut W, records: &[u64; 32], right: &[u64; 32]) -> io::Result<()> {
-    let mut call = 0;
-    while call <= EXTRACTOR {
-        let k = call as usize;
-        print_line(out, call, right[k], records[k])?;
-        call += 1;
+fn print_all<W: Write>(out: &mut W, tallies: &Tallies) -> io::Result<()> {
+    print_line(out, &"all calls", tallies[0])?;
+    for call in CALLS {
+        print_line(out, &call, tallies[call as usize])?;
     }
     Ok(())
 }
@@ -121,10 +74,12 @@ fn replay_and_print<W: Write>(printed: &mut W, list: &[u8]) -> io::Result<()> {
     // More than any call asks for.
     let mut out = [0u8; 20992];
     let mut scratch = [0u8; 8448];
-    let mut records = [0u64; 32];
-    let mut right = [0u64; 32];
-    replay_all(list, &mut out, &mut scratch, &mut records, &mut right);
-    print_all(printed, &records, &right)
+    let mut tallies = [Tally {
+        records: 0,
+        right: 0,
+    }; 20];
+    replay_all(list, &mut out, &mut scratch, &mut tallies);
+    print_all(printed, &tallies)
 }
 
 fn main(rt: HostRuntime) -> io::Result<()> {

@@ -1,78 +1,65 @@
 // The shape of a call that is lent a row of cut entries: two proofs by one Extractor, one after the other, over one output and one scratch.
-use crate::in_row::{Twice, extract_in_row};
-use crate::list::{FIRST, NUMBERS, SECOND, field, number};
+ghost use Rattle.std.specs.Prelude.{◌≤◌};
+
+use crate::in_row::{FULL, ROW_ROOM, Twice, extract_in_row};
+use crate::record::{Record, number};
 use entry::tell::tell;
 use proof_draft::entry::CutEntry;
 
-// What the lent entries of the row are, as the list has it; 3 for what is neither, or not all alike.
-const AS_THEY_WERE: u64 = 1;
-
-const ZEROS: u64 = 2;
-
-fn entry_is(e: CutEntry) -> u64 {
-    if e.place == 7 {
-        if e.counter == 9 {
-            return AS_THEY_WERE;
-        }
-    }
-    if e.place == 0 {
-        if e.counter == 0 {
-            return ZEROS;
-        }
-    }
-    3
+// What is left in the lent entries of the row, by its number in the list. None are lent of a row of no entries.
+#[derive(Clone, Copy, Debug, PartialEq, Eq)]
+enum RowLeft {
+    NoneLent,
+    AsItWas,
+    Zeros,
+    Other,
 }
 
-// What the first entries are; those behind them were not lent, and are as they were.
-fn row_is(row: [CutEntry; 600], room: usize) -> u64 {
-    let mut is = 0;
-    let mut i = 0;
-    while i < 600 {
-        let e = row[i];
-        if i < room {
-            is = is | entry_is(e);
-        } else {
-            if entry_is(e) != AS_THEY_WERE {
-                return 3;
+fn all_are(entries: &[CutEntry], wanted: CutEntry) -> bool {
+    entries.iter().all(|entry| entry.place == wanted.place && entry.counter == wanted.counter)
+}
+
+impl RowLeft {
+    // What the first entries are; those behind them were not lent, and are as they were.
+    fn of(row: &[CutEntry], room: usize) -> RowLeft {
+        let zero = CutEntry {
+            place: 0,
+            counter: 0,
+        };
+        match row.split_at_checked(room) {
+            Some((lent, rest)) if all_are(rest, FULL) => {
+                if lent.is_empty() {
+                    RowLeft::NoneLent
+                } else if all_are(lent, FULL) {
+                    RowLeft::AsItWas
+                } else if all_are(lent, zero) {
+                    RowLeft::Zeros
+                } else {
+                    RowLeft::Other
+                }
             }
+            _ => RowLeft::Other,
         }
-        i += 1;
     }
-    is
 }
 
 // Both answers, each with the counter after it, and what the row is.
-fn tell_twice(both: Twice, room: usize, told: &mut [u64; 16]) {
-    let answer = both.answer;
-    let again = both.again;
-    let row = both.row;
+fn tell_twice(both: &Twice, room: usize, told: &mut [u64; 16]) {
     let mut first = [0u64; 16];
-    tell(answer, &mut first);
+    tell(both.first.answer, &mut first);
     let mut second = [0u64; 16];
-    tell(again, &mut second);
-    let after = both.counter as u64;
-    let last = both.last as u64;
-    let left = row_is(row, room);
-    *told = [
-        first[0], first[1], first[2], first[3], after, second[0], second[1], second[2], second[3],
-        last, left, 0, 0, 0, 0, 0,
-    ];
+    tell(both.second.answer, &mut second);
+    told[..4].copy_from_slice(&first[..4]);
+    told[4] = u64::from(both.first.counter);
+    told[5..9].copy_from_slice(&second[..4]);
+    told[9] = u64::from(both.second.counter);
+    told[10] = RowLeft::of(&both.row, room) as u64;
 }
 
-pub fn with_row(list: &[u8], out: &mut [u8], scratch: &mut [u8], told: &mut [u64; 16]) {
-    let numbers = field(list, NUMBERS);
-    let counter = number(numbers, 0) as u32;
-    let room = number(numbers, 3) as usize;
-    if 600 < room {
-        return;
+pub fn with_row(record: &Record, out: &mut [u8], scratch: &mut [u8], told: &mut [u64; 16]) {
+    let room = number(record.numbers, 3) as usize;
+    if room <= ROW_ROOM {
+        let both = extract_in_row(room, record, out, scratch);
+        tell_twice(&both, room, told);
     }
-    let both = extract_in_row(
-        room,
-        counter,
-        field(list, FIRST),
-        field(list, SECOND),
-        out,
-        scratch,
-    );
-    tell_twice(both, room, told);
 }

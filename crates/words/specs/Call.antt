@@ -1,33 +1,32 @@
 -- A call that reads its input and writes what it says: what the rules say of each way out. And a task at the start of the input.
 -- Assumes nothing.
-use Rattle.std.specs.Prelude.{ℕ, ◌+◌, ◌-◌, ◌<◌, ◌≤◌, ◌≡◌, [], length, replicate}
+use Rattle.std.specs.Prelude.{ℕ, ◌+◌, ◌-◌, ◌<◌, ◌≤◌, ◌≡◌, [], length, replicate, Ok, Err}
 use Rattle.std.proofs.Common.{sym, ◌∙◌, append-nil, arith, le-leb}
 use Rattle.std.proofs.lemmas.Bool.{lt-leb}
 use Rattle.rules.specs.Basic.{Bytes, ◌‥◌, ◌≤?◌}
 use Rattle.rules.specs.Name.{name_most}
-use Rattle.rules.specs.Refusal.{Outcome, good, refused, mapped, answered}
+use Rattle.rules.specs.Refusal.{Outcome, mapped}
+use Rattle.rules.specs.declared.Reason.TheVariants.{ShortBuffer}
 use Rattle.rules.specs.declared.Refusal.{Refusal}
-use Rattle.rules.specs.declared.Answer.{Answer}
-use Rattle.rules.specs.declared.Answer.TheVariants.{Good, Refused}
 use Rattle.rules.specs.Buffers.{bytes_or, lent, Wrote, wrote}
 use Rattle.words.specs.Task.{Task}
 
 -- what it answers, and what it leaves in the output
-abbrev pub Ends : Answer → Bytes → Wrote ℕ → Type 0
-Ends r o c = (r ≡ answered c.answer) × (o ≡ c.output)
+abbrev pub Ends : Outcome ℕ → Bytes → Wrote ℕ → Type 0
+Ends r o c = (r ≡ c.answer) × (o ≡ c.output)
 
 module _ {A : Type 0} (says : A → Bytes) (room : ℕ) (o : Bytes) where
   abbrev pub calls : Outcome A → Wrote ℕ
   calls read = wrote o (lent (room ≤? length o) (bytes_or (mapped says read)))
 
-  pub short : length o < room → (read : Outcome A) → Ends (Refused (record { number = 1; place = 0; input = 0 })) o (calls read)
+  pub short : length o < room → (read : Outcome A) → Ends (Err (record { reason = ShortBuffer; place = 0; input = 0 })) o (calls read)
   short h read = let e = lt-leb room (length o) h in (rw e, rw e)
 
   module _ (h : room ≤ length o) (read : Outcome A) where
-    pub not-read : (q : Refusal) → read ≡ refused q → Ends (Refused q) o (calls read)
+    pub not-read : (q : Refusal) → read ≡ Err q → Ends (Err q) o (calls read)
     not-read q e = let l = le-leb room (length o) h in (rw (l, e), rw (l, e))
 
-    pub was_read : (x : A) → read ≡ good x → Ends (Good (length (says x))) (says x ‥ replicate (length o - length (says x)) 0) (calls read)
+    pub was_read : (x : A) → read ≡ Ok x → Ends (Ok (length (says x))) (says x ‥ replicate (length o - length (says x)) 0) (calls read)
     was_read x e = let l = le-leb room (length o) h in (rw (l, e), rw (l, e))
 
 -- the whole input encodes what is to be printed

@@ -29,6 +29,9 @@ decimal-one n h = digits-one n n h
 pub decimal-more : (n : ℕ) → 10 ≤ n → decimal n ≡ decimal (n / 10) ++ ((48 + n % 10) ∷ [])
 decimal-more n h = digits_more n n h ∙ ap (λ (s : Bytes). s ++ ((48 + n % 10) ∷ [])) (enough n (suc (n / 10)) (n / 10) (omega arith) (omega arith))
 
+pub length-decimal : (n : ℕ) → 10 ≤ n → length (decimal n) ≡ length (decimal (n / 10)) + 1
+length-decimal n h = ap length (decimal-more n h) ∙ length-append (decimal (n / 10)) ((48 + n % 10) ∷ [])
+
 -- a number below a power of ten
 few-more : (f n m : ℕ) (t : Bool) → ltb n 10 ≡ t → (10 ≤ n → length (digits f (n / 10)) ≤ m) → length (digits (suc f) n) ≤ suc m
 few-more f n m true e r = let l = ap length (digits-one f n (ltb-true n 10 e)) in omega arith

@@ -1,5 +1,5 @@
 -- What printing leaves in the output. Assumes nothing: these are definitions.
-use Rattle.std.specs.Prelude.{ℕ, ◌+◌, ◌/◌, ◌%◌, ◌≡◌, List, [], ◌∷◌, ◌++◌, length, take, replicate}
+use Rattle.std.specs.Prelude.{ℕ, ◌+◌, ◌≡◌, List, ◌++◌, length, take, replicate}
 
 -- out' has what out had before `to`, then xs, and `past` is the place after them. What stands behind is free, so that words and names can be
 -- written eight bytes at a time.
@@ -7,12 +7,6 @@ pub record Prints (out : List ℕ) (to : ℕ) (xs out' : List ℕ) (past : ℕ) 
   pub long : length out' ≡ length out
   pub ends : past ≡ to + length xs
   pub holds : take past out' ≡ take to out ++ xs
-
--- the eight bytes of a number, low byte first
-abbrev pub eight : ℕ → List ℕ
-eight w =
-    (w % 256) ∷ (w / 256 % 256) ∷ (w / 65536 % 256) ∷ (w / 16777216 % 256) ∷ (w / 4294967296 % 256) ∷ (w / 1099511627776 % 256)
-    ∷ (w / 281474976710656 % 256) ∷ (w / 72057594037927936 % 256) ∷ []
 
 abbrev pub brackets : ℕ → List ℕ
 brackets n = replicate n 41

@@ -9,10 +9,10 @@ pub fn put_decimal(n: u64, out: &mut [u8], at: usize) -> usize
     ensures { Wrote out.old at (decimal n) out.new result }
 {
     if n < 10 {
-        out[at] = 48 + n as u8;
+        out[at] = b'0' + n as u8;
         return at + 1;
     }
     let past = put_decimal(n / 10, out, at);
-    out[past] = 48 + (n % 10) as u8;
+    out[past] = b'0' + (n % 10) as u8;
     past + 1
 }

@@ -17,7 +17,7 @@ use Rattle.buffer.specs.Wrote.{Wrote}
 use Rattle.term.specs.Place.{TermAt}
 use Rattle.term.proofs.node.Names.{AfterIs}
 use Rattle.term.proofs.node.Terms.{at-end, first, others}
-use Rattle.substitution.specs.Places.{places, Held}
+use Rattle.substitution.specs.Places.{places}
 use Rattle.substitution.proofs.place.Writes.{wrote-part}
 use Rattle.buffer.specs.Writing.{slice_is, wrote-length}
 use Rattle.term.specs.Measured.{Measured}
@@ -26,8 +26,8 @@ use Rattle.term.proofs.span.Rows.{in_app, past-name, name-is}
 use Rattle.contraction.specs.Stays.{one_at_end, ends_in, of-app, of-app-end}
 use Rattle.contraction.specs.Contracted.{Redex, Contracts, becomes}
 use Rattle.contraction.specs.Parts.{Kept, Placing}
-use Rattle.contraction.specs.declared.part.Body.{Body}
-use Rattle.contraction.specs.declared.part.Contracted.TheVariants.{Made}
+use Rattle.contraction.specs.declared.part.BodyAt.{BodyAt}
+use Rattle.std.specs.Prelude.{Some}
 use Rattle.contraction.proofs.part.Standing.{inside}
 use Rattle.contraction.proofs.app.Tail.{last-place, tail-bytes, tail-nodes, tail-some, tail-long, front_long, front_at}
 use Rattle.contraction.proofs.part.Smaller.{part-is, kept_there, smaller-fits}
@@ -50,7 +50,7 @@ module _ {s : Bytes} {at n l : ℕ} where
         let b = at-end s body e app-body in
         (h, omega arith, omega (arith, h, j.behind, j.short), omega (arith, h))
 
-    module _ {row : List ℕ} {f : Body} (k : Kept body (take (body - (at + 3)) (drop (at + 3) s)) e row f) where
+    module _ {row : List ℕ} {f : BodyAt} (k : Kept body (take (body - (at + 3)) (drop (at + 3) s)) e row f) where
       found : Kept body x e row f
       found = rw (name-is j.stands g) at k
 
@@ -59,14 +59,14 @@ module _ {s : Bytes} {at n l : ℕ} where
 
       pub record Bounds : Type 0 where
         pub name : at + 3 ≤ body
-        pub gap_is : f.gap ≡ 2 + length x
-        pub gap-small : f.gap ≤ limits.bytes
+        pub gap_is : f.kept.gap ≡ 2 + length x
+        pub gap-small : f.kept.gap ≤ limits.bytes
         pub past : body ≤ f.end
         pub next : f.end ≡ body + size e
         pub ends : f.end + size a ≡ at + size t
         pub inside : f.end + size a ≤ length s
         pub count : nodes t ≡ 2 + (nodes e + nodes a)
-        pub held_in : f.count ≤ length row
+        pub held_in : f.kept.count ≤ length row
 
       pub app-numbers : Bounds
       app-numbers =
@@ -87,15 +87,15 @@ module _ {s : Bytes} {at n l : ℕ} where
           }
 
       -- whether the body ends in its one place
-      pub ends-in : {q : Bool} → ((ps : List ℕ) → Held row f.count ps → q ≡ one_at_end ps f.gap (f.end - body)) → q ≡ ends_in x e
+      pub ends-in : {q : Bool} → q ≡ one_at_end (take f.kept.count row) f.kept.gap (f.end - body) → q ≡ ends_in x e
       ends-in is =
           let b = app-numbers in
           let d : f.end - body ≡ size e = omega (arith, b.next) in
-          rw (d, b.gap_is) at (is (places x e 0) found.held)
+          rw (found.held.are, d, b.gap_is) at is
 
       -- the argument goes in
       pub app-placing : {r : Extent} (m : Measured f.end a r) → ends_in x e ≡ false
-          → Placing s at r.next f (record { from = f.end; end = r.next; nodes = r.nodes }) (n - 2 - r.nodes) l row n t x e a
+          → Placing s at r.next f (record { from = f.end; extent = r }) (n - 2 - r.nodes) l row n t x e a
       app-placing m goes_in =
           let i = in_app j.stands g in
           let b = app-numbers in
@@ -116,7 +116,7 @@ module _ {s : Bytes} {at n l : ℕ} where
         last : (places x e 0 ≡ (size e - (2 + length x)) ∷ []) × (2 + length x ≤ size e)
         last = last-place (places x e 0) (2 + length x) (size e) ends_so
 
-        pub tail-room : {room : ℕ} → output_room limits ≤ room → (f.gap ≤ f.end) × (body ≤ f.end - f.gap) × (f.end - f.gap ≤ length s) × (0 + (f.end - f.gap - body) ≤ room)
+        pub tail-room : {room : ℕ} → output_room limits ≤ room → (f.kept.gap ≤ f.end) × (body ≤ f.end - f.kept.gap) × (f.end - f.kept.gap ≤ length s) × (0 + (f.end - f.kept.gap - body) ≤ room)
         tail-room h =
             let b = app-numbers in
             let y = last.1 in
@@ -125,14 +125,14 @@ module _ {s : Bytes} {at n l : ℕ} where
         pub tail-few : 3 ≤ n
         tail-few = omega (arith, tail-some x a e last, app-numbers.count, j.nodes-in)
 
-        pub tail-stays : {made made' : Bytes} {z : ℕ} → output_room limits ≤ length made → Wrote made 0 (slice body (f.end - f.gap) s) made' z
-            → {rule : Rule} → Contracts s at n l t rule none (subst x a e) made' (Made (record { rule = rule; size = z; end = f.end; nodes = n - 3 }))
+        pub tail-stays : {made made' : Bytes} {z : ℕ} → output_room limits ≤ length made → Wrote made 0 (slice body (f.end - f.kept.gap) s) made' z
+            → {rule : Rule} → Contracts s at n l t rule none (subst x a e) made' (Some (record { rule = rule; size = z; end = f.end; nodes = n - 3 }))
         tail-stays {made} {made'} {z} h w {rule} =
             let b = app-numbers in
             let y = last in
             let u : Term = subst x a e in
-            let i : f.end - f.gap ≡ body + (size e - (2 + length x)) = omega (arith, b, y.1) in
-            let d : slice body (f.end - f.gap) s ≡ take (size e - (2 + length x)) (encode e) =
+            let i : f.end - f.kept.gap ≡ body + (size e - (2 + length x)) = omega (arith, b, y.1) in
+            let d : slice body (f.end - f.kept.gap) s ≡ take (size e - (2 + length x)) (encode e) =
             ap (λ (k : ℕ). slice body k s) i ∙ front_at x a e y app-body in
             let o : Wrote made 0 (take (size e - (2 + length x)) (encode e)) made' z = rw d at w in
             let c : n - 3 ≡ n - nodes t + nodes u = omega (arith, tail-nodes x a e y, b.count, j.nodes-in) in

@@ -2,20 +2,19 @@
 -- By the splice at one place. Assumes nothing.
 use Prim.Native.Nat.{ℕ, ◌+◌, ◌-◌, ◌*◌, ◌≤◌}
 use mathlib.Core.Path.{◌≡◌, refl, sym, ap, ◌∙◌}
-use mathlib.Core.Bool.{true, false}
+use mathlib.Core.Bool.{true}
 use mathlib.Core.List.{List, [], ◌∷◌, ◌++◌, append-nil, append_assoc}
 use native.Mathlib.Omega.{arith}
-use lib.ListN.{length, get_or, take, drop, length-append, take-append-drop}
+use lib.ListN.{length, take, drop, length-append, take-append-drop}
 use lib.Seq.{slice, slice_empty, length-take-le}
 use borrow.Author.Tests.{eqb-true}
-use Rattle.std.specs.Prelude.{◌==◌}
 use Rattle.rules.specs.Basic.{Bytes}
 use Rattle.rules.specs.Name.{Name}
 use Rattle.rules.specs.Term.{Term, encode, nodes, size}
 use Rattle.rules.specs.Free.{occurrences}
 use Rattle.rules.specs.Substitution.{subst}
 use Rattle.laws.specs.size.SubstSize.{subst-nodes, occurrences-nodes}
-use Rattle.substitution.specs.Places.{places, Held}
+use Rattle.substitution.specs.Places.{places}
 use Rattle.substitution.specs.Spliced.{spliced}
 use Rattle.substitution.proofs.place.Shapes.{places-many}
 use Rattle.substitution.proofs.splice.Splices.{spliced-term}
@@ -23,22 +22,7 @@ use Rattle.buffer.specs.Writing.{slice_is}
 use Rattle.term.specs.Place.{TermAt}
 use Rattle.contraction.specs.Stays.{one_at_end}
 
--- ---- the one place that is held
-
--- whether it is one, at the end
-pub one-at-end : (row : List ℕ) {count : ℕ} {ps : List ℕ} → Held row count ps → (gap end : ℕ) → count ≡ 1 → ((get_or row 0 0 + gap) == end) ≡ one_at_end ps gap end
-one-at-end [] h gap end e = absurd (omega (arith, h.inside))
-one-at-end (p ∷ row) {count} {ps} h gap end e = let q : ps ≡ p ∷ [] = sym h.are ∙ ap (λ (n : ℕ). take n (p ∷ row)) e in rw q
-
-pub not-one : (row : List ℕ) {count : ℕ} {ps : List ℕ} → Held row count ps → (gap end : ℕ) → (count ≡ 1 → ⊥) → false ≡ one_at_end ps gap end
-not-one row {count} {ps} h gap end n = go ps (sym (length-take-le count row h.inside) ∙ ap (λ (z : List ℕ). length z) h.are)
-  where
-    go : (qs : List ℕ) → count ≡ length qs → false ≡ one_at_end qs gap end
-    go [] e = refl
-    go (q ∷ []) e = absurd (n e)
-    go (q ∷ r ∷ qs) e = refl
-
--- then it is the last of the body
+-- where there is one place at the end, it is the last of the body
 pub last-place : (ps : List ℕ) (gap end : ℕ) → one_at_end ps gap end ≡ true → (ps ≡ (end - gap) ∷ []) × (gap ≤ end)
 last-place [] gap end e = absurd (let z : ◌≡◌ {A = ℕ} 0 1 = cc in omega arith)
 last-place (p ∷ []) gap end e =

@@ -17,7 +17,7 @@ use Rattle.term.proofs.span.Rows.{branch-names, past-names, x-is, y-is, in-branc
 use Rattle.contraction.specs.Stays.{of-case}
 use Rattle.contraction.specs.Contracted.{Redex}
 use Rattle.contraction.specs.Parts.{Kept, PartIs, Placing}
-use Rattle.contraction.specs.declared.part.Body.{Body}
+use Rattle.contraction.specs.declared.part.BodyAt.{BodyAt}
 use Rattle.contraction.proofs.part.Smaller.{part-is, kept_there}
 
 module _ {s : Bytes} {at n l : ℕ} where
@@ -39,7 +39,7 @@ module _ {s : Bytes} {at n l : ℕ} where
       pub case-left : TermAt s q.next b
       case-left = first s q.next 2 b (d ∷ []) (others s (p.end + 1) 3 v (b ∷ d ∷ []) (in-branch j.stands m).row q.next h.next)
 
-      value-part : PartIs s (record { from = p.end + 1; end = q.next; nodes = q.nodes }) v
+      value-part : PartIs s (record { from = p.end + 1; extent = q }) v
       value-part = let i = in-branch j.stands m in part-is j case-value h (omega (arith, i.count)) (omega (arith, i.ends, i.past))
 
       right-at : {end : ℕ} → end ≡ q.next + size b → TermAt s end d
@@ -53,7 +53,7 @@ module _ {s : Bytes} {at n l : ℕ} where
       left-short = omega (arith, j.behind, j.short, h.next, (in-branch j.stands m).past)
 
       -- the left
-      module _ {row : List ℕ} {f : Body} (o : Kept q.next (take (p.second - (at + 2)) (drop (at + 2) s)) b row f) where
+      module _ {row : List ℕ} {f : BodyAt} (o : Kept q.next (take (p.second - (at + 2)) (drop (at + 2) s)) b row f) where
         pub left_other : TermAt s f.end d
         left_other = right-at o.next
 
@@ -61,7 +61,7 @@ module _ {s : Bytes} {at n l : ℕ} where
         left-nodes g = omega (arith, h.nodes, g.nodes, (in-branch j.stands m).count, j.nodes-in)
 
         pub left-placing : {r : Extent} (g : Measured f.end d r)
-            → Placing s at r.next f (record { from = p.end + 1; end = q.next; nodes = q.nodes }) (n - 2 - q.nodes - r.nodes) l row n (branch x y (one k v) b d) x b v
+            → Placing s at r.next f (record { from = p.end + 1; extent = q }) (n - 2 - q.nodes - r.nodes) l row n (branch x y (one k v) b d) x b v
         left-placing g =
             let i = in-branch j.stands m in
             record {
@@ -87,8 +87,8 @@ module _ {s : Bytes} {at n l : ℕ} where
         pub right-nodes : 2 + q.nodes + r.nodes ≤ n
         right-nodes = omega (arith, h.nodes, g.nodes, (in-branch j.stands m).count, j.nodes-in)
 
-        pub right-placing : {row : List ℕ} {f : Body} (o : Kept r.next (take (p.end - (p.second + 1)) (drop (p.second + 1) s)) d row f)
-            → Placing s at f.end f (record { from = p.end + 1; end = q.next; nodes = q.nodes }) (n - 2 - q.nodes - r.nodes) l row n (branch x y (one k v) b d) y d v
+        pub right-placing : {row : List ℕ} {f : BodyAt} (o : Kept r.next (take (p.end - (p.second + 1)) (drop (p.second + 1) s)) d row f)
+            → Placing s at f.end f (record { from = p.end + 1; extent = q }) (n - 2 - q.nodes - r.nodes) l row n (branch x y (one k v) b d) y d v
         right-placing o =
             let i = in-branch j.stands m in
             record {

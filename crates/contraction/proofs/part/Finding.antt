@@ -3,7 +3,7 @@ use Prim.Native.Nat.{ℕ, ◌+◌, ◌-◌, ◌≤◌}
 use mathlib.Core.Path.{◌≡◌, refl, ap, ◌∙◌}
 use mathlib.Core.List.{List}
 use native.Mathlib.Omega.{arith}
-use lib.ListN.{length, take, drop, length-take, length-drop}
+use lib.ListN.{length, take, drop, length-drop}
 use lib.Seq.{take_all}
 use Rattle.rules.specs.Basic.{Bytes}
 use Rattle.rules.specs.Limits.{limits}
@@ -31,15 +31,13 @@ module _ (s : Bytes) (i : ℕ) (short : length s ≤ i + limits.bytes) where
     pub found-room : (i ≤ length s) × (i + size e ≤ length s)
     found-room = let a = at-end s i e w in (omega arith, a)
 
-    pub is-kept : {name past : ℕ} {row row₁ : List ℕ} {f : KeptPlaces} → name ≤ past → past ≤ length s → f.count ≤ length row
-        → (f.next ≡ size e) × Wrote row 0 (places (take (past - name) (drop name s)) e 0) row₁ f.count
-        → Kept i (take (past - name) (drop name s)) e row₁ (record { from = i; end = i + f.next; count = f.count; gap = past - name + 2 })
-    is-kept {name} {past} hn hp within (n, o) =
-        let x : Name = take (past - name) (drop name s) in
-        let g : length x ≡ past - name = simp (length-take, length-drop) (omega arith) in
+    pub is-kept : {x : Name} {row row₁ : List ℕ} {f : KeptPlaces} → f.count ≤ length row
+        → (f.next ≡ size e) × Wrote row 0 (places x e 0) row₁ f.count × (f.gap ≡ 2 + length x)
+        → Kept i x e row₁ (record { from = i; end = i + f.next; kept = f })
+    is-kept within (n, o, g) =
         record {
           from = refl;
           next = ap (λ (k : ℕ). i + k) n;
           held = held o within;
-          gap_is = omega (arith, g);
+          gap_is = g;
         }

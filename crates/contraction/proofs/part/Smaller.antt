@@ -15,12 +15,12 @@ use Rattle.term.specs.declared.span.Extent.{Extent}
 use Rattle.substitution.proofs.put.Puts.{beside-yes}
 use Rattle.contraction.specs.Contracted.{Redex}
 use Rattle.contraction.specs.Parts.{Kept, PartIs}
-use Rattle.contraction.specs.declared.part.Body.{Body}
+use Rattle.contraction.specs.declared.part.BodyAt.{BodyAt}
 use Rattle.contraction.specs.Beside.{fits_around}
 
 -- a part of the redex that goes in
 pub part-is : {s : Bytes} {at n l : ℕ} {t : Term} → Redex s at n l t → {p : ℕ} {u : Term} {r : Extent} → TermAt s p u → Measured p u r → nodes u ≤ nodes t → size u ≤ size t
-    → PartIs s (record { from = p; end = r.next; nodes = r.nodes }) u
+    → PartIs s (record { from = p; extent = r }) u
 part-is j {u = u} w m le ls =
     record {
       stands = w;
@@ -30,7 +30,7 @@ part-is j {u = u} w m le ls =
     }
 
 -- a body with its places, at its own place
-pub kept_there : {i : ℕ} {x : Name} {e : Term} {row : List ℕ} {b : Body} → Kept i x e row b → Kept b.from x e row b
+pub kept_there : {i : ℕ} {x : Name} {e : Term} {row : List ℕ} {b : BodyAt} → Kept i x e row b → Kept b.from x e row b
 kept_there {e = e} k =
     record { from = refl; next = k.next ∙ ap (λ (n : ℕ). n + size e) (sym k.from); held = k.held; gap_is = k.gap_is }
 

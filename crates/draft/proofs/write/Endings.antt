@@ -8,7 +8,8 @@ use Rattle.rules.specs.Term.{Term, encode}
 use Rattle.buffer.specs.Wrote.{Wrote}
 use Rattle.buffer.specs.Writing.{chain}
 use Rattle.words.specs.Digits.{wrote_as, wrote_one}
-use Rattle.draft.specs.Draft.{Row, row_at, shape_of, Drafts}
+use Rattle.draft.specs.declared.row.Row.{Row}
+use Rattle.draft.specs.Draft.{row_at, shape_of, Drafts}
 use Rattle.draft.specs.Steady.{drafts-unit, drafts-trivial, drafts-one}
 use Rattle.draft.specs.Heads.{front, parts_of, written}
 use Rattle.draft.specs.Writing.{Puts}
@@ -23,7 +24,7 @@ written-three (suc (suc zero)) a b x y z = absurd (z refl)
 written-three (suc (suc (suc c))) a b x y z = refl
 
 -- what is written by then, when no part is left
-module _ (s : Bytes) (ws : List ℕ) (n p : ℕ) {out out₁ : Bytes} {at q : ℕ} (a : p ≡ 0 → ⊥) (b : p ≡ 1 → ⊥)
+module _ (s : Bytes) (ws : List Row) (n p : ℕ) {out out₁ : Bytes} {at q : ℕ} (a : p ≡ 0 → ⊥) (b : p ≡ 1 → ⊥)
     (h : Wrote out at (front s (row_at ws (p - 2))) out₁ q) (c : ℕ)
     (e : c ≡ parts_of (shape_of (row_at ws (p - 2)).kind)) where
   abbrev r : Row
@@ -77,13 +78,13 @@ module _ (s : Bytes) (ws : List ℕ) (n p : ℕ) {out out₁ : Bytes} {at q : �
           (chain h (chain (f (o.part r.first) o.first) (chain (f' g o.second) (f'' g o.second))))
 
 -- the parts with which a draft begins
-pub end-unit : {s : Bytes} {ws : List ℕ} {n p : ℕ} (out : Bytes) (at : ℕ) → p ≡ 0 → Puts s ws n p out at (set out at 2) (at + 1)
+pub end-unit : {s : Bytes} {ws : List Row} {n p : ℕ} (out : Bytes) (at : ℕ) → p ≡ 0 → Puts s ws n p out at (set out at 2) (at + 1)
 unfolding encode
 end-unit {s} {ws} {n} out at e t d =
     let x : Drafts s ws n 0 t = rw e at d in
     wrote_as (ap (λ (u : Term). encode u) (drafts-one (drafts-unit d.rows) x)) (wrote_one out at 2)
 
-pub end-trivial : {s : Bytes} {ws : List ℕ} {n p : ℕ} (out : Bytes) (at : ℕ) → p ≡ 1 → Puts s ws n p out at (set out at 10) (at + 1)
+pub end-trivial : {s : Bytes} {ws : List Row} {n p : ℕ} (out : Bytes) (at : ℕ) → p ≡ 1 → Puts s ws n p out at (set out at 10) (at + 1)
 unfolding encode
 end-trivial {s} {ws} {n} out at e t d =
     let x : Drafts s ws n 1 t = rw e at d in

@@ -5,17 +5,18 @@ use mathlib.Core.List.{List}
 use native.Mathlib.Omega.{arith}
 use Rattle.rules.specs.Basic.{Bytes}
 use Rattle.rules.specs.Term.{Term}
-use Rattle.draft.specs.Draft.{Row, row_at, shape_of, shaped, drafted, Drafts}
+use Rattle.draft.specs.declared.row.Row.{Row}
+use Rattle.draft.specs.Draft.{row_at, shape_of, shaped, drafted, Drafts}
 use Rattle.draft.specs.Steady.{drafted-enough}
 
 -- t is what the row r makes of its parts
-pub record Opened (s : Bytes) (ws : List ℕ) (n : ℕ) (r : Row) (t : Term) : Type 0 where
+pub record Opened (s : Bytes) (ws : List Row) (n : ℕ) (r : Row) (t : Term) : Type 0 where
   pub part : ℕ → Term
   pub is : t ≡ shaped s r part (shape_of r.kind)
   pub first : Drafts s ws n r.first (part r.first)
   pub second : Drafts s ws n r.second (part r.second)
 
-module _ {s : Bytes} {ws : List ℕ} {n : ℕ} {t : Term} where
+module _ {s : Bytes} {ws : List Row} {n : ℕ} {t : Term} where
   -- its parts are the terms of the parts that it names
   from_row : (i : ℕ) → Drafts s ws n (suc (suc i)) t → Opened s ws n (row_at ws i) t
   unfolding drafted

@@ -9,9 +9,11 @@ use Rattle.rules.specs.Term.{Term, var, leaf, one, two, abs, both, branch, encod
 use Rattle.rules.specs.Legal.{Legal}
 use Rattle.buffer.specs.Wrote.{Wrote}
 use Rattle.buffer.specs.Writing.{wrote-length}
-use Rattle.draft.specs.Draft.{Row, row_at, name_of, Shape, shape_of, named, identity, discarding, letting, branching, copying, wrapping, joining, shaped}
+use Rattle.draft.specs.declared.row.Row.{Row}
+use Rattle.draft.specs.declared.row.RowKind.TheVariants.{Named}
+use Rattle.draft.specs.Draft.{row_at, name_of, Shape, shape_of, named, identity, discarding, letting, branching, copying, wrapping, joining, shaped}
 use Rattle.draft.specs.Made.{Small}
-use Rattle.draft.specs.Heads.{head, parts_of, summed, Middleroom}
+use Rattle.draft.specs.Heads.{head, front, parts_of, summed, Middleroom}
 use Rattle.draft.specs.Writing.{Writable, Puts}
 use Rattle.draft.proofs.write.Shapes.{shaped-size}
 use Rattle.draft.proofs.write.Opening.{Opened, opened}
@@ -62,13 +64,13 @@ legal-second s r part copying x y l = absurd (y refl)
 legal-second s r part (wrapping k) x y l = absurd (y refl)
 legal-second s r part (joining k) x y l = l.1
 
-legal-name : (s : Bytes) (r : Row) (part : ℕ → Term) → r.kind ≡ 0 → Legal (shaped s r part (shape_of r.kind)) → length (name_of s r.stem r.number) ≤ 255
+legal-name : (s : Bytes) (r : Row) (part : ℕ → Term) → r.kind ≡ Named → Legal (shaped s r part (shape_of r.kind)) → length (name_of s r.stem r.number) ≤ 255
 legal-name s r part e l =
     let m : Legal (shaped s r part named) = rw e at l in
     omega (arith, m.short)
 
 -- the room that is left for each part
-module _ {s : Bytes} {ws : List ℕ} {n p : ℕ} {out : Bytes} {at : ℕ} {t : Term} (w : Writable s ws n p out at t) (a : p ≡ 0 → ⊥) (b : p ≡ 1 → ⊥) where
+module _ {s : Bytes} {ws : List Row} {n p : ℕ} {out : Bytes} {at : ℕ} {t : Term} (w : Writable s ws n p out at t) (a : p ≡ 0 → ⊥) (b : p ≡ 1 → ⊥) where
   abbrev r : Row
   r = row_at ws (p - 2)
 
@@ -93,7 +95,7 @@ module _ {s : Bytes} {ws : List ℕ} {n p : ℕ} {out : Bytes} {at : ℕ} {t : T
   lawful : Legal (shaped s r o.part k)
   lawful = rw o.is at w.legal
 
-  pub head-room : Small ws n → Middleroom s out (at + 1) r.number r.stem r.kind
+  pub head-room : Small ws n → Middleroom s out (at + 1) r
   head-room m =
       record {
         room = omega (arith, w.room, whole, summed-head (parts_of k) own first other);
@@ -101,7 +103,7 @@ module _ {s : Bytes} {ws : List ℕ} {n p : ℕ} {out : Bytes} {at : ℕ} {t : T
         small = m.each (p - 2) (omega (arith, w.drafts.among, a, b));
       }
 
-  module _ {out₁ : Bytes} {q : ℕ} (h : Wrote out at (head s r.number r.stem k) out₁ q) (c : ℕ) (e : c ≡ parts_of k) (x : c ≡ 0 → ⊥) where
+  module _ {out₁ : Bytes} {q : ℕ} (h : Wrote out at (front s r) out₁ q) (c : ℕ) (e : c ≡ parts_of k) (x : c ≡ 0 → ⊥) where
     pub first-room : (u : Term) × Writable s ws n r.first out₁ q u
     first-room = (
       o.part r.first,

@@ -8,7 +8,8 @@ use lib.ListN.{length, length-append}
 use Rattle.rules.specs.Basic.{Bytes}
 use Rattle.rules.specs.Name.{encode_name}
 use Rattle.rules.specs.Term.{Term, encode, nodes, size}
-use Rattle.draft.specs.Draft.{Row, x_name, shaped, Shape, named, identity, discarding, letting, branching, copying, wrapping, joining}
+use Rattle.draft.specs.declared.row.Row.{Row}
+use Rattle.draft.specs.Draft.{x_name, shaped, Shape, named, identity, discarding, letting, branching, copying, wrapping, joining}
 use Rattle.draft.specs.Heads.{variable, two_names, head, parts_of, written, node_count_of, summed}
 
 -- two names, and what follows them

@@ -1,6 +1,6 @@
 -- A formula without parts: its name, or no bytes where it is a constant, and then its sign.
 -- Assumes nothing.
-use Prim.Native.Nat.{ℕ, ◌+◌, ◌*◌, ◌-◌, ◌<◌, ◌≤◌}
+use Prim.Native.Nat.{ℕ, ◌+◌, ◌*◌, ◌<◌, ◌≤◌}
 use mathlib.Core.Path.{◌≡◌, refl, ap, ◌∙◌}
 use mathlib.Core.List.{List, [], ◌∷◌, ◌++◌}
 use native.Mathlib.Omega.{arith}
@@ -13,8 +13,8 @@ use Rattle.words.specs.Prints.{Prints}
 use Rattle.words.specs.Task.{places}
 use Rattle.words.specs.Steps.{chain, finish, passed, no_more, Named, named}
 use Rattle.formula_text.specs.Task.{FormulaTask, FormulaDone, Leaf}
-use Rattle.formula_text.specs.Words.{sign_of, shape_of}
-use Rattle.formula_text.proofs.walk.Shapes.{sign_word, constant-word, tag_at, shape_at, begun}
+use Rattle.formula_text.specs.Words.{sign_of, names_of}
+use Rattle.formula_text.proofs.walk.Shapes.{sign_word, constant-word, tag_at, names_at, begun}
 
 -- The leaf f at `at`: m is 1 where it has a name, and n is that name's length.
 pub record Leafed (s : List ℕ) (at : ℕ) (f : Formula) (m n : ℕ) : Type 0 where
@@ -62,17 +62,11 @@ module _ {s : List ℕ} {at : ℕ} {out : List ℕ} {to : ℕ} where
         bytes = omega (arith, z);
       }
 
-  pub leafed : (f : Formula) → Leaf f → FormulaTask s at out to f → {k : ℕ} → k ≡ shape_of (get_or s at 0) → Leafed s at f (1 - k) ((1 - k) * get_or s (at + (1 - k)) 0)
-  leafed (atom k x) l t e = rw (e ∙ shape_at (atom k x) t) (an-atom k x t)
-  leafed (constant k) l t e = rw (e ∙ shape_at (constant k) t) (a-constant k t)
+  pub leafed : (f : Formula) → Leaf f → FormulaTask s at out to f → {m : ℕ} → m ≡ names_of (get_or s at 0) → Leafed s at f m (m * get_or s (at + m) 0)
+  leafed (atom k x) l t e = rw (e ∙ names_at (atom k x) t) (an-atom k x t)
+  leafed (constant k) l t e = rw (e ∙ names_at (constant k) t) (a-constant k t)
   leafed (exponential k a) l t e = absurd l
   leafed (connective k a b) l t e = absurd l
-
-  pub leaf-low : (f : Formula) → Leaf f → FormulaTask s at out to f → shape_of (get_or s at 0) ≤ 1
-  leaf-low (atom k x) l t = omega (arith, shape_at (atom k x) t)
-  leaf-low (constant k) l t = omega (arith, shape_at (constant k) t)
-  leaf-low (exponential k a) l t = absurd l
-  leaf-low (connective k a b) l t = absurd l
 
   module _ {f : Formula} {m n : ℕ} (t : FormulaTask s at out to f) (l : Leafed s at f m n) where
     pub leaf-asked : (n ≤ atom_most) × (at + 1 + m + n ≤ length s) × (to + atom_most ≤ length out)

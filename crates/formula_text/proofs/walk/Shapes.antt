@@ -1,7 +1,7 @@
 -- The words and the shapes of a formula's tags, tag by tag; and what a formula is whose tag has a shape.
 -- Assumes nothing.
 use Prim.Native.Nat.{ℕ, ◌<◌}
-use mathlib.Core.Path.{◌≡◌, refl, ap, ◌∙◌}
+use mathlib.Core.Path.{◌≡◌, refl, sym, ap, ◌∙◌}
 use mathlib.Core.List.{List, [], ◌∷◌}
 use native.Mathlib.Omega.{arith}
 use lib.ListN.{length, get_or}
@@ -9,7 +9,9 @@ use Rattle.rules.specs.Basic.{say}
 use Rattle.rules.specs.Formula.{Formula, atom, constant, exponential, connective, Sign, plain, negated, Constant, One, Bottom, Top, Zero, Exponential, OfCourse, WhyNot, Connective, Tensor, Par, With, Plus, Lolli, tag_of_sign, constant_tag, exponential_tag, connective_tag, encode_formula}
 use Rattle.rules.specs.Text.{sign_text, constant_text, exponential_text, connective_text}
 use Rattle.formula_text.specs.Task.{FormulaTask, Leaf}
-use Rattle.formula_text.specs.Words.{sign_of, shape_of, opening_of}
+use Rattle.formula_text.specs.declared.shape.Shape.{Shape}
+use Rattle.formula_text.specs.declared.shape.Shape.TheVariants as Shapes
+use Rattle.formula_text.specs.Words.{sign_of, shape_of, names_of, opening_of}
 use Rattle.words.specs.Steps.{first_byte, ends-in}
 
 pub sign_word : (k : Sign) → sign_of (tag_of_sign k) ≡ say (sign_text k)
@@ -47,11 +49,11 @@ tag (constant k) = constant_tag k
 tag (exponential k a) = exponential_tag k
 tag (connective k a b) = connective_tag k
 
-abbrev pub shape : Formula → ℕ
-shape (atom k x) = 0
-shape (constant k) = 1
-shape (exponential k a) = 2
-shape (connective k a b) = 3
+abbrev shape : Formula → Shape
+shape (atom k x) = Shapes.Leaf
+shape (constant k) = Shapes.Leaf
+shape (exponential k a) = Shapes.Exponential
+shape (connective k a b) = Shapes.Connective
 
 tag-shape : (f : Formula) → shape_of (tag f) ≡ shape f
 tag-shape (atom plain x) = refl
@@ -68,20 +70,32 @@ tag-shape (connective With a b) = refl
 tag-shape (connective Plus a b) = refl
 tag-shape (connective Lolli a b) = refl
 
-tag-low : (f : Formula) → tag f < 16
-tag-low (atom plain x) = omega arith
-tag-low (atom negated x) = omega arith
-tag-low (constant One) = omega arith
-tag-low (constant Bottom) = omega arith
-tag-low (constant Top) = omega arith
-tag-low (constant Zero) = omega arith
-tag-low (exponential OfCourse a) = omega arith
-tag-low (exponential WhyNot a) = omega arith
-tag-low (connective Tensor a b) = omega arith
-tag-low (connective Par a b) = omega arith
-tag-low (connective With a b) = omega arith
-tag-low (connective Plus a b) = omega arith
-tag-low (connective Lolli a b) = omega arith
+abbrev names : Formula → ℕ
+names (atom k x) = 1
+names (constant k) = 0
+names (exponential k a) = 0
+names (connective k a b) = 0
+
+tag-names : (f : Formula) → names_of (tag f) ≡ names f
+tag-names (atom plain x) = refl
+tag-names (atom negated x) = refl
+tag-names (constant One) = refl
+tag-names (constant Bottom) = refl
+tag-names (constant Top) = refl
+tag-names (constant Zero) = refl
+tag-names (exponential OfCourse a) = refl
+tag-names (exponential WhyNot a) = refl
+tag-names (connective Tensor a b) = refl
+tag-names (connective Par a b) = refl
+tag-names (connective With a b) = refl
+tag-names (connective Plus a b) = refl
+tag-names (connective Lolli a b) = refl
+
+-- a number for each shape, which tells them apart
+abbrev pub rank : Shape → ℕ
+rank Shapes.Leaf = 0
+rank Shapes.Exponential = 1
+rank Shapes.Connective = 2
 
 module _ {s : List ℕ} {at : ℕ} {out : List ℕ} {to : ℕ} where
   pub tag_at : (f : Formula) → FormulaTask s at out to f → get_or s at 0 ≡ tag f
@@ -91,17 +105,8 @@ module _ {s : List ℕ} {at : ℕ} {out : List ℕ} {to : ℕ} where
   tag_at (exponential k a) t = first_byte t.task
   tag_at (connective k a b) t = first_byte t.task
 
-  pub tag_below : ((f : Formula) × FormulaTask s at out to f) → get_or s at 0 < 16
-  tag_below (f, t) = omega (arith, tag_at f t, tag-low f)
-
   pub shape_at : (f : Formula) → FormulaTask s at out to f → shape_of (get_or s at 0) ≡ shape f
   shape_at f t = ap (λ (k : ℕ). shape_of k) (tag_at f t) ∙ tag-shape f
-
-  pub leaf-shape : (f : Formula) → FormulaTask s at out to f → shape_of (get_or s at 0) < 2 → Leaf f
-  leaf-shape (atom k x) t h = tt
-  leaf-shape (constant k) t h = tt
-  leaf-shape (exponential k a) t h = absurd (omega (arith, shape_at (exponential k a) t))
-  leaf-shape (connective k a b) t h = absurd (omega (arith, shape_at (connective k a b) t))
 
   pub begun : (f : Formula) → FormulaTask s at out to f → at < length s
   unfolding encode_formula
@@ -109,3 +114,16 @@ module _ {s : List ℕ} {at : ℕ} {out : List ℕ} {to : ℕ} where
   begun (constant k) t = omega (arith, ends-in t.task)
   begun (exponential k a) t = omega (arith, ends-in t.task)
   begun (connective k a b) t = omega (arith, ends-in t.task)
+
+  pub names_at : (f : Formula) → FormulaTask s at out to f → names_of (get_or s at 0) ≡ names f
+  names_at f t = ap (λ (k : ℕ). names_of k) (tag_at f t) ∙ tag-names f
+
+  -- the shape of the tag is the formula's
+  pub ranked : {k : Shape} → shape_of (get_or s at 0) ≡ k → (f : Formula) → FormulaTask s at out to f → rank (shape f) ≡ rank k
+  ranked e f t = ap rank (sym (shape_at f t) ∙ e)
+
+  pub leaf-shape : shape_of (get_or s at 0) ≡ Shapes.Leaf → (f : Formula) → FormulaTask s at out to f → Leaf f
+  leaf-shape e (atom k x) t = tt
+  leaf-shape e (constant k) t = tt
+  leaf-shape e (exponential k a) t = absurd (omega (arith, ranked e (exponential k a) t))
+  leaf-shape e (connective k a b) t = absurd (omega (arith, ranked e (connective k a b) t))

@@ -12,24 +12,22 @@ use Rattle.words.specs.Task.{Task, Done}
 use Rattle.words.specs.Steps.{passed, printed, part_of, part_end, after-part, part_then, pass-then, print-then, no_more, no-more-done}
 use Rattle.formula_text.specs.Task.{FormulaTask, FormulaDone}
 use Rattle.formula_text.specs.Words.{sign_of, shape_of, opening_of}
-use Rattle.formula_text.proofs.walk.Shapes.{connective-word, exponential-opens, connective-opens, tag_at, shape_at}
+use Rattle.formula_text.specs.declared.shape.Shape.TheVariants as Shapes
+use Rattle.formula_text.proofs.walk.Shapes.{connective-word, exponential-opens, tag_at, ranked}
 
--- a formula of which the tag has the shape k
-module _ {s : List ℕ} {at : ℕ} {out : List ℕ} {to : ℕ} {k : ℕ} (e : k ≡ shape_of (get_or s at 0)) where
-  an-exponential : k ≡ 2 → (f : Formula) → FormulaTask s at out to f → (j : Exponential) × (a : Formula) × (f ≡ exponential j a)
-  an-exponential h (exponential j a) t = (j, a, refl)
-  an-exponential h (atom j x) t = absurd (omega (arith, shape_at (atom j x) t))
-  an-exponential h (constant j) t = absurd (omega (arith, shape_at (constant j) t))
-  an-exponential h (connective j a b) t = absurd (omega (arith, shape_at (connective j a b) t))
+-- a formula of which the tag has a shape with parts
+module _ {s : List ℕ} {at : ℕ} {out : List ℕ} {to : ℕ} where
+  an-exponential : shape_of (get_or s at 0) ≡ Shapes.Exponential → (f : Formula) → FormulaTask s at out to f → (j : Exponential) × (a : Formula) × (f ≡ exponential j a)
+  an-exponential e (exponential j a) t = (j, a, refl)
+  an-exponential e (atom j x) t = absurd (omega (arith, ranked e (atom j x) t))
+  an-exponential e (constant j) t = absurd (omega (arith, ranked e (constant j) t))
+  an-exponential e (connective j a b) t = absurd (omega (arith, ranked e (connective j a b) t))
 
-  a-connective : 2 ≤ k → (k ≡ 2 → ⊥) → (f : Formula) → FormulaTask s at out to f → (j : Connective) × (a : Formula) × (b : Formula) × (f ≡ connective j a b)
-  a-connective h g (connective j a b) t = (j, a, b, refl)
-  a-connective h g (atom j x) t = absurd (omega (arith, shape_at (atom j x) t))
-  a-connective h g (constant j) t = absurd (omega (arith, shape_at (constant j) t))
-  a-connective h g (exponential j a) t = absurd (g (e ∙ shape_at (exponential j a) t))
-
-pub room : {s : List ℕ} {at : ℕ} {out : List ℕ} {to : ℕ} → ((f : Formula) × FormulaTask s at out to f) → to < length out
-room (f, t) = omega (arith, t.task.room)
+  a-connective : shape_of (get_or s at 0) ≡ Shapes.Connective → (f : Formula) → FormulaTask s at out to f → (j : Connective) × (a : Formula) × (b : Formula) × (f ≡ connective j a b)
+  a-connective e (connective j a b) t = (j, a, b, refl)
+  a-connective e (atom j x) t = absurd (omega (arith, ranked e (atom j x) t))
+  a-connective e (constant j) t = absurd (omega (arith, ranked e (constant j) t))
+  a-connective e (exponential j a) t = absurd (omega (arith, ranked e (exponential j a) t))
 
 module _ {s : List ℕ} {at : ℕ} {out : List ℕ} {to w : ℕ} (opens : w ≡ opening_of (get_or s at 0)) {o : List ℕ} {p : ℕ} (a : Prints out to (w ∷ []) o p) where
   -- ---- an exponential
@@ -47,6 +45,17 @@ module _ {s : List ℕ} {at : ℕ} {out : List ℕ} {to w : ℕ} (opens : w ≡ 
     unfolding encode_formula text_of_formula
     exponential-done d = pass-then (exponential_tag k ∷ []) (encode_formula f) (print-then exponential-prints d)
 
+  module _ (e : shape_of (get_or s at 0) ≡ Shapes.Exponential) where
+    pub only_part : ((f : Formula) × FormulaTask s at out to f) → (f : Formula) × FormulaTask s (at + 1) o p f
+    only_part (F, t) = let v = an-exponential e F t in (v.1, exponential-part v.0 v.1 (rw v.2 at t))
+
+    pub only-done : {o' : List ℕ} {r : ℕ} → ((f : Formula) → FormulaTask s (at + 1) o p f → FormulaDone (at + 1) o p f o' r) → (f : Formula) → FormulaTask s at out to f → FormulaDone at out to f o' r
+    only-done d F t =
+        let v = an-exponential e F t in
+        let u : FormulaTask s at out to (exponential v.0 v.1) = rw v.2 at t in
+        rw v.2 (exponential-done v.0 v.1 u (d v.1 (exponential-part v.0 v.1 u)))
+
+module _ {s : List ℕ} {at : ℕ} {out : List ℕ} {to : ℕ} {o : List ℕ} {p : ℕ} (a : Prints out to (say "(") o p) where
   -- ---- a connective
   module _ (k : Connective) (f g : Formula) (t : FormulaTask s at out to (connective k f g)) where
     abbrev close : List ℕ
@@ -55,14 +64,9 @@ module _ {s : List ℕ} {at : ℕ} {out : List ℕ} {to w : ℕ} (opens : w ≡ 
     abbrev later : List ℕ
     later = say (connective_text k) ++ (text_of_formula g ++ close)
 
-    connective-prints : Prints out to (say "(") o p
-    connective-prints =
-        let q : w ≡ 40 = opens ∙ ap (λ (n : ℕ). opening_of n) (tag_at (connective k f g) t) ∙ connective-opens k in
-        rw (ap (λ (n : ℕ). n ∷ []) q) at a
-
     both : Task s (at + 1) o p (encode_formula f ++ encode_formula g) (text_of_formula f ++ later)
     unfolding encode_formula text_of_formula
-    both = printed (say "(") (passed (connective_tag k ∷ []) t.task) connective-prints
+    both = printed (say "(") (passed (connective_tag k ∷ []) t.task) a
 
     left-part : FormulaTask s (at + 1) o p f
     left-part = record { legal = t.legal.0; task = part_of (encode_formula f) (encode_formula g) (text_of_formula f) later both }
@@ -92,46 +96,34 @@ module _ {s : List ℕ} {at : ℕ} {out : List ℕ} {to w : ℕ} (opens : w ≡ 
           unfolding encode_formula text_of_formula
           connective-done c =
               pass-then (connective_tag k ∷ []) (encode_formula f ++ encode_formula g)
-              (print-then connective-prints (part_then (encode_formula f) (encode_formula g) (text_of_formula f) later both d
+              (print-then a (part_then (encode_formula f) (encode_formula g) (text_of_formula f) later both d
               (print-then between-prints (no-more-done (encode_formula g) (part_then (encode_formula g) [] (text_of_formula g) close second e c)))))
 
-  -- ---- by the shape
-  module _ {k : ℕ} (e : k ≡ shape_of (get_or s at 0)) where
-    module _ (h : k ≡ 2) where
-      pub only_part : ((f : Formula) × FormulaTask s at out to f) → (f : Formula) × FormulaTask s (at + 1) o p f
-      only_part (F, t) = let v = an-exponential e h F t in (v.1, exponential-part v.0 v.1 (rw v.2 at t))
+  module _ (e : shape_of (get_or s at 0) ≡ Shapes.Connective) where
+    connected : (F : Formula) → FormulaTask s at out to F → (j : Connective) × (f : Formula) × (g : Formula) × (F ≡ connective j f g) × FormulaTask s at out to (connective j f g)
+    connected F t = let v = a-connective e F t in (v.0, v.1, v.2, v.3, rw v.3 at t)
 
-      pub only-done : {o' : List ℕ} {r : ℕ} → ((f : Formula) → FormulaTask s (at + 1) o p f → FormulaDone (at + 1) o p f o' r) → (f : Formula) → FormulaTask s at out to f → FormulaDone at out to f o' r
-      only-done d F t =
-          let v = an-exponential e h F t in
-          let u : FormulaTask s at out to (exponential v.0 v.1) = rw v.2 at t in
-          rw v.2 (exponential-done v.0 v.1 u (d v.1 (exponential-part v.0 v.1 u)))
+    pub first_part : ((f : Formula) × FormulaTask s at out to f) → (f : Formula) × FormulaTask s (at + 1) o p f
+    first_part (F, t) = let (j, f, g, i, u) = connected F t in (f, left-part j f g u)
 
-    module _ (h : 2 ≤ k) (z : k ≡ 2 → ⊥) where
-      connected : (F : Formula) → FormulaTask s at out to F → (j : Connective) × (f : Formula) × (g : Formula) × (F ≡ connective j f g) × FormulaTask s at out to (connective j f g)
-      connected F t = let v = a-connective e h z F t in (v.0, v.1, v.2, v.3, rw v.3 at t)
+    module _ {o₁ : List ℕ} {l : ℕ} (d : (f : Formula) → FormulaTask s (at + 1) o p f → FormulaDone (at + 1) o p f o₁ l) where
+      pub sign-room : ((f : Formula) × FormulaTask s at out to f) → (l / 65536 + 8 ≤ length o₁) × (at < l % 65536)
+      sign-room (F, t) = let (j, f, g, i, u) = connected F t in let w = d f (left-part j f g u) in (omega (arith, (between j f g u w).room), further j f g u w)
 
-      pub first_part : ((f : Formula) × FormulaTask s at out to f) → (f : Formula) × FormulaTask s (at + 1) o p f
-      first_part (F, t) = let (j, f, g, i, u) = connected F t in (f, left-part j f g u)
+      module _ {o₂ : List ℕ} {q : ℕ} (b : Prints o₁ (l / 65536) (sign_of (get_or s at 0)) o₂ q) where
+        pub second-part : ((f : Formula) × FormulaTask s at out to f) → (f : Formula) × FormulaTask s (l % 65536) o₂ q f
+        second-part (F, t) = let (j, f, g, i, u) = connected F t in (g, right-part j f g u (d f (left-part j f g u)) b)
 
-      module _ {o₁ : List ℕ} {l : ℕ} (d : (f : Formula) → FormulaTask s (at + 1) o p f → FormulaDone (at + 1) o p f o₁ l) where
-        pub sign-room : ((f : Formula) × FormulaTask s at out to f) → (l / 65536 + 8 ≤ length o₁) × (at < l % 65536)
-        sign-room (F, t) = let (j, f, g, i, u) = connected F t in let w = d f (left-part j f g u) in (omega (arith, (between j f g u w).room), further j f g u w)
+        module _ {o₃ : List ℕ} {r : ℕ} (x : (f : Formula) → FormulaTask s (l % 65536) o₂ q f → FormulaDone (l % 65536) o₂ q f o₃ r) where
+          pub close-room : ((f : Formula) × FormulaTask s at out to f) → (r / 65536 + 1 ≤ length o₃) × (r / 65536 + 1 < 65536)
+          close-room (F, t) =
+              let (j, f, g, i, u) = connected F t in
+              let w = d f (left-part j f g u) in
+              let y = last j f g u w b (x g (right-part j f g u w b)) in
+              (omega (arith, y.room), omega (arith, y.low))
 
-        module _ {o₂ : List ℕ} {q : ℕ} (b : Prints o₁ (l / 65536) (sign_of (get_or s at 0)) o₂ q) where
-          pub second-part : ((f : Formula) × FormulaTask s at out to f) → (f : Formula) × FormulaTask s (l % 65536) o₂ q f
-          second-part (F, t) = let (j, f, g, i, u) = connected F t in (g, right-part j f g u (d f (left-part j f g u)) b)
-
-          module _ {o₃ : List ℕ} {r : ℕ} (x : (f : Formula) → FormulaTask s (l % 65536) o₂ q f → FormulaDone (l % 65536) o₂ q f o₃ r) where
-            pub close-room : ((f : Formula) × FormulaTask s at out to f) → (r / 65536 + 1 + 8 ≤ length o₃) × (r / 65536 + 1 < 65536)
-            close-room (F, t) =
-                let (j, f, g, i, u) = connected F t in
-                let w = d f (left-part j f g u) in
-                let y = last j f g u w b (x g (right-part j f g u w b)) in
-                (omega (arith, y.room), omega (arith, y.low))
-
-            pub both-done : {o₄ : List ℕ} {n : ℕ} → Done (r % 65536) o₃ (r / 65536) [] (say ")") o₄ n → (f : Formula) → FormulaTask s at out to f → FormulaDone at out to f o₄ n
-            both-done c F t =
-                let (j, f, g, i, u) = connected F t in
-                let w = d f (left-part j f g u) in
-                rw i (connective-done j f g u w b (x g (right-part j f g u w b)) c)
+          pub both-done : {o₄ : List ℕ} {n : ℕ} → Done (r % 65536) o₃ (r / 65536) [] (say ")") o₄ n → (f : Formula) → FormulaTask s at out to f → FormulaDone at out to f o₄ n
+          both-done c F t =
+              let (j, f, g, i, u) = connected F t in
+              let w = d f (left-part j f g u) in
+              rw i (connective-done j f g u w b (x g (right-part j f g u w b)) c)

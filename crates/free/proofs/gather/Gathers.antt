@@ -13,7 +13,7 @@ use Rattle.laws.specs.size.Parts.{some-node}
 use Rattle.term.specs.Node.{single_part}
 use Rattle.term.specs.Place.{NameAt, NamesAt, TermAt}
 use Rattle.term.proofs.node.Names.{AfterIs, name-room, single}
-use Rattle.term.proofs.node.Terms.{at-inside, at-end, at_tag, at_names}
+use Rattle.term.proofs.node.Terms.{at-inside, at_tag, at_names}
 use Rattle.free.specs.State.{State, Meets, Met}
 use Rattle.free.specs.Walk.{Task, Done}
 use Rattle.free.specs.Rows.{row_end}
@@ -32,6 +32,10 @@ All s p row row' low n m c = (t : Term) (xs l : List Name) → Task s p row low 
 abbrev Onward : Bytes → ℕ → ℕ → List ℕ → ℕ → ℕ → Type 0
 Onward s at p row low n = (at < p) × Some s p row low n
 
+-- a binder has been put before the others, and no name has been found
+abbrev Put : List ℕ → List ℕ → ℕ → ℕ → ℕ → ℕ → ℕ → Type 0
+Put row row' low b p n k = (b ≡ low - 1) × (row' ≡ set row (low - 1) p) × (k ≡ n)
+
 -- a binder may be put before the others
 abbrev pub Fits : List ℕ → ℕ → ℕ → Type 0
 Fits row b p = (0 < b) × (b ≤ length row) × (p < 65536)
@@ -49,6 +53,10 @@ module _ {s : Bytes} {at : ℕ} {row : List ℕ} {low n : ℕ} (some : Some s at
   few : n < row_end
   few = let (t, xs, l, w) = some in omega (arith, w.room, some-node t, w.state.passed.many)
 
+  -- what a call on a part requires: it begins further on in the bytes, and the part is to be walked
+  pub further : {m p : ℕ} {row' : List ℕ} {low' n' : ℕ} → length s - at ≡ m → Onward s at p row' low' n' → (length s - p < m) × Some s p row' low' n'
+  further d o = (omega (arith, d, inside, o.0), o.1)
+
   module _ (e : get_or s at 0 ≡ 1) where
     var-is : (t : Term) → TermAt s at t → (x : Name) × (t ≡ var x)
     var-is t w = is-var t _ (at_tag s at t w) e
@@ -63,14 +71,8 @@ module _ {s : Bytes} {at : ℕ} {row : List ℕ} {low n : ℕ} (some : Some s at
       pub var-ends : All s at row row' low n h r
       var-ends t xs l w = let (x, d) = var-is t w.term in let v : Task s at row low n (var x) xs l = rw d at w in rw d (var-done x v h f (m x xs l (var-meets x v)))
 
-      pub var-fits : (h ≤ 65536) × (r ≤ row_end)
-      var-fits = let (t, xs, l, w) = some in let z = var-ends t xs l w in (omega (arith, z.ends, at-end s at t w.term, small), let (x, ys, k, v) = var-some in omega (arith, (m x ys k v).few, few))
-
   pub leaf-ends : Rest (get_or s at 0) → All s at row row low n (at + 1) n
   leaf-ends e t xs l w = let (j, d) = is_leaf t _ (at_tag s at t w.term) e in rw d (leaf-done j (rw d at w))
-
-  pub leaf-fits : (at + 1 ≤ 65536) × (n ≤ row_end)
-  leaf-fits = (omega (arith, inside, small), omega (arith, few))
 
   module _ (e : single_part (get_or s at 0) ≡ 1) where
     one-is : (t : Term) → TermAt s at t → (j : One) × (u : Term) × (t ≡ one j u)
@@ -116,20 +118,21 @@ module _ {s : Bytes} {at : ℕ} {row : List ℕ} {low n : ℕ} (some : Some s at
     pub abs-named : (xs : List Name) × NamesAt s (at + 1) 1 xs
     abs-named = let (t, xs, l, w) = some in let (x, u, d) = abs_is t w.term in (x ∷ [], at_names s at (abs x u) (rw d at w.term))
 
-    module _ (h : ℕ) (f : AfterIs s (at + 1) 1 h) {row₁ : List ℕ} {b : ℕ} (down : b ≡ low - 1) (put : row₁ ≡ set row (low - 1) (at + 1)) where
-      pub abs-body : Onward s at h row₁ b n
+    module _ (h : ℕ) (f : AfterIs s (at + 1) 1 h) {row₁ : List ℕ} {b k : ℕ} (put : Put row row₁ low b (at + 1) n k) where
+      pub abs-body : Onward s at h row₁ b k
       abs-body = (
         let (xs, w) = abs-named in omega (arith, f xs w),
-        let (t, xs, l, w) = some in
+        rw put.2 (let (t, xs, l, w) = some in
             let (x, u, d) = abs_is t w.term in
-            (u, _, l, abs-task x u (rw d at w) h f down put),
+            (u, _, l, abs-task x u (rw d at w) h f put.0 put.1)),
       )
 
-      pub abs-ends : {row₂ : List ℕ} {m c : ℕ} → All s h row₁ row₂ b n m c → All s at row row₂ low n m c
-      abs-ends a t xs l w =
+      pub abs-ends : {row₂ : List ℕ} {m c : ℕ} → All s h row₁ row₂ b k m c → All s at row row₂ low n m c
+      abs-ends {row₂} {m} {c} a t xs l w =
+          let a₀ : All s h row₁ row₂ b n m c = rw put.2 at a in
           let (x, u, d) = abs_is t w.term in
           let v : Task s at row low n (abs x u) xs l = rw d at w in
-          rw d (abs-done x u v h f down (a u _ l (abs-task x u v h f down put)))
+          rw d (abs-done x u v h f put.0 (a₀ u _ l (abs-task x u v h f put.0 put.1)))
 
   module _ (e : OneOf both_tags (get_or s at 0)) where
     both_is : (t : Term) → TermAt s at t → (j : Both) × (x : Name) × (y : Name) × (u : Term) × (v : Term) × (t ≡ both j x y u v)
@@ -160,35 +163,39 @@ module _ {s : Bytes} {at : ℕ} {row : List ℕ} {low n : ℕ} (some : Some s at
               let z = a u xs l (both-task j x y u v o q f h f₂) in
               fits w.state (omega (arith, both-room j x y u v o q f h f₂ z)) row₁ z.state.long (both_first j x y u v o)
 
-          module _ {row₂ : List ℕ} {b : ℕ} (down : b ≡ low - 1) (put : row₂ ≡ set row₁ (low - 1) (at + 1)) where
+          module _ {row₂ : List ℕ} {b k : ℕ} (put : Put row₁ row₂ low b (at + 1) c k) where
             pub both-fits-2 : Fits row₂ b q
             both-fits-2 =
                 let (t, xs, l, w) = some in
                 let (j, x, y, u, v, d) = both_is t w.term in
                 let o = rw d at w in
                 let z = a u xs l (both-task j x y u v o q f h f₂) in
-                let k = both-room j x y u v o q f h f₂ z in
-                let g = fits w.state (omega (arith, k)) row₂ (omega (arith, z.state.long, ap length put ∙ length-set row₁ (low - 1) (at + 1))) (both-second j x y u v o q f) in
-                (omega (arith, k), omega (arith, g.1), g.2)
+                let r = both-room j x y u v o q f h f₂ z in
+                let g = fits w.state (omega (arith, r)) row₂ (omega (arith, z.state.long, ap length put.1 ∙ length-set row₁ (low - 1) (at + 1))) (both-second j x y u v o q f) in
+                (omega (arith, r, put.0), omega (arith, g.1, put.0), g.2)
 
-            module _ {row₃ : List ℕ} {b₂ : ℕ} (down₂ : b₂ ≡ b - 1) (put₂ : row₃ ≡ set row₂ (b - 1) q) where
+            module _ {row₃ : List ℕ} {b₂ k₂ : ℕ} (put₂ : Put row₂ row₃ b b₂ q k k₂) where
               twice : b₂ ≡ low - 1 - 1
-              twice = omega arith
+              twice = omega (arith, put.0, put₂.0)
+
+              still : k₂ ≡ c
+              still = put₂.2 ∙ put.2
 
               row-twice : row₃ ≡ set (set row₁ (low - 1) (at + 1)) (low - 1 - 1) q
-              row-twice = put₂ ∙ ap (λ (z : List ℕ). set z (b - 1) q) put ∙ ap (λ (z : ℕ). set (set row₁ (low - 1) (at + 1)) (z - 1) q) down
+              row-twice = put₂.1 ∙ ap (λ (z : List ℕ). set z (b - 1) q) put.1 ∙ ap (λ (z : ℕ). set (set row₁ (low - 1) (at + 1)) (z - 1) q) put.0
 
-              pub both-last : Onward s at m row₃ b₂ c
+              pub both-last : Onward s at m row₃ b₂ k₂
               both-last = (
                 let (t, xs, l, w) = both-part.1 in omega (arith, both-part.0, (a t xs l w).ends),
-                let (t, xs, l, w) = some in
+                rw still (let (t, xs, l, w) = some in
                     let (j, x, y, u, v, d) = both_is t w.term in
                     let o = rw d at w in
-                    (v, _, _, both-body j x y u v o q f h f₂ (a u xs l (both-task j x y u v o q f h f₂)) twice row-twice),
+                    (v, _, _, both-body j x y u v o q f h f₂ (a u xs l (both-task j x y u v o q f h f₂)) twice row-twice)),
               )
 
-              pub both_ends : {row₄ : List ℕ} {m₂ c₂ : ℕ} → All s m row₃ row₄ b₂ c m₂ c₂ → All s at row row₄ low n m₂ c₂
-              both_ends a₂ t xs l w =
+              pub both_ends : {row₄ : List ℕ} {m₂ c₂ : ℕ} → All s m row₃ row₄ b₂ k₂ m₂ c₂ → All s at row row₄ low n m₂ c₂
+              both_ends {row₄} {m₂} {c₂} a₃ t xs l w =
+                  let a₂ : All s m row₃ row₄ b₂ c m₂ c₂ = rw still at a₃ in
                   let (j, x, y, u, v, d) = both_is t w.term in
                   let o : Task s at row low n (both j x y u v) xs l = rw d at w in
                   let z = a u xs l (both-task j x y u v o q f h f₂) in
@@ -227,37 +234,41 @@ module _ {s : Bytes} {at : ℕ} {row : List ℕ} {low n : ℕ} (some : Some s at
               fits-at row₁ (at + 1) (let (t, xs, l, w) = branch-part.1 in (a t xs l w).state.long)
               (let (t, xs, l, w) = some in let (x, y, u, v, v', d) = branch-is t w.term in (x, branch-first x y u v v' (rw d at w)))
 
-          module _ {row₂ : List ℕ} {b : ℕ} (down : b ≡ low - 1) (put : row₂ ≡ set row₁ (low - 1) (at + 1)) where
-            pub branch-second-part : Onward s at m row₂ b c
+          module _ {row₂ : List ℕ} {b k : ℕ} (put : Put row₁ row₂ low b (at + 1) c k) where
+            pub branch-second-part : Onward s at m row₂ b k
             branch-second-part = (
               let (t, xs, l, w) = branch-part.1 in omega (arith, branch-part.0, (a t xs l w).ends),
-              let (t, xs, l, w) = some in
+              rw put.2 (let (t, xs, l, w) = some in
                   let (x, y, u, v, v', d) = branch-is t w.term in
                   let o = rw d at w in
-                  (v, _, _, branch-left x y u v v' o q f h f₂ (a u xs l (branch-task x y u v v' o q f h f₂)) down put),
+                  (v, _, _, branch-left x y u v v' o q f h f₂ (a u xs l (branch-task x y u v v' o q f h f₂)) put.0 put.1)),
             )
 
-            module _ {row₃ : List ℕ} {m₂ c₂ : ℕ} (a₂ : All s m row₂ row₃ b c m₂ c₂) where
+            module _ {row₃ : List ℕ} {m₂ c₂ : ℕ} (left : All s m row₂ row₃ b k m₂ c₂) where
+              a₂ : All s m row₂ row₃ b c m₂ c₂
+              a₂ = rw put.2 at left
+
               pub branch-fits-2 : Fits row₃ low q
               branch-fits-2 =
-                  fits-at row₃ q (let (t, xs, l, w) = branch-second-part.1 in (a₂ t xs l w).state.long)
+                  fits-at row₃ q (let (t, xs, l, w) = branch-second-part.1 in (left t xs l w).state.long)
                   (let (t, xs, l, w) = some in let (x, y, u, v, v', d) = branch-is t w.term in (y, branch-second x y u v v' (rw d at w) q f))
 
-              module _ {row₄ : List ℕ} {b₂ : ℕ} (down₂ : b₂ ≡ low - 1) (put₂ : row₄ ≡ set row₃ (low - 1) q) where
-                pub branch-last : Onward s at m₂ row₄ b₂ c₂
+              module _ {row₄ : List ℕ} {b₂ k₂ : ℕ} (put₂ : Put row₃ row₄ low b₂ q c₂ k₂) where
+                pub branch-last : Onward s at m₂ row₄ b₂ k₂
                 branch-last = (
-                  let (t, xs, l, w) = branch-second-part.1 in omega (arith, branch-second-part.0, (a₂ t xs l w).ends),
-                  let (t, xs, l, w) = some in
+                  let (t, xs, l, w) = branch-second-part.1 in omega (arith, branch-second-part.0, (left t xs l w).ends),
+                  rw put₂.2 (let (t, xs, l, w) = some in
                       let (x, y, u, v, v', d) = branch-is t w.term in
                       let o = rw d at w in
                       let z = a u xs l (branch-task x y u v v' o q f h f₂) in
-                      (v', _, _, branch-right x y u v v' o q f h f₂ z down (a₂ v _ _ (branch-left x y u v v' o q f h f₂ z down put)) down₂ put₂),
+                      (v', _, _, branch-right x y u v v' o q f h f₂ z put.0 (a₂ v _ _ (branch-left x y u v v' o q f h f₂ z put.0 put.1)) put₂.0 put₂.1)),
                 )
 
-                pub branch-ends : {row₅ : List ℕ} {m₃ c₃ : ℕ} → All s m₂ row₄ row₅ b₂ c₂ m₃ c₃ → All s at row row₅ low n m₃ c₃
-                branch-ends a₃ t xs l w =
+                pub branch-ends : {row₅ : List ℕ} {m₃ c₃ : ℕ} → All s m₂ row₄ row₅ b₂ k₂ m₃ c₃ → All s at row row₅ low n m₃ c₃
+                branch-ends {row₅} {m₃} {c₃} right t xs l w =
+                    let a₃ : All s m₂ row₄ row₅ b₂ c₂ m₃ c₃ = rw put₂.2 at right in
                     let (x, y, u, v, v', d) = branch-is t w.term in
                     let o : Task s at row low n (branch x y u v v') xs l = rw d at w in
                     let z = a u xs l (branch-task x y u v v' o q f h f₂) in
-                    let z₂ = a₂ v _ _ (branch-left x y u v v' o q f h f₂ z down put) in
-                    rw d (branch-done x y u v v' o q f h f₂ z down z₂ down₂ (a₃ v' _ _ (branch-right x y u v v' o q f h f₂ z down z₂ down₂ put₂)))
+                    let z₂ = a₂ v _ _ (branch-left x y u v v' o q f h f₂ z put.0 put.1) in
+                    rw d (branch-done x y u v v' o q f h f₂ z put.0 z₂ put₂.0 (a₃ v' _ _ (branch-right x y u v v' o q f h f₂ z put.0 z₂ put₂.0 put₂.1)))

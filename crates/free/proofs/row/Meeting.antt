@@ -5,20 +5,19 @@ use mathlib.Core.Bool.{Bool, true, false}
 use mathlib.Core.Logic.{inl, inr}
 use mathlib.Core.List.{List}
 use native.Mathlib.Omega.{arith}
-use lib.ListN.{length, get_or, set}
-use Rattle.std.specs.Prelude.{if◌then◌else◌}
+use lib.ListN.{length, get_or, set, take}
+use Rattle.std.specs.Prelude.{if◌then◌else◌, None, Ok, Err}
 use Rattle.rules.specs.Basic.{Bytes}
 use Rattle.rules.specs.Name.{Name, same, among}
 use Rattle.rules.specs.Free.{insert}
 use Rattle.term.specs.Place.{NameAt}
-use Rattle.free.specs.declared.slot.Slot.{Slot}
 use Rattle.free.specs.Ordered.{ordered-insert}
 use Rattle.free.specs.Search.{at, among-at, insert-there}
-use Rattle.free.specs.Rows.{binders, row_end, Scanned, Sought, Goes, Opened}
+use Rattle.free.specs.Rows.{binders, Scanned, Sought, Goes, Opened}
 use Rattle.free.specs.State.{State, Live, Meets, Met}
 use Rattle.free.proofs.slot.Scanning.{binder-at}
 use Rattle.free.proofs.slot.Opening.{held-opened}
-use Rattle.free.proofs.row.States.{noted, beyond-kept}
+use Rattle.free.proofs.row.States.{held-taken, noted, beyond-kept}
 
 abbrev pub Some : Bytes → ℕ → List ℕ → ℕ → ℕ → Type 0
 Some s p row low n = (x : Name) × (xs : List Name) × (l : List Name) × Meets s p row low n x xs l
@@ -40,55 +39,49 @@ kept-bound x xs l e = rw e
 -- ---- a guess
 
 module _ (s : Bytes) (p : ℕ) (row : List ℕ) (low n g : ℕ) where
-  pub guess-inside : (b : Bool) → b ≡ true → Live g low n b → Some s p row low n → g < row_end
-  guess-inside true t (inl h) (x, xs, l, w) = omega (arith, w.room, w.state.passed.many)
-  guess-inside true t (inr h) a = omega (arith, h.1)
-  guess-inside false t h a = absurd (let z : ◌≡◌ {A = ℕ} 0 1 = cc in omega arith)
+  pub guess-names : Live g low n → Some s p row low n → (x : Name) × (y : Name) × NameAt s p x × NameAt s (get_or row g 0) y
+  guess-names (inl h) (x, xs, l, w) = (x, at l g, w.name, w.state.found.each g h)
+  guess-names (inr h) (x, xs, l, w) = (x, at xs (g - low), w.name, binder-at s row low g xs w.state.passed h.0 h.1)
 
-  pub guess-names : (b : Bool) → b ≡ true → Live g low n b → Some s p row low n → (x : Name) × (y : Name) × NameAt s p x × NameAt s (get_or row g 0) y
-  guess-names true t (inl h) (x, xs, l, w) = (x, at l g, w.name, w.state.found.each g h)
-  guess-names true t (inr h) (x, xs, l, w) = (x, at xs (g - low), w.name, binder-at s row low g xs w.state.passed h.0 h.1)
-  guess-names false t h a = absurd (let z : ◌≡◌ {A = ℕ} 0 1 = cc in omega arith)
-
-  pub guess-kept : (b : Bool) → b ≡ true → Live g low n b → (c : Bool) → ((x y : Name) → NameAt s p x → NameAt s (get_or row g 0) y → c ≡ same x y)
+  pub guess-kept : Live g low n → (c : Bool) → ((x y : Name) → NameAt s p x → NameAt s (get_or row g 0) y → c ≡ same x y)
       → (x : Name) (xs l : List Name) → Meets s p row low n x xs l → c ≡ true → Kept x xs l
-  guess-kept true t (inl h) c f x xs l w e =
+  guess-kept (inl h) c f x xs l w e =
       kept-found x xs l (insert-there x l w.state.ordered g (omega (arith, w.state.found.many)) (sym (f x (at l g) w.name (w.state.found.each g h)) ∙ e))
-  guess-kept true t (inr h) c f x xs l w e =
+  guess-kept (inr h) c f x xs l w e =
       kept-bound x xs l
       (among-at x xs (g - low) (omega (arith, h, w.state.passed.many)) (sym (f x (at xs (g - low)) w.name (binder-at s row low g xs w.state.passed h.0 h.1)) ∙ e))
-  guess-kept false t h c f x xs l w e = absurd (let z : ◌≡◌ {A = ℕ} 0 1 = cc in omega arith)
 
 -- ---- the outcome
 
 module _ {s : Bytes} {p : ℕ} {row : List ℕ} {low n : ℕ} {x : Name} {xs l : List Name} (w : Meets s p row low n x xs l) where
-  pub sought : Sought s p row n x l
-  sought = record { name = w.name; held = w.state.found; ordered = w.state.ordered }
+  pub sought : Sought s p (take n row) (length (take n row)) x l
+  sought = record { name = w.name; held = held-taken w.state.found; ordered = w.state.ordered }
 
   pub met-kept : Kept x xs l → Met s row low n x xs l n
   met-kept e = record { state = rw e w.state; few = omega arith }
 
-  module _ (g v : ℕ) (b : binders ≤ g) where
-    noted-kept : Kept x xs l → Met s (set row g v) low n x xs l n
-    noted-kept e = record { state = rw e (noted w.state g v b (omega (arith, w.room))); few = omega arith }
+  -- a name found stands before the guesses
+  pub before-guesses : (i : ℕ) → i ≤ length l → i < binders
+  before-guesses i h = omega (arith, w.state.found.many, w.room, w.state.passed.many)
 
-    pub met-there : (q : Slot) → Goes x l q → q.there ≡ true → Met s (set row g v) low n x xs l n
-    met-there q h t = noted-kept (kept-found x xs l (h.there t))
+  pub met-there : (i : ℕ) → Goes x l (Ok i) → Met s row low n x xs l n
+  met-there i h = met-kept (kept-found x xs l h.1)
 
-    pub met-bound : (r : ℕ) → Scanned x xs r → r < binders → Met s (set row g v) low n x xs l n
-    met-bound r h t = noted-kept (kept-bound x xs l (h.hit t))
+  module _ (i : ℕ) (h : Goes x l (Err i)) (u : Scanned x xs None) {row' : List ℕ} (o : Opened row row' n i p) (long : length row' ≡ length row) where
+    put : State s row' low (n + 1) xs (insert x l)
+    put =
+        record {
+          passed = beyond-kept w.state.passed w.room o;
+          found =
+              rw h.1 (held-opened x l i h.0 s row row' n p w.state.found w.name (omega (arith, w.room, w.state.passed.many, w.state.long)) long o);
+          ordered = ordered-insert x l w.state.ordered;
+          short = w.state.short;
+          long = omega (arith, w.state.long);
+        }
 
-    module _ (q : Slot) (h : Goes x l q) (t : q.there ≡ false) (r : ℕ) (u : Scanned x xs r) (e : binders ≤ r) {row' : List ℕ} (o : Opened row row' n q.at p) (long : length row' ≡ length row) where
-      put : State s row' low (n + 1) xs (insert x l)
-      put =
-          record {
-            passed = beyond-kept w.state.passed w.room o;
-            found =
-                rw (h.new t) (held-opened x l q.at h.within s row row' n p w.state.found w.name (omega (arith, w.room, w.state.passed.many, w.state.long)) long o);
-            ordered = ordered-insert x l w.state.ordered;
-            short = w.state.short;
-            long = omega (arith, w.state.long);
-          }
+    pub met-new : Met s row' low n x xs l (n + 1)
+    met-new = record { state = rw u put; few = omega arith }
 
-      pub met-new : Met s (set row' g v) low n x xs l (n + 1)
-      met-new = record { state = rw (u.missed e) (noted put g v b (omega (arith, w.room))); few = omega arith }
+  -- a guess kept changes nothing of what is held
+  pub met-noted : {row' : List ℕ} {r : ℕ} → Met s row' low n x xs l r → (g v : ℕ) → binders ≤ g → Met s (set row' g v) low n x xs l r
+  met-noted m g v b = record { state = noted m.state g v b (omega (arith, m.few, w.room)); few = m.few }

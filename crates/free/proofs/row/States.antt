@@ -1,17 +1,27 @@
 -- The row after a guess is kept, after a binder is put before the others, and after one is left again: the names that it holds.
 -- By which entries change. Assumes nothing.
 use Prim.Native.Nat.{ℕ, zero, suc, ◌+◌, ◌-◌, ◌<◌, ◌≤◌}
-use mathlib.Core.Path.{◌≡◌}
+use mathlib.Core.Path.{◌≡◌, sym, ◌∙◌}
 use mathlib.Core.List.{List, ◌∷◌}
 use native.Mathlib.Omega.{arith}
-use lib.ListN.{length, get_or, set, length-set}
-use lib.Seq.{get_or-set_same, get_or-set_other}
+use lib.ListN.{length, get_or, set, take, length-set}
+use lib.Seq.{get_or-set_same, get_or-set_other, get_or-take, length-take-le}
 use Rattle.rules.specs.Basic.{Bytes}
 use Rattle.rules.specs.Name.{Name}
 use Rattle.term.specs.Place.{NameAt}
 use Rattle.free.specs.Search.{at}
 use Rattle.free.specs.Rows.{binders, Held, Passed, Opened}
 use Rattle.free.specs.State.{State}
+
+-- the first entries of a row as a row of its own
+pub held-taken : {s : Bytes} {row : List ℕ} {n : ℕ} {l : List Name} → Held s row n l → Held s (take n row) (length (take n row)) l
+held-taken {s} {row} {n} {l} h =
+    let d : length (take n row) ≡ n = length-take-le n row h.room in
+    record {
+      many = h.many ∙ sym d;
+      room = omega arith;
+      each = λ i b. let e : get_or (take n row) i 0 ≡ get_or row i 0 = get_or-take n row i 0 (omega arith) in rw e (h.each i (omega arith));
+    }
 
 -- the names found stand before what changes
 held-set : (s : Bytes) (row : List ℕ) (n : ℕ) (l : List Name) (g v : ℕ) → Held s row n l → n ≤ g → Held s (set row g v) n l

@@ -1,4 +1,4 @@
--- A row opened at a slot: a turn of the loop that moves its entries up, and the names that the row holds then. Assumes nothing.
+-- The names that a row opened at a slot holds. Assumes nothing.
 use Prim.Native.Nat.{ℕ, suc, ◌+◌, ◌-◌, ◌<◌, ◌≤◌}
 use mathlib.Core.Path.{◌≡◌, refl, sym, ap, ◌∙◌}
 use mathlib.Core.Logic.{⊎_elim}
@@ -8,49 +8,13 @@ use native.Mathlib.Omega.{arith}
 use lib.Dec.{ltb}
 use borrow.Author.Tests.{ltb-true, ltb-false}
 use mathlib.Core.Bool.{Bool, true, false}
-use lib.ListN.{length, get_or, set, take, drop, length-set, length-append, length-drop, get_or-append}
-use lib.Seq.{get_or-set_same, get_or-set_other, get_or-take, get_or-drop, get_or-append-add, length-take-le}
+use lib.ListN.{length, get_or, take, drop, length-append, length-drop, get_or-append}
+use lib.Seq.{get_or-take, get_or-drop, get_or-append-add, length-take-le}
 use Rattle.rules.specs.Basic.{Bytes}
 use Rattle.rules.specs.Name.{Name}
 use Rattle.term.specs.Place.{NameAt}
 use Rattle.free.specs.Search.{at}
 use Rattle.free.specs.Rows.{Held, Opened}
-
--- entries below j stand as they did, those from j to n have moved up
-pub record Moved (row₀ row : List ℕ) (n j : ℕ) : Type 0 where
-  pub long : length row ≡ length row₀
-  pub below : (k : ℕ) → k < j → get_or row k 0 ≡ get_or row₀ k 0
-  pub above : (k : ℕ) → j ≤ k → k < n → get_or row (k + 1) 0 ≡ get_or row₀ k 0
-  pub beyond : (k : ℕ) → n < k → get_or row k 0 ≡ get_or row₀ k 0
-
-pub moved_none : (row : List ℕ) (n : ℕ) → Moved row row n n
-moved_none row n = record { long = refl; below = λ k h. refl; above = λ k h l. absurd (omega arith); beyond = λ k h. refl }
-
-module _ (row₀ row : List ℕ) (n i j : ℕ) (m : Moved row₀ row n j) where
-  pub moved_more : i < j → j ≤ n → n < length row₀ → Moved row₀ (set row j (get_or row (j - 1) 0)) n (j - 1)
-  moved_more h l r =
-      record {
-        long = length-set row j _ ∙ m.long;
-        below = λ k b. get_or-set_other row j k _ 0 (λ e. omega arith) ∙ m.below k (omega arith);
-        above = λ k a b. ⊎_elim (λ e. last k e) (λ e. get_or-set_other row j (k + 1) _ 0 (λ q. omega arith) ∙ m.above k (omega arith) b) (eq-or-lt_of_le a);
-        beyond = λ k b. get_or-set_other row j k _ 0 (λ e. omega arith) ∙ m.beyond k b;
-      }
-    where
-      last : (k : ℕ) → j - 1 ≡ k → get_or (set row j (get_or row (j - 1) 0)) (k + 1) 0 ≡ get_or row₀ k 0
-      last k e =
-          let q : k + 1 ≡ j = omega arith in
-          ap (λ z. get_or (set row j (get_or row (j - 1) 0)) z 0) q ∙ get_or-set_same row j _ 0 (omega (arith, m.long)) ∙ m.below (j - 1) (omega arith) ∙ ap (λ z. get_or row₀ z 0) e
-
-  pub moved_all : i ≤ j → j ≤ i → i ≤ n → i < length row₀ → (p : ℕ) → Opened row₀ (set row i p) n i p
-  moved_all h l m' r p =
-      record {
-        below = λ k b. get_or-set_other row i k p 0 (λ e. omega arith) ∙ m.below k (omega arith);
-        here = get_or-set_same row i p 0 (omega (arith, m.long));
-        above = λ k a b. get_or-set_other row i (k + 1) p 0 (λ e. omega arith) ∙ m.above k (omega arith) b;
-        beyond = λ k b. get_or-set_other row i k p 0 (λ e. omega arith) ∙ m.beyond k b;
-      }
-
--- ---- the names of an opened row
 
 module _ (x : Name) (xs : List Name) (i : ℕ) (h : i ≤ length xs) where
   abbrev wider : List Name

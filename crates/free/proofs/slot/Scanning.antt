@@ -4,8 +4,9 @@ use mathlib.Core.Path.{◌≡◌, sym, ap, ◌∙◌}
 use mathlib.Core.Bool.{Bool, true, false, ◌||◌}
 use mathlib.Core.List.{List, []}
 use native.Mathlib.Omega.{arith}
-use lib.ListN.{get_or, drop, drop_of_length-le}
+use lib.ListN.{get_or, drop}
 use lib.Seq.{drop-cons}
+use Rattle.std.specs.Prelude.{Some}
 use Rattle.rules.specs.Basic.{Bytes}
 use Rattle.rules.specs.Name.{Name, same, among}
 use Rattle.term.specs.Place.{NameAt}
@@ -22,37 +23,20 @@ binder-at s row low i xs h l m =
 abbrev pub Left : Bytes → ℕ → List ℕ → ℕ → ℕ → Type 0
 Left s p row low i = (x : Name) (xs : List Name) → NameAt s p x → Passed s row low xs → among x xs ≡ among x (drop (i - low) xs)
 
-module _ (s : Bytes) (p : ℕ) (row : List ℕ) (low : ℕ) where
-  pub low_small : ((x : Name) × (xs : List Name) × NameAt s p x × Passed s row low xs) → low ≤ binders
-  low_small (x, xs, w, h) = omega (arith, h.many)
+module _ (s : Bytes) (p : ℕ) (row : List ℕ) (low i : ℕ) (l : low ≤ i) (m : i < binders) where
+  pub entry : ((x : Name) × (xs : List Name) × NameAt s p x × Passed s row low xs) → (x : Name) × (y : Name) × NameAt s p x × NameAt s (get_or row i 0) y
+  entry (x, xs, w, h) = (x, at xs (i - low), w, binder-at s row low i xs h l m)
 
-  pub left-all : Left s p row low low
-  left-all x xs w h = let e : 0 ≡ low - low = omega arith in ap (λ (k : ℕ). among x (drop k xs)) e
+  module _ (f : Left s p row low i) (b : Bool) (says : (x y : Name) → NameAt s p x → NameAt s (get_or row i 0) y → b ≡ same x y) where
+    said : (x : Name) (xs : List Name) → NameAt s p x → Passed s row low xs → among x xs ≡ (b || among x (drop (suc (i - low)) xs))
+    said x xs w h =
+        f x xs w h ∙ ap (λ (z : List Name). among x z) (drop-cons xs (i - low) [] (omega (arith, h.many)))
+        ∙ ap (λ (z : Bool). z || among x (drop (suc (i - low)) xs)) (sym (says x (at xs (i - low)) w (binder-at s row low i xs h l m)))
 
-  module _ (i : ℕ) (l : low ≤ i) where
-    pub left-none : binders ≤ i → i ≤ binders → Left s p row low i → (x : Name) (xs : List Name) → NameAt s p x → Passed s row low xs → Scanned x xs i
-    left-none m m' f x xs w h =
-        record {
-          within = m';
-          hit = λ q. absurd (omega arith);
-          missed = λ q. f x xs w h ∙ ap (λ (z : List Name). among x z) (drop_of_length-le xs {i = i - low} (omega (arith, h.many)));
-        }
+    pub left-found : b ≡ true → (x : Name) (xs : List Name) → NameAt s p x → Passed s row low xs → Scanned x xs (Some i)
+    left-found t x xs w h = (m, said x xs w h ∙ ap (λ (z : Bool). z || among x (drop (suc (i - low)) xs)) t)
 
-    module _ (m : i < binders) where
-      pub entry : ((x : Name) × (xs : List Name) × NameAt s p x × Passed s row low xs) → (x : Name) × (y : Name) × NameAt s p x × NameAt s (get_or row i 0) y
-      entry (x, xs, w, h) = (x, at xs (i - low), w, binder-at s row low i xs h l m)
-
-      module _ (f : Left s p row low i) (b : Bool) (says : (x y : Name) → NameAt s p x → NameAt s (get_or row i 0) y → b ≡ same x y) where
-        said : (x : Name) (xs : List Name) → NameAt s p x → Passed s row low xs → among x xs ≡ (b || among x (drop (suc (i - low)) xs))
-        said x xs w h =
-            f x xs w h ∙ ap (λ (z : List Name). among x z) (drop-cons xs (i - low) [] (omega (arith, h.many)))
-            ∙ ap (λ (z : Bool). z || among x (drop (suc (i - low)) xs)) (sym (says x (at xs (i - low)) w (binder-at s row low i xs h l m)))
-
-        pub left-found : b ≡ true → (x : Name) (xs : List Name) → NameAt s p x → Passed s row low xs → Scanned x xs i
-        left-found t x xs w h =
-            record { within = omega arith; hit = λ q. said x xs w h ∙ ap (λ (z : Bool). z || among x (drop (suc (i - low)) xs)) t; missed = λ q. absurd (omega arith) }
-
-        pub left_less : b ≡ false → Left s p row low (i + 1)
-        left_less t x xs w h =
-            let e : suc (i - low) ≡ i + 1 - low = omega arith in
-            said x xs w h ∙ ap (λ (z : Bool). z || among x (drop (suc (i - low)) xs)) t ∙ ap (λ (k : ℕ). among x (drop k xs)) e
+    pub left_less : b ≡ false → Left s p row low (i + 1)
+    left_less t x xs w h =
+        let e : suc (i - low) ≡ i + 1 - low = omega arith in
+        said x xs w h ∙ ap (λ (z : Bool). z || among x (drop (suc (i - low)) xs)) t ∙ ap (λ (k : ℕ). among x (drop k xs)) e

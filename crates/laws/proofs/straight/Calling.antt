@@ -1,10 +1,9 @@
 -- The public call on a straight term: what it reads is that term, and reduction is not refused; and so where is_straight says yes.
 -- Assumes nothing.
-use Rattle.std.specs.Prelude.{ℕ, ◌≤◌, ◌≡◌, true, ◌&&◌, length}
+use Rattle.std.specs.Prelude.{ℕ, ◌≤◌, ◌≡◌, true, ◌&&◌, length, Ok}
 use Rattle.std.proofs.Common.{ap, ap₂, le-leb}
 use Rattle.rules.specs.Basic.{Bytes}
 use Rattle.rules.specs.Limits.{Limits, output_room, scratch_room}
-use Rattle.rules.specs.Refusal.{good}
 use Rattle.rules.specs.Term.{Term, encode, fits}
 use Rattle.rules.specs.Legal.{Legal}
 use Rattle.rules.specs.Reading.{read_term}
@@ -18,14 +17,14 @@ use Rattle.laws.specs.straight.Decides.{straight-decides}
 use Rattle.laws.specs.straight.Promise.{StraightCall}
 use Rattle.laws.proofs.straight.Reducing.{straight-reduction}
 
-called : (L : Limits) (t : Term) (limit : ℕ) (i o s : Bytes) (r : Reduced) → work_room L o s ≡ true → read_term L 1 i ≡ good t → reduce L limit t ≡ r
+called : (L : Limits) (t : Term) (limit : ℕ) (i o s : Bytes) (r : Reduced) → work_room L o s ≡ true → read_term L 1 i ≡ Ok t → reduce L limit t ≡ r
     → reduce_call L i limit o s ≡ reduce_with o s (reduce_ending r)
 unfolding reduce_call
 called L t limit i o s r w e f = rw (w, e, f)
 
 module _ (L : Limits) (t : Term) (limit : ℕ) (i o s : Bytes) where
   -- THE PUBLIC CALL ON A STRAIGHT TERM (demand 3)
-  pub straight-call : read_term L 1 i ≡ good t → Straight t → output_room L ≤ length o → scratch_room L ≤ length s → StraightCall L t limit i o s
+  pub straight-call : read_term L 1 i ≡ Ok t → Straight t → output_room L ≤ length o → scratch_room L ≤ length s → StraightCall L t limit i o s
   straight-call e w p q =
       let a = term-sound L 1 i t e in
       let r = straight-reduction L limit t w (accepted-fits L i t a) in
@@ -44,11 +43,11 @@ pub straight-legal-call : (L : Limits) (t : Term) (limit : ℕ) (o s : Bytes) �
 straight-legal-call L t limit o s l f = straight-call L t limit (encode t) o s (term-complete L 1 (encode t) t (fits-accepted L t l f))
 
 -- where is_straight says yes, a straight term is read
-pub straight-told : (L : Limits) (i : Bytes) → is_straight_call L i ≡ good true → (t : Term) × (read_term L 1 i ≡ good t) × Straight t
+pub straight-told : (L : Limits) (i : Bytes) → is_straight_call L i ≡ Ok true → (t : Term) × (read_term L 1 i ≡ Ok t) × Straight t
 unfolding is_straight_call
 straight-told L i h = let (t, e, f) = good-mapped straight (read_term L 1 i) true h in (t, e, (straight-decides t).0 f)
 
 -- and bounded reduction of it is as promised
-pub told-call : (L : Limits) (limit : ℕ) (i o s : Bytes) → is_straight_call L i ≡ good true → output_room L ≤ length o → scratch_room L ≤ length s
+pub told-call : (L : Limits) (limit : ℕ) (i o s : Bytes) → is_straight_call L i ≡ Ok true → output_room L ≤ length o → scratch_room L ≤ length s
     → (t : Term) × StraightCall L t limit i o s
 told-call L limit i o s h p q = let (t, e, w) = straight-told L i h in (t, straight-call L t limit i o s e w p q)

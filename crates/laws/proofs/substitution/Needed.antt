@@ -1,11 +1,12 @@
 -- Each condition of `Apart` is needed: for each a smallest template, and feeds that lack it alone, where the two orders differ. antt computes the table.
 -- No smaller template shows it: below three bytes there is no variable.
 -- Assumes nothing.
-use Rattle.std.specs.Prelude.{ℕ, zero, suc, ◌+◌, ◌*◌, ◌≤◌, ◌<◌, ◌≡◌, refl, true, false, List, [], ◌∷◌, map, length}
+use Rattle.std.specs.Prelude.{ℕ, zero, suc, ◌+◌, ◌*◌, ◌≤◌, ◌<◌, ◌≡◌, refl, true, false, List, [], ◌∷◌, map, length, Ok}
 use Rattle.std.proofs.Common.{sym, ap, ◌∙◌, true≢false, arith}
 use Rattle.rules.specs.Basic.{Bytes, say}
 use Rattle.rules.specs.Limits.{Limits, limits}
-use Rattle.rules.specs.Refusal.{Outcome, good, refuse, outgrows, mapped}
+use Rattle.rules.specs.Refusal.{Outcome, refuse, mapped}
+use Rattle.rules.specs.declared.Reason.TheVariants.{Outgrows}
 use Rattle.rules.specs.Name.{same}
 use Rattle.rules.specs.Term.{var, leaf, one, two, unit, promote, pair, encode}
 use Rattle.rules.specs.Free.{occurrences}
@@ -32,11 +33,11 @@ unfolding found encode
 caught-alike = refl
 
 pub one-refused : found nine long short (encode (two pair (var X) (var (say "yyy"))))
-    ≡ (true ∷ true ∷ true ∷ [], refuse outgrows 0 0, good (encode (two pair (one promote (one promote (one promote (leaf unit)))) (leaf unit))))
+    ≡ (true ∷ true ∷ true ∷ [], refuse Outgrows 0 0, Ok (encode (two pair (one promote (one promote (one promote (leaf unit)))) (leaf unit))))
 unfolding found encode
 one-refused = refl
 
-one-term : (m n : Outcome (ℕ × Bytes)) (u w : Bytes) → ((r r' : ℕ × Bytes) → m ≡ good r → n ≡ good r' → r ≡ r') → mapped term_of m ≡ good u → mapped term_of n ≡ good w → u ≡ w
+one-term : (m n : Outcome (ℕ × Bytes)) (u w : Bytes) → ((r r' : ℕ × Bytes) → m ≡ Ok r → n ≡ Ok r' → r ≡ r') → mapped term_of m ≡ Ok u → mapped term_of n ≡ Ok w → u ≡ w
 one-term m n u w h e f =
     let (r, p, i) = good-mapped term_of m u e in
     let (r', q, j) = good-mapped term_of n w f in
@@ -65,7 +66,7 @@ no-smaller L f g t h = by-terms L f g t (λ u w u' w' p q p' q'.
     let j = given_back L t g.name g.value (no-variable L g.name g.value t u' h p') u' p' in
     cc (i, j, p, q, p', q'))
   where
-    no-variable : (L : Limits) (x v t r : Bytes) → length t < 3 → substituted L t x v ≡ good r → NotFree L x t
+    no-variable : (L : Limits) (x v t r : Bytes) → length t < 3 → substituted L t x v ≡ Ok r → NotFree L x t
     no-variable L x v t r h e u a = go (occurrences x u) (occurrences-bytes x u)
       where
         named : 1 ≤ length x

@@ -1,13 +1,14 @@
 -- A substitution for a name that is not free, as the public call gives it (request (viii)): the term's own bytes, refused by short buffers and bad inputs alone.
 -- What it makes is the term that was read, and that fits.
 -- Assumes nothing.
-use Rattle.std.specs.Prelude.{ℕ, ◌≡◌, refl, Bool, true, false, length, replicate}
+use Rattle.std.specs.Prelude.{ℕ, ◌≡◌, refl, Bool, true, false, length, replicate, Ok, Err}
 use Rattle.std.proofs.Common.{sym, ap, ◌∙◌, true≢false, arith}
 use Rattle.std.proofs.Math.Option.{some}
 use Rattle.rules.specs.Basic.{Bytes}
 use Rattle.rules.specs.Limits.{Limits}
 use Rattle.rules.specs.declared.Refusal.{Refusal}
-use Rattle.rules.specs.Refusal.{Outcome, good, refused, outgrows, spares_scratch}
+use Rattle.rules.specs.Refusal.{Outcome, number_of, spares_scratch}
+use Rattle.rules.specs.declared.Reason.TheVariants.{ShortBuffer, Outgrows}
 use Rattle.rules.specs.Term.{Term}
 use Rattle.rules.specs.Reading.{read_term, read_name}
 use Rattle.rules.specs.Substitution.{subst}
@@ -21,10 +22,10 @@ use Rattle.laws.specs.substitution.SubstNone.{subst-none}
 use Rattle.laws.specs.substitution.NotFree.{NotFree, unchanged}
 
 module _ (L : Limits) (t x v : Bytes) (n : NotFree L x t) where
-  nothing-made : (t' v' : Term) → read_term L 1 t ≡ good t' → grown L (subst x v' t') ≡ good t
+  nothing-made : (t' v' : Term) → read_term L 1 t ≡ Ok t' → grown L (subst x v' t') ≡ Ok t
   nothing-made t' v' e =
       let a = term-sound L 1 t t' e in
-      rw (subst-none x v' t' (n t' a), accepted-fits L t t' a) (ap good (sym a.bytes))
+      rw (subst-none x v' t' (n t' a), accepted-fits L t t' a) (ap Ok (sym a.bytes))
 
   nothing-changed : substituted L t x v ≡ unchanged L t x v
   unfolding substituted
@@ -34,7 +35,7 @@ module _ (L : Limits) (t x v : Bytes) (n : NotFree L x t) where
       same_then (read_term L 3 v) _ _ (λ v' g. rw (← (bare-name-sound 2 x x' f).0) (nothing-made t' v' e))))
 
   -- what is not refused is the term's own bytes
-  pub given_back : (r : Bytes) → substituted L t x v ≡ good r → r ≡ t
+  pub given_back : (r : Bytes) → substituted L t x v ≡ Ok r → r ≡ t
   given_back r e =
       let (t', p, e₁) = good-first (read_term L 1 t) _ r (sym nothing-changed ∙ e) in
       let (x', q, e₂) = good-first (read_name 2 x) _ r e₁ in
@@ -47,8 +48,8 @@ module _ (L : Limits) (t x v : Bytes) (n : NotFree L x t) where
   not-free-call o s = rw nothing-changed
 
   -- so it gives the term's own bytes, where the buffers are long enough and the inputs are read
-  pub own-bytes : (o s : Bytes) (t' v' : Term) → work_room L o s ≡ true → read_term L 1 t ≡ good t' → read_name 2 x ≡ good x → read_term L 3 v ≡ good v'
-      → substitute_call L t x v o s ≡ record { answer = good (length t); output = filled o (some t); scratch = replicate (length s) 0 }
+  pub own-bytes : (o s : Bytes) (t' v' : Term) → work_room L o s ≡ true → read_term L 1 t ≡ Ok t' → read_name 2 x ≡ Ok x → read_term L 3 v ≡ Ok v'
+      → substitute_call L t x v o s ≡ record { answer = Ok (length t); output = filled o (some t); scratch = replicate (length s) 0 }
   own-bytes o s t' v' w e f g = not-free-call o s ∙ rw (w, e, f, g)
 
   -- what an input is refused by leaves the scratch alone, and 8 does not
@@ -59,10 +60,10 @@ module _ (L : Limits) (t x v : Bytes) (n : NotFree L x t) where
       spares_then (read_term L 3 v) _ (term-spares L 3 v) (λ v' q e. absurd (let z : ◌≡◌ {A = ℕ} 0 1 = cc in omega arith))))
 
   -- it is never refused by 8
-  pub never-outgrows : (o s : Bytes) (q : Refusal) → (substitute_call L t x v o s).answer ≡ refused q → ¬ q.number ≡ outgrows
+  pub never-outgrows : (o s : Bytes) (q : Refusal) → (substitute_call L t x v o s).answer ≡ Err q → ¬ q.reason ≡ Outgrows
   never-outgrows o s q e f = go (work_room L o s) (unchanged L t x v) refl (rw (not-free-call o s) at e)
     where
-      go : (b : Bool) (c : Outcome Bytes) → unchanged L t x v ≡ c → (lent b (bytes_or c)).says ≡ refused q → ⊥
-      go false c g h = let z : q.number ≡ 1 = cc in omega (arith, f)
-      go true (good r) g h = let z : ◌≡◌ {A = ℕ} 0 1 = cc in omega arith
-      go true (refused r) g h = true≢false (sym (spared q (g ∙ ap refused cc)) ∙ ap spares_scratch f)
+      go : (b : Bool) (c : Outcome Bytes) → unchanged L t x v ≡ c → (lent b (bytes_or c)).says ≡ Err q → ⊥
+      go false c g h = let z : q.reason ≡ ShortBuffer = cc in let y : ◌≡◌ {A = ℕ} 1 8 = sym (ap number_of z) ∙ ap number_of f in omega arith
+      go true (Ok r) g h = let z : ◌≡◌ {A = ℕ} 0 1 = cc in omega arith
+      go true (Err r) g h = true≢false (sym (spared q (g ∙ ap Err cc)) ∙ ap spares_scratch f)

@@ -38,7 +38,7 @@ module _ {A : Type 0} (most : ℕ) (enc : A → Bytes) (count : A → ℕ) (m : 
       rw (append_assoc (enc xs.0) (bytes_of enc n xs.1) r, f.0 u at (bytes_of enc n xs.1 ‥ r) (omega arith), times-found n xs.1 f.1 (u + count xs.0) (at + length (enc xs.0)) r (omega arith))
       (same-got xs _ _ _ _ r (omega arith) (omega (arith, length-append (enc xs.0) (bytes_of enc n xs.1))))
 
-module _ {H A : Type 0} (F : Layout H A) (encode : A → Bytes) (nodes : A → ℕ) (Ok : A → Type 0) (W : Written F encode nodes Ok) (most : ℕ) where
+module _ {H A : Type 0} (F : Layout H A) (encode : A → Bytes) (nodes : A → ℕ) (Fine : A → Type 0) (W : Written F encode nodes Fine) (most : ℕ) where
   tag-found : (h : H) (u at : ℕ) (r : Bytes) → u < most → tag most (head_by_tag F.heads) u at (W.tag_of h ∷ r) ≡ got h (u + 1) (at + 1) r
   unfolding tag byte
   tag-found h u at r l = rw (lt-ltb u most l, W.head_of h)
@@ -74,5 +74,5 @@ module _ {H A : Type 0} (F : Layout H A) (encode : A → Bytes) (nodes : A → �
     build-deep l d zero k = absurd (omega (arith, W.count h xs ts))
     build-deep l d (suc depth) k = build-found depth l (all-deep depth (F.parts h) ts (omega (arith, W.count h xs ts)) d)
 
-  pub node-found : (x : A) → Ok x → (depth : ℕ) → nodes x ≤ depth → Finds most encode nodes (node F most depth) x
+  pub node-found : (x : A) → Fine x → (depth : ℕ) → nodes x ≤ depth → Finds most encode nodes (node F most depth) x
   node-found x l = W.every Deep build-deep x l

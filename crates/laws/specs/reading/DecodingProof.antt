@@ -1,6 +1,6 @@
 -- What is accepted, of proofs: the encodings of legal ones within the limits, each as what it encodes, and nothing else.
 -- Assumes nothing.
-use Rattle.std.specs.Prelude.{ℕ, ◌+◌, ◌≤◌, Bool, if◌then◌else◌}
+use Rattle.std.specs.Prelude.{ℕ, ◌+◌, ◌≤◌, Bool, if◌then◌else◌, Ok}
 use native.Mathlib.Omega.{arith}
 use Rattle.std.proofs.Math.Path.{◌≡◌, refl, sym}
 use Rattle.std.proofs.Common.{ap, ◌∙◌}
@@ -10,7 +10,8 @@ use Rattle.std.proofs.Math.ListN.{length}
 use borrow.Author.Tests.{ltb-false, le-ltb}
 use Rattle.rules.specs.Basic.{Bytes, ◌<?◌, ◌‥◌}
 use Rattle.rules.specs.Limits.{Limits}
-use Rattle.rules.specs.Refusal.{good, refuse}
+use Rattle.rules.specs.Refusal.{refuse}
+use Rattle.rules.specs.declared.Reason.TheVariants.{InputTooLong}
 use Rattle.rules.specs.Proof.{Proof, encode_proof, rules, proof_formula_nodes}
 use Rattle.rules.specs.Legal.{LegalProof}
 use Rattle.rules.specs.Reading.{got, Met, proof_at, ended, whole, read_proof}
@@ -45,11 +46,11 @@ abbrev start : Met
 start = record { rules = 0; formulas = 0 }
 
 module _ (L : Limits) (i : ℕ) (s : Bytes) (p : Proof) where
-  pub proof-sound : Octets s → read_proof L i s ≡ good p → ProofIn L s p
+  pub proof-sound : Octets s → read_proof L i s ≡ Ok p → ProofIn L s p
   unfolding read_proof whole
   proof-sound o e = short (L.bytes <? length s) refl e
     where
-      short : (b : Bool) → (L.bytes <? length s) ≡ b → (if b then refuse 2 L.bytes i else ended i (proof_at L L.rules start 0 s)) ≡ good p → ProofIn L s p
+      short : (b : Bool) → (L.bytes <? length s) ≡ b → (if b then refuse InputTooLong L.bytes i else ended i (proof_at L L.rules start 0 s)) ≡ Ok p → ProofIn L s p
       short true r q = absurd (let z : ◌≡◌ {A = ℕ} 0 1 = cc in omega arith)
       short false r q =
           let g = ended-good i (proof_at L L.rules start 0 s) _ p (proof-reads L L.rules start 0 s o) q in
@@ -64,7 +65,7 @@ module _ (L : Limits) (i : ℕ) (s : Bytes) (p : Proof) where
             legal = t.legal;
           }
 
-  pub proof-complete : ProofIn L s p → read_proof L i s ≡ good p
+  pub proof-complete : ProofIn L s p → read_proof L i s ≡ Ok p
   unfolding read_proof whole
   proof-complete a =
       let e : encode_proof p ++ [] ≡ s = append-nil (encode_proof p) ∙ sym a.bytes in

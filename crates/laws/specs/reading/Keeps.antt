@@ -1,5 +1,7 @@
 -- What every byte that is passed keeps, every reading keeps: by one walk through the ways in which readings are put together.
 -- Assumes nothing.
+use Rattle.rules.specs.declared.Reason.{Reason}
+use Rattle.rules.specs.declared.Reason.TheVariants.{BadName, ReservedWord}
 use Prim.Native.Nat.{ℕ, zero, suc, ◌+◌, ◌-◌, ◌<◌}
 use Rattle.std.specs.Prelude.{Bool}
 use mathlib.Core.List.{[], ◌∷◌}
@@ -27,10 +29,10 @@ module _ {S : Type 0} (R : S → ℕ → Bytes → S → ℕ → Bytes → Type 
   keeps-byte u at [] = tt
   keeps-byte u at (b ∷ r) = k.passed u at b r
 
-  keeps-only : {A : Type 0} (ok : A → Bool) (n : ℕ) (m : Reader S A) → Keeps R m → Keeps R (only ok n m)
+  keeps-only : {A : Type 0} (ok : A → Bool) (n : Reason) (m : Reader S A) → Keeps R m → Keeps R (only ok n m)
   keeps-only ok n m h u at r = and-then (λ x v p r'. R u at r v p r') _ (m u at r) _ (h u at r) (λ x v p r' i. chosen _ (ok x) _ _ (λ e. i) (λ e. tt))
 
-  pub keeps-byte_for : (ok : ℕ → Bool) (n : ℕ) → Keeps R (byte_for ok n)
+  pub keeps-byte_for : (ok : ℕ → Bool) (n : Reason) → Keeps R (byte_for ok n)
   unfolding byte_for
   keeps-byte_for ok n = keeps-only ok n byte keeps-byte
 
@@ -56,17 +58,17 @@ module _ {S : Type 0} (R : S → ℕ → Bytes → S → ℕ → Bytes → Type 
   pub keeps-letters : (n : ℕ) → Keeps R (letters n)
   unfolding letters
   keeps-letters n =
-      keeps_then (byte_for leads 5) _ (keeps-byte_for leads 5) (λ b.
-      keeps_then (many (byte_for follows 5) (n - 1)) _ (keeps-many (byte_for follows 5) (keeps-byte_for follows 5) (n - 1)) (λ bs. k.still))
+      keeps_then (byte_for leads BadName) _ (keeps-byte_for leads BadName) (λ b.
+      keeps_then (many (byte_for follows BadName) (n - 1)) _ (keeps-many (byte_for follows BadName) (keeps-byte_for follows BadName) (n - 1)) (λ bs. k.still))
 
   pub keeps-spelled : (P : Spelling) (n : ℕ) → Keeps R (spelled P n)
   unfolding spelled
-  keeps-spelled P n = keeps-only P.allowed 15 (letters n) (keeps-letters n)
+  keeps-spelled P n = keeps-only P.allowed ReservedWord (letters n) (keeps-letters n)
 
   pub keeps-name : (P : Spelling) → Keeps R (name P)
   unfolding name
   keeps-name P =
-      keeps_then (byte_for (between 1 P.longest) 5) _ (keeps-byte_for (between 1 P.longest) 5) (λ n.
+      keeps_then (byte_for (between 1 P.longest) BadName) _ (keeps-byte_for (between 1 P.longest) BadName) (λ n.
       keeps_then (room n) _ (keeps-room n) (λ _. keeps-spelled P n))
 
 -- Where nodes are counted, a tag that is passed counts one, if that is not one too many.

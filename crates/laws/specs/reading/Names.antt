@@ -1,5 +1,7 @@
 -- Names are read as they are written, and only so: a rule for each step of a reading.
 -- Assumes nothing.
+use Rattle.rules.specs.declared.Reason.{Reason}
+use Rattle.rules.specs.declared.Reason.TheVariants.{BadName}
 use Prim.Native.Nat.{ℕ, zero, suc, ◌+◌, ◌-◌, ◌≤◌}
 use Rattle.std.specs.Prelude.{◌≡◌, Bool, true}
 use Rattle.std.proofs.Math.Path.{refl, ap}
@@ -16,11 +18,11 @@ use Rattle.laws.specs.free.Same.{both_true}
 use Rattle.laws.specs.reading.Holds.{Holds, and-then, chosen, weaker}
 
 -- What was read of an item: its bytes, the position behind them, the count with it, and that it is legal.
-pub record Item {S A : Type 0} (enc : A → Bytes) (add : S → A → S) (Ok : A → Type 0) (u : S) (at : ℕ) (r : Bytes) (x : A) (v : S) (p : ℕ) (r' : Bytes) : Type 0 where
+pub record Item {S A : Type 0} (enc : A → Bytes) (add : S → A → S) (Fine : A → Type 0) (u : S) (at : ℕ) (r : Bytes) (x : A) (v : S) (p : ℕ) (r' : Bytes) : Type 0 where
   pub bytes : r ≡ enc x ‥ r'
   pub next : p ≡ at + length (enc x)
   pub met : v ≡ add u x
-  pub legal : Ok x
+  pub legal : Fine x
 
 -- where nothing is counted
 abbrev pub still : {S A : Type 0} → S → A → S
@@ -49,13 +51,13 @@ module _ {S : Type 0} where
   abbrev pub Single : (ℕ → Bool) → S → ℕ → Bytes → ℕ → S → ℕ → Bytes → Type 0
   Single ok u at r b v p r' = (r ≡ b ∷ r') × (p ≡ at + 1) × (v ≡ u) × (ok b ≡ true)
 
-  pub single-sound : (ok : ℕ → Bool) (n : ℕ) (u : S) (at : ℕ) (r : Bytes) → Holds (Single ok u at r) (byte_for ok n u at r)
+  pub single-sound : (ok : ℕ → Bool) (n : Reason) (u : S) (at : ℕ) (r : Bytes) → Holds (Single ok u at r) (byte_for ok n u at r)
   unfolding byte_for
   single-sound ok n u at r =
       and-then (λ b v p r'. (r ≡ b ∷ r') × (p ≡ at + 1) × (v ≡ u)) _ (byte u at r) _ (byte-sound u at r) (λ b v p r' h.
       chosen _ (ok b) _ _ (λ e. (h.0, h.1, h.2, e)) (λ e. tt))
 
-  run_sound : (ok : ℕ → Bool) (k n : ℕ) (u : S) (at : ℕ) (r : Bytes) → Holds (Item (λ bs. bs) still (Run ok n) u at r) (many (byte_for ok k) n u at r)
+  run_sound : (ok : ℕ → Bool) (k : Reason) (n : ℕ) (u : S) (at : ℕ) (r : Bytes) → Holds (Item (λ bs. bs) still (Run ok n) u at r) (many (byte_for ok k) n u at r)
   unfolding many
   run_sound ok k zero u at r = record { bytes = refl; next = omega arith; met = refl; legal = (refl, tt) }
   run_sound ok k (suc n) u at r =
@@ -66,8 +68,8 @@ module _ {S : Type 0} where
   pub letters-sound : (n : ℕ) → 1 ≤ n → (u : S) (at : ℕ) (r : Bytes) → Holds (Item (λ x. x) still (Letters n) u at r) (letters n u at r)
   unfolding letters
   letters-sound n one u at r =
-      and-then (Single leads u at r) _ (byte_for leads 5 u at r) _ (single-sound leads 5 u at r) (λ b v q r' h.
-      and-then (Item (λ bs. bs) still (Run follows (n - 1)) v q r') _ (many (byte_for follows 5) (n - 1) v q r') _ (run_sound follows 5 (n - 1) v q r') (λ bs w p r'' i.
+      and-then (Single leads u at r) _ (byte_for leads BadName u at r) _ (single-sound leads BadName u at r) (λ b v q r' h.
+      and-then (Item (λ bs. bs) still (Run follows (n - 1)) v q r') _ (many (byte_for follows BadName) (n - 1) v q r') _ (run_sound follows BadName (n - 1) v q r') (λ bs w p r'' i.
       record {
         bytes = h.0 ∙ ap (λ l. b ∷ l) i.bytes;
         next = omega (arith, h.1, i.next);
@@ -89,7 +91,7 @@ module _ {S : Type 0} where
   unfolding name
   name-sound P u at r =
       let ok = between 1 P.longest in
-      and-then (Single ok u at r) _ (byte_for ok 5 u at r) _ (single-sound ok 5 u at r) (λ n v q r' h.
+      and-then (Single ok u at r) _ (byte_for ok BadName u at r) _ (single-sound ok BadName u at r) (λ n v q r' h.
       and-then (λ _ w p r''. (r' ≡ r'') × (p ≡ q) × (w ≡ v)) _ (room n v q r') _ (room-sound n v q r') (λ _ w p r'' e.
       let t = both_true (1 ≤? n) (n ≤? P.longest) h.3 in
       weaker _ _ (spelled P n w p r'') (λ x w' p' r''' i.
@@ -105,7 +107,7 @@ same-got x u v p q r e d = cc
 
 -- The reverse: what is written is read.
 module _ {S : Type 0} where
-  run-found : (ok : ℕ → Bool) (k : ℕ) (bs : Bytes) → All ok bs → (u : S) (at : ℕ) (r : Bytes) → many (byte_for ok k) (length bs) u at (bs ‥ r) ≡ got bs u (at + length bs) r
+  run-found : (ok : ℕ → Bool) (k : Reason) (bs : Bytes) → All ok bs → (u : S) (at : ℕ) (r : Bytes) → many (byte_for ok k) (length bs) u at (bs ‥ r) ≡ got bs u (at + length bs) r
   unfolding many byte_for byte
   run-found ok k [] a u at r = same-got [] u u at (at + 0) r refl (omega arith)
   run-found ok k (b ∷ bs) a u at r = rw (a.0, run-found ok k bs a.1 u (at + 1) r) (same-got (b ∷ bs) u u (at + 1 + length bs) (at + suc (length bs)) r refl (omega arith))
@@ -115,7 +117,7 @@ module _ {S : Type 0} where
   letters-found [] l u at r = absurd l
   letters-found (b ∷ bs) l u at r =
       let z : suc (length bs) - 1 ≡ length bs = omega arith in
-      rw (l.0, z, run-found follows 5 bs l.1 u (at + 1) r) (same-got (b ∷ bs) u u (at + 1 + length bs) (at + suc (length bs)) r refl (omega arith))
+      rw (l.0, z, run-found follows BadName bs l.1 u (at + 1) r) (same-got (b ∷ bs) u u (at + 1 + length bs) (at + suc (length bs)) r refl (omega arith))
 
   pub spelled-found : (P : Spelling) (x : Name) → LegalName P x → (u : S) (at : ℕ) (r : Bytes) → spelled P (length x) u at (x ‥ r) ≡ got x u (at + length x) r
   unfolding spelled

@@ -1,7 +1,7 @@
 -- A reading is refused by 2 to 7 or 15, which spare the scratch: by one walk through the ways in which readings are put together.
 -- Assumes nothing.
 use Prim.Native.Nat.{ℕ, zero, suc, ◌-◌}
-use Rattle.std.specs.Prelude.{◌≡◌, Bool, true, false, if◌then◌else◌}
+use Rattle.std.specs.Prelude.{◌≡◌, Bool, true, false, if◌then◌else◌, Ok, Err}
 use Rattle.std.proofs.Math.Path.{refl}
 use mathlib.Core.List.{[], ◌∷◌}
 use Rattle.std.proofs.Math.Option.{Option, none, some}
@@ -10,7 +10,9 @@ use Rattle.std.proofs.Math.ListN.{length}
 use Rattle.rules.specs.Basic.{Bytes, ◌<?◌, ◌≤?◌, between}
 use Rattle.rules.specs.Limits.{Limits}
 use Rattle.rules.specs.declared.Refusal.{Refusal}
-use Rattle.rules.specs.Refusal.{Outcome, good, refused, spares_scratch}
+use Rattle.rules.specs.Refusal.{Outcome, spares_scratch}
+use Rattle.rules.specs.declared.Reason.{Reason}
+use Rattle.rules.specs.declared.Reason.TheVariants.{NotListed, BadName, ReservedWord}
 use Rattle.rules.specs.Name.{name_most, leads, follows, Spelling, name_spelling}
 use Rattle.rules.specs.Layout.{Layout, head_by_tag}
 use Rattle.rules.specs.Formula.{Formula, formulas}
@@ -40,10 +42,10 @@ module _ {S : Type 0} where
   spares-byte u at [] = refl
   spares-byte u at (b ∷ r) = tt
 
-  spares-only : {A : Type 0} (ok : A → Bool) (n : ℕ) (m : Reader S A) → spares_scratch n ≡ true → Sparing m → Sparing (only ok n m)
+  spares-only : {A : Type 0} (ok : A → Bool) (n : Reason) (m : Reader S A) → spares_scratch n ≡ true → Sparing m → Sparing (only ok n m)
   spares-only ok n m h k u at r = spares_then (m u at r) _ (k u at r) (λ x u' p r'. spares-choice (ok x) _ _ tt h)
 
-  spares-byte_for : (ok : ℕ → Bool) (n : ℕ) → spares_scratch n ≡ true → Sparing {S = S} (byte_for ok n)
+  spares-byte_for : (ok : ℕ → Bool) (n : Reason) → spares_scratch n ≡ true → Sparing {S = S} (byte_for ok n)
   unfolding byte_for
   spares-byte_for ok n h = spares-only ok n byte h spares-byte
 
@@ -64,17 +66,17 @@ module _ {S : Type 0} where
   spares-letters : (n : ℕ) → Sparing {S = S} (letters n)
   unfolding letters
   spares-letters n u at r =
-      spares_then (byte_for leads 5 u at r) _ (spares-byte_for leads 5 refl u at r) (λ b u' p r'.
-      spares_then (many (byte_for follows 5) (n - 1) u' p r') _ (spares-many (byte_for follows 5) (spares-byte_for follows 5 refl) (n - 1) u' p r') (λ bs v q r''. tt))
+      spares_then (byte_for leads BadName u at r) _ (spares-byte_for leads BadName refl u at r) (λ b u' p r'.
+      spares_then (many (byte_for follows BadName) (n - 1) u' p r') _ (spares-many (byte_for follows BadName) (spares-byte_for follows BadName refl) (n - 1) u' p r') (λ bs v q r''. tt))
 
   spares-spelled : (P : Spelling) (n : ℕ) → Sparing {S = S} (spelled P n)
   unfolding spelled
-  spares-spelled P n = spares-only P.allowed 15 (letters n) refl (spares-letters n)
+  spares-spelled P n = spares-only P.allowed ReservedWord (letters n) refl (spares-letters n)
 
   spares-name : (P : Spelling) → Sparing {S = S} (name P)
   unfolding name
   spares-name P u at r =
-      spares_then (byte_for (between 1 P.longest) 5 u at r) _ (spares-byte_for (between 1 P.longest) 5 refl u at r) (λ n u' p r'.
+      spares_then (byte_for (between 1 P.longest) BadName u at r) _ (spares-byte_for (between 1 P.longest) BadName refl u at r) (λ n u' p r'.
       spares_then (room n u' p r') _ (spares-room n u' p r') (λ _. spares-spelled P n))
 
 spares-listed : {H : Type 0} (u at p : ℕ) (r : Bytes) (o : Option H) → Spares (listed u at p r o)
@@ -127,14 +129,14 @@ spares-proof L (suc depth) u at r =
     spares_then (rule_of part h u₁ p₁ r₁) _ (spares-rule part l h u₁ p₁ r₁) (λ k u₂ p₂ r₂.
     spares_then (byte u₂ p₂ r₂) _ (spares-byte u₂ p₂ r₂) (λ n u₃ p₃ r₃.
     spares_then (many part n u₃ p₃ r₃) _ (spares-many part l n u₃ p₃ r₃) (λ fs u₄ p₄ r₄.
-    spares_then (byte_for (◌≤? 3) 4 u₄ p₄ r₄) _ (spares-byte_for (◌≤? 3) 4 refl u₄ p₄ r₄) (λ m u₅ p₅ r₅.
+    spares_then (byte_for (◌≤? 3) NotListed u₄ p₄ r₄) _ (spares-byte_for (◌≤? 3) NotListed refl u₄ p₄ r₄) (λ m u₅ p₅ r₅.
     spares_then (many (proof_at L depth) m u₅ p₅ r₅) _ (spares-many (proof_at L depth) (spares-proof L depth) m u₅ p₅ r₅) (λ ps u₆ p₆ r₆. tt))))))
 
 -- ---- whole inputs
 
 abbrev SparesOutcome : {A : Type 0} → Outcome A → Type 0
-SparesOutcome (good x) = Unit {0}
-SparesOutcome (refused q) = spares_scratch q.number ≡ true
+SparesOutcome (Ok x) = Unit {0}
+SparesOutcome (Err q) = spares_scratch q.reason ≡ true
 
 spares-ended : {S A : Type 0} (i : ℕ) (g : Got S A) → Spares g → SparesOutcome (ended i g)
 spares-ended i (got x u at []) h = tt
@@ -150,23 +152,23 @@ unfolding whole
 spares_whole L i s m u h = spares-outcome (L.bytes <? length s) _ _ refl (spares-ended i (m u 0 s) (h u 0 s))
 
 -- Such a refusal leaves the scratch as it was.
-spared : {A : Type 0} (o : Outcome A) (q : Refusal) → SparesOutcome o → o ≡ refused q → spares_scratch q.number ≡ true
-spared (good x) q h e = absurd (let z : ◌≡◌ {A = ℕ} 0 1 = cc in omega arith)
-spared (refused r) q h e = let d : q ≡ r = cc in rw d h
+spared : {A : Type 0} (o : Outcome A) (q : Refusal) → SparesOutcome o → o ≡ Err q → spares_scratch q.reason ≡ true
+spared (Ok x) q h e = absurd (let z : ◌≡◌ {A = ℕ} 0 1 = cc in omega arith)
+spared (Err r) q h e = let d : q ≡ r = cc in rw d h
 
-pub term-spares : (L : Limits) (i : ℕ) (s : Bytes) (q : Refusal) → read_term L i s ≡ refused q → spares_scratch q.number ≡ true
+pub term-spares : (L : Limits) (i : ℕ) (s : Bytes) (q : Refusal) → read_term L i s ≡ Err q → spares_scratch q.reason ≡ true
 unfolding read_term
 term-spares L i s q e = spared (read_term L i s) q (spares_whole L i s (node terms L.nodes L.nodes) 0 (spares-node terms L.nodes L.nodes)) e
 
-pub formula-spares : (L : Limits) (i : ℕ) (s : Bytes) (q : Refusal) → read_formula L i s ≡ refused q → spares_scratch q.number ≡ true
+pub formula-spares : (L : Limits) (i : ℕ) (s : Bytes) (q : Refusal) → read_formula L i s ≡ Err q → spares_scratch q.reason ≡ true
 unfolding read_formula
 formula-spares L i s q e = spared (read_formula L i s) q (spares_whole L i s (node formulas L.formulas L.formulas) 0 (spares-node formulas L.formulas L.formulas)) e
 
-pub proof-spares : (L : Limits) (i : ℕ) (s : Bytes) (q : Refusal) → read_proof L i s ≡ refused q → spares_scratch q.number ≡ true
+pub proof-spares : (L : Limits) (i : ℕ) (s : Bytes) (q : Refusal) → read_proof L i s ≡ Err q → spares_scratch q.reason ≡ true
 unfolding read_proof
 proof-spares L i s q e = spared (read_proof L i s) q (spares_whole L i s (proof_at L L.rules) _ (spares-proof L L.rules)) e
 
-pub name-spares : (i : ℕ) (s : Bytes) (q : Refusal) → read_name i s ≡ refused q → spares_scratch q.number ≡ true
+pub name-spares : (i : ℕ) (s : Bytes) (q : Refusal) → read_name i s ≡ Err q → spares_scratch q.reason ≡ true
 unfolding read_name
 name-spares i s q e =
     spared (read_name i s) q

@@ -21,13 +21,13 @@ abbrev pub add_all : {S A : Type 0} → (S → A → S) → (n : ℕ) → S → 
 add_all add zero u xs = u
 add_all add (suc n) u xs = add_all add n (add u xs.0) xs.1
 
-module _ {S A : Type 0} (enc : A → Bytes) (add : S → A → S) (Ok : A → Type 0) (m : Reader S A) (sound : (u : S) (at : ℕ) (r : Bytes) → Holds (Item enc add Ok u at r) (m u at r)) where
-  pub times-sound : (n : ℕ) (u : S) (at : ℕ) (r : Bytes) → Holds (Item (bytes_of enc n) (add_all add n) (Each Ok n) u at r) (times m n u at r)
+module _ {S A : Type 0} (enc : A → Bytes) (add : S → A → S) (Fine : A → Type 0) (m : Reader S A) (sound : (u : S) (at : ℕ) (r : Bytes) → Holds (Item enc add Fine u at r) (m u at r)) where
+  pub times-sound : (n : ℕ) (u : S) (at : ℕ) (r : Bytes) → Holds (Item (bytes_of enc n) (add_all add n) (Each Fine n) u at r) (times m n u at r)
   unfolding times
   times-sound zero u at r = record { bytes = refl; next = omega arith; met = refl; legal = tt }
   times-sound (suc n) u at r =
-      and-then (Item enc add Ok u at r) _ (m u at r) _ (sound u at r) (λ x v q r' i.
-      and-then (Item (bytes_of enc n) (add_all add n) (Each Ok n) v q r') _ (times m n v q r') _ (times-sound n v q r') (λ xs w p r'' j.
+      and-then (Item enc add Fine u at r) _ (m u at r) _ (sound u at r) (λ x v q r' i.
+      and-then (Item (bytes_of enc n) (add_all add n) (Each Fine n) v q r') _ (times m n v q r') _ (times-sound n v q r') (λ xs w p r'' j.
       record {
         bytes = i.bytes ∙ ap (λ l. enc x ++ l) j.bytes ∙ sym (append_assoc (enc x) (bytes_of enc n xs) r'');
         next = omega (arith, i.next, j.next, length-append (enc x) (bytes_of enc n xs));
@@ -43,7 +43,7 @@ pub sum-all : {A : Type 0} (count : A → ℕ) (n u : ℕ) (xs : Tuple A n) → 
 sum-all count zero u xs = omega arith
 sum-all count (suc n) u xs = sum-all count n (u + count xs.0) xs.1 ∙ omega arith
 
-module _ {H A : Type 0} (F : Layout H A) (encode : A → Bytes) (nodes : A → ℕ) (Ok : A → Type 0) (W : Written F encode nodes Ok) (most : ℕ) where
+module _ {H A : Type 0} (F : Layout H A) (encode : A → Bytes) (nodes : A → ℕ) (Fine : A → Type 0) (W : Written F encode nodes Fine) (most : ℕ) where
   abbrev Tagged : ℕ → ℕ → Bytes → H → ℕ → ℕ → Bytes → Type 0
   Tagged u at r h v p r' = (r ≡ W.tag_of h ∷ r') × (p ≡ at + 1) × (v ≡ u + 1)
 
@@ -56,15 +56,15 @@ module _ {H A : Type 0} (F : Layout H A) (encode : A → Bytes) (nodes : A → �
       found none e = tt
       found (some h) e = (ap (λ j. j ∷ r) (W.tag-of k h e), refl, refl)
 
-  pub node-sound : (depth u at : ℕ) (r : Bytes) → Holds (Item encode (λ u x. u + nodes x) Ok u at r) (node F most depth u at r)
+  pub node-sound : (depth u at : ℕ) (r : Bytes) → Holds (Item encode (λ u x. u + nodes x) Fine u at r) (node F most depth u at r)
   unfolding node
   node-sound zero u at r = none_read _ u at r
   node-sound (suc depth) u at r =
       and-then (Tagged u at r) _ (tag most (head_by_tag F.heads) u at r) _ (tag-sound u at r) (λ h v q r' i.
       and-then (Item (bytes_of encode_name (F.names h)) (add_all still (F.names h)) (Each (LegalName F.spelling) (F.names h)) v q r') _ (times (name F.spelling) (F.names h) v q r') _
       (times-sound encode_name still (LegalName F.spelling) (name F.spelling) (name-sound F.spelling) (F.names h) v q r') (λ xs w q' r'' j.
-      and-then (Item (bytes_of encode (F.parts h)) (add_all (λ u x. u + nodes x) (F.parts h)) (Each Ok (F.parts h)) w q' r'') _ (times (node F most depth) (F.parts h) w q' r'') _
-      (times-sound encode (λ u x. u + nodes x) Ok (node F most depth) (node-sound depth) (F.parts h) w q' r'') (λ ts w' p r''' l.
+      and-then (Item (bytes_of encode (F.parts h)) (add_all (λ u x. u + nodes x) (F.parts h)) (Each Fine (F.parts h)) w q' r'') _ (times (node F most depth) (F.parts h) w q' r'') _
+      (times-sound encode (λ u x. u + nodes x) Fine (node F most depth) (node-sound depth) (F.parts h) w q' r'') (λ ts w' p r''' l.
       let ns = bytes_of encode_name (F.names h) xs in
       let ps = bytes_of encode (F.parts h) ts in
       record {

@@ -1,5 +1,6 @@
 -- Soundness of the reader of proofs: the bytes that it passed are the encoding of the proof that it read, and that is legal; by induction on the depth.
 -- Assumes nothing.
+use Rattle.rules.specs.declared.Reason.TheVariants.{NotListed, OneTooMany}
 use Prim.Native.Nat.{ℕ, zero, suc, ◌+◌, ◌*◌, ◌/◌, ◌%◌}
 use Rattle.std.proofs.Common.{arith, ◌∙◌}
 use Rattle.std.specs.Prelude.{◌≡◌, Bool, if◌then◌else◌}
@@ -25,25 +26,25 @@ use Rattle.laws.specs.reading.WrittenProof.{tag_of_rule, tag_at, head_of, carrie
 use Rattle.laws.specs.reading.Sound.{node-sound}
 
 -- What was read of a part of a proof: its bytes, the position behind them, its rules and formula nodes, and that it is legal.
-pub record Piece {A : Type 0} (enc : A → Bytes) (rule_count node_count : A → ℕ) (Ok : A → Type 0) (u : Met) (at : ℕ) (r : Bytes) (x : A) (v : Met) (p : ℕ) (r' : Bytes) : Type 0 where
+pub record Piece {A : Type 0} (enc : A → Bytes) (rule_count node_count : A → ℕ) (Fine : A → Type 0) (u : Met) (at : ℕ) (r : Bytes) (x : A) (v : Met) (p : ℕ) (r' : Bytes) : Type 0 where
   pub bytes : r ≡ enc x ++ r'
   pub next : p ≡ at + length (enc x)
   pub rules : v.rules ≡ u.rules + rule_count x
   pub formulas : v.formulas ≡ u.formulas + node_count x
-  pub legal : Ok x
+  pub legal : Fine x
 
-module _ {A : Type 0} (enc : A → Bytes) (rule_count node_count : A → ℕ) (Ok : A → Type 0) where
+module _ {A : Type 0} (enc : A → Bytes) (rule_count node_count : A → ℕ) (Fine : A → Type 0) where
   -- m reads such pieces, where what is left is bytes
   abbrev Reads : Reader Met A → Type 0
-  Reads m = (u : Met) (at : ℕ) (r : Bytes) → Octets r → Holds (Piece enc rule_count node_count Ok u at r) (m u at r)
+  Reads m = (u : Met) (at : ℕ) (r : Bytes) → Octets r → Holds (Piece enc rule_count node_count Fine u at r) (m u at r)
 
-module _ {A : Type 0} (enc : A → Bytes) (rule_count node_count : A → ℕ) (Ok : A → Type 0) (m : Reader Met A) (sound : Reads enc rule_count node_count Ok m) where
-  many-sound : (n : ℕ) → Reads (joined enc) (total rule_count) (total node_count) (λ xs. (length xs ≡ n) × EachOf Ok xs) (many m n)
+module _ {A : Type 0} (enc : A → Bytes) (rule_count node_count : A → ℕ) (Fine : A → Type 0) (m : Reader Met A) (sound : Reads enc rule_count node_count Fine m) where
+  many-sound : (n : ℕ) → Reads (joined enc) (total rule_count) (total node_count) (λ xs. (length xs ≡ n) × EachOf Fine xs) (many m n)
   unfolding many
   many-sound zero u at r o = record { bytes = refl; next = omega arith; rules = omega arith; formulas = omega arith; legal = (refl, tt) }
   many-sound (suc n) u at r o =
-      and-then (Piece enc rule_count node_count Ok u at r) _ (m u at r) _ (sound u at r o) (λ x v q r' i.
-      and-then (Piece (joined enc) (total rule_count) (total node_count) (λ xs. (length xs ≡ n) × EachOf Ok xs) v q r') _ (many m n v q r') _
+      and-then (Piece enc rule_count node_count Fine u at r) _ (m u at r) _ (sound u at r o) (λ x v q r' i.
+      and-then (Piece (joined enc) (total rule_count) (total node_count) (λ xs. (length xs ≡ n) × EachOf Fine xs) v q r') _ (many m n v q r') _
       (many-sound n v q r' (octets-after (enc x) r' (rw i.bytes at o))) (λ xs w p r'' j.
       record {
         bytes = i.bytes ∙ ap (λ l. enc x ++ l) j.bytes ∙ sym (append_assoc (enc x) (joined enc xs) r'');
@@ -104,7 +105,7 @@ module _ (L : Limits) where
   tag-sound u at (k ∷ r) = go (u.rules <? L.rules) (head_by_tag rule_heads k) refl
     where
       go : (b : Bool) (o : Option RuleHead) → head_by_tag rule_heads k ≡ o
-          → Holds (Tagged u at (k ∷ r)) (rule_got u.formulas (if b then listed u.rules at (at + 1) r o else bad 6 at))
+          → Holds (Tagged u at (k ∷ r)) (rule_got u.formulas (if b then listed u.rules at (at + 1) r o else bad OneTooMany at))
       go true none e = tt
       go true (some h) e = (ap (λ j. j ∷ r) (tag_at k h e), refl, refl, refl)
       go false o e = tt
@@ -126,7 +127,7 @@ module _ (L : Limits) where
       and-then (Piece (joined encode_formula) (total none_of) (total formula_nodes) (λ xs. (length xs ≡ n) × EachOf LegalFormula xs) u3 q3 r3) _ (many part n u3 q3 r3) _
       (many-sound encode_formula none_of formula_nodes LegalFormula part part_sound n u3 q3 r3 o3.1) (λ l u4 q4 r4 d.
       let o4 : Octets r4 = octets-after (joined encode_formula l) r4 (rw d.bytes at o3.1) in
-      and-then (Single (◌≤? 3) u4 q4 r4) _ (byte_for (◌≤? 3) 4 u4 q4 r4) _ (single-sound (◌≤? 3) 4 u4 q4 r4) (λ m u5 q5 r5 e.
+      and-then (Single (◌≤? 3) u4 q4 r4) _ (byte_for (◌≤? 3) NotListed u4 q4 r4) _ (single-sound (◌≤? 3) NotListed u4 q4 r4) (λ m u5 q5 r5 e.
       let o5 : Octets r5 = (rw e.0 at o4).1 in
       and-then (Piece (joined encode_proof) (total rules) (total proof_formula_nodes) (λ xs. (length xs ≡ m) × EachOf LegalProof xs) u5 q5 r5) _ (many (proof_at L depth) m u5 q5 r5) _
       (many-sound encode_proof rules proof_formula_nodes LegalProof (proof_at L depth) (proof-reads depth) m u5 q5 r5 o5) (λ ps u6 q6 r6 f.

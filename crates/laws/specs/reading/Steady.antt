@@ -4,6 +4,7 @@
 use Rattle.std.specs.Prelude.{ℕ, ◌+◌, ◌≤◌, ◌<◌, ◌≡◌, refl, Bool, ◌∷◌, length, drop}
 use Rattle.std.proofs.Common.{ap, ◌∙◌, le_refl, le_trans, arith, length-drop, drop-drop}
 use Rattle.std.proofs.Math.Option.{Option}
+use Rattle.rules.specs.declared.Reason.{Reason}
 use Rattle.rules.specs.Basic.{Bytes}
 use Rattle.rules.specs.Layout.{Layout, Tuple}
 use Rattle.rules.specs.Name.{Name, Spelling}
@@ -66,7 +67,7 @@ module _ {S : Type 0} where
   pub steady-byte : Steady {S = S} byte
   steady-byte = to-steady byte (λ s. keeps-byte (Along s) (along s))
 
-  pub steady-byte_for : (ok : ℕ → Bool) (n : ℕ) → Steady {S = S} (byte_for ok n)
+  pub steady-byte_for : (ok : ℕ → Bool) (n : Reason) → Steady {S = S} (byte_for ok n)
   steady-byte_for ok n = to-steady (byte_for ok n) (λ s. keeps-byte_for (Along s) (along s) ok n)
 
   pub steady-room : (n : ℕ) → Steady {S = S} (room n)

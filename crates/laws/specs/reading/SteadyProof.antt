@@ -1,5 +1,6 @@
 -- The reader of proofs, which counts rules and formula nodes apart, keeps what its steps keep; so what it leaves is the input from the next position on.
 -- Assumes nothing.
+use Rattle.rules.specs.declared.Reason.TheVariants.{NotListed}
 use Prim.Native.Nat.{ℕ, zero, suc, ◌+◌, ◌<◌}
 use Rattle.std.specs.Prelude.{◌∷◌}
 use Rattle.rules.specs.Basic.{Bytes, ◌≤?◌}
@@ -66,7 +67,7 @@ module _ (R : Met → ℕ → Bytes → Met → ℕ → Bytes → Type 0) where
           keeps_then R k (rule_of part h) _ (keeps-rule h) (λ r.
           keeps_then R k byte _ (keeps-byte R k) (λ n.
           keeps_then R k (many part n) _ (keeps-many R k part keeps-part n) (λ linear.
-          keeps_then R k (byte_for (◌≤? 3) 4) _ (keeps-byte_for R k (◌≤? 3) 4) (λ m.
+          keeps_then R k (byte_for (◌≤? 3) NotListed) _ (keeps-byte_for R k (◌≤? 3) NotListed) (λ m.
           keeps_then R k (many (proof_at L depth) m) _ (keeps-many R k (proof_at L depth) (keeps-proof depth) m) (λ ps. k.still))))))
 
 pub steady-proof : (L : Limits) (depth : ℕ) → Steady (proof_at L depth)

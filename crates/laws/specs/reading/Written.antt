@@ -23,7 +23,7 @@ module _ {A : Type 0} where
   Each P zero xs = Unit {0}
   Each P (suc n) xs = P xs.0 × Each P n xs.1
 
-pub record Written {H A : Type 0} (F : Layout H A) (encode : A → Bytes) (nodes : A → ℕ) (Ok : A → Type 0) : Type 1 where
+pub record Written {H A : Type 0} (F : Layout H A) (encode : A → Bytes) (nodes : A → ℕ) (Fine : A → Type 0) : Type 1 where
   pub tag_of : H → ℕ
   pub head_of : (h : H) → head_by_tag F.heads (tag_of h) ≡ some h
   pub tag-of : (k : ℕ) (h : H) → head_by_tag F.heads k ≡ some h → k ≡ tag_of h
@@ -31,11 +31,11 @@ pub record Written {H A : Type 0} (F : Layout H A) (encode : A → Bytes) (nodes
       → encode (F.build h xs ts) ≡ tag_of h ∷ (bytes_of encode_name (F.names h) xs ‥ bytes_of encode (F.parts h) ts)
   pub count : (h : H) (xs : Tuple Name (F.names h)) (ts : Tuple A (F.parts h)) → nodes (F.build h xs ts) ≡ 1 + sum_of nodes (F.parts h) ts
   pub legal : (h : H) (xs : Tuple Name (F.names h)) (ts : Tuple A (F.parts h))
-      → Each (LegalName F.spelling) (F.names h) xs → Each Ok (F.parts h) ts → Ok (F.build h xs ts)
+      → Each (LegalName F.spelling) (F.names h) xs → Each Fine (F.parts h) ts → Fine (F.build h xs ts)
   -- induction: what passes from the parts to what is built of them holds of all that is legal
   pub every : (P : A → Type 0)
       → ((h : H) (xs : Tuple Name (F.names h)) (ts : Tuple A (F.parts h)) → Each (LegalName F.spelling) (F.names h) xs → Each P (F.parts h) ts → P (F.build h xs ts))
-      → (x : A) → Ok x → P x
+      → (x : A) → Fine x → P x
 
 -- Heads whose tags are their places in the list.
 module _ {H : Type 0} (tag_of : H → ℕ) where

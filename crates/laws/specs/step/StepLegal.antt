@@ -1,10 +1,9 @@
 -- A step of a legal term gives a legal term, which is read as what it is if it fits, and so does the first of its two substitutions: by induction on the term.
 -- Assumes nothing.
-use Rattle.std.specs.Prelude.{ℕ, ◌+◌, ◌≡◌, true}
+use Rattle.std.specs.Prelude.{ℕ, ◌+◌, ◌≡◌, true, Ok}
 use Rattle.std.proofs.Math.Option.{Option, none, some}
 use Rattle.rules.specs.Basic.{Bytes}
 use Rattle.rules.specs.Limits.{Limits}
-use Rattle.rules.specs.Refusal.{good}
 use Rattle.rules.specs.Name.{Name}
 use Rattle.rules.specs.Legal.{Legal}
 use Rattle.rules.specs.Term.{Term, var, leaf, one, two, abs, both, branch, One, inl, inr, fst, snd, abort, promote, derelict, pair, app, discard, let_a_pair, copy, size, encode, fits}
@@ -141,5 +140,5 @@ step-legal (branch x y e a b) l =
     (part-legal (1 + name_bytes x + name_bytes y) (λ p. branch x y p a b) (step e) (step-legal e l.2) (λ u m. (l.0, l.1, m, l.3, l.4)))
 
 -- WHAT A STEP MAKES WITHIN THE LIMITS IS READ AS WHAT IT IS
-pub step-again : (L : Limits) (s : Bytes) (t : Term) → read_term L 1 s ≡ good t → (r : Rule) (p : ℕ) (h : Option Term) (u : Term) → step t ≡ found r p h u → fits L u ≡ true → read_term L 1 (encode u) ≡ good u
+pub step-again : (L : Limits) (s : Bytes) (t : Term) → read_term L 1 s ≡ Ok t → (r : Rule) (p : ℕ) (h : Option Term) (u : Term) → step t ≡ found r p h u → fits L u ≡ true → read_term L 1 (encode u) ≡ Ok u
 step-again L s t e r p h u f k = term-complete L 1 (encode u) u (fits-accepted L u (rw f at (step-legal t (term-sound L 1 s t e).legal)).1 k)

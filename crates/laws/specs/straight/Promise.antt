@@ -1,10 +1,9 @@
 -- What is promised of a straight term (demand 3): of one step, of bounded reduction, and of the public call.
 -- Assumes nothing: these are statements; StepKept, Reducing and Calling prove them.
-use Rattle.std.specs.Prelude.{ℕ, ◌+◌, ◌-◌, ◌*◌, ◌≤◌, ◌<◌, ◌≡◌, Bool, true}
+use Rattle.std.specs.Prelude.{ℕ, ◌+◌, ◌-◌, ◌*◌, ◌≤◌, ◌<◌, ◌≡◌, Bool, true, Ok}
 use Rattle.std.proofs.Math.Option.{Option, some}
 use Rattle.rules.specs.Basic.{Bytes}
 use Rattle.rules.specs.Limits.{Limits}
-use Rattle.rules.specs.Refusal.{good}
 use Rattle.rules.specs.Name.{Name}
 use Rattle.rules.specs.Term.{Term, encode, nodes, size, fits}
 use Rattle.rules.specs.Legal.{Legal}
@@ -68,7 +67,7 @@ pub record StraightReduction (L : Limits) (limit : ℕ) (t : Term) : Type 0 wher
 pub record StraightCall (L : Limits) (t : Term) (limit : ℕ) (i o s : Bytes) : Type 0 where
   pub reduction : StraightReduction L limit t
   pub answer : (reduce_call L i limit o s).answer
-      ≡ good
+      ≡ Ok
       (record {
         steps = reduction.app + reduction.lets + reduction.derelict;
         counts = only reduction.app reduction.lets reduction.derelict;
@@ -77,4 +76,4 @@ pub record StraightCall (L : Limits) (t : Term) (limit : ℕ) (i o s : Bytes) : 
   pub output_length : (reduce_call L i limit o s).output_length ≡ size reduction.result
   pub output : (reduce_call L i limit o s).output ≡ filled o (some (encode reduction.result))
   -- the result's bytes are read as the result again
-  pub reads : read_term L 1 (encode reduction.result) ≡ good reduction.result
+  pub reads : read_term L 1 (encode reduction.result) ≡ Ok reduction.result

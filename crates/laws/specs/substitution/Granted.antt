@@ -1,10 +1,11 @@
 -- A substitution that is not refused: what it read, and that what it gives is read as the term that it made. By the order of its readings.
 -- Assumes nothing.
-use Rattle.std.specs.Prelude.{ℕ, ◌≡◌, refl, Bool, true, false, if◌then◌else◌}
+use Rattle.std.specs.Prelude.{ℕ, ◌≡◌, refl, Bool, true, false, if◌then◌else◌, Ok}
 use Rattle.std.proofs.Common.{sym, arith}
 use Rattle.rules.specs.Basic.{Bytes}
 use Rattle.rules.specs.Limits.{Limits}
-use Rattle.rules.specs.Refusal.{good, refuse, outgrows}
+use Rattle.rules.specs.Refusal.{refuse}
+use Rattle.rules.specs.declared.Reason.TheVariants.{Outgrows}
 use Rattle.rules.specs.Name.{Name}
 use Rattle.rules.specs.Term.{Term, encode, fits}
 use Rattle.rules.specs.Legal.{Legal}
@@ -17,10 +18,10 @@ use Rattle.laws.specs.reading.Fits.{fits-accepted}
 use Rattle.laws.specs.substitution.SubstLegal.{subst-legal}
 
 -- what a substitution made and did not refuse is read as what it made
-again : (L : Limits) (x : Name) (t v : Term) (r : Bytes) → Legal t → Legal v → grown L (subst x v t) ≡ good r → read_term L 1 r ≡ good (subst x v t)
+again : (L : Limits) (x : Name) (t v : Term) (r : Bytes) → Legal t → Legal v → grown L (subst x v t) ≡ Ok r → read_term L 1 r ≡ Ok (subst x v t)
 again L x t v r k l e = go (fits L (subst x v t)) refl e
   where
-    go : (b : Bool) → fits L (subst x v t) ≡ b → (if b then good (encode (subst x v t)) else refuse outgrows 0 0) ≡ good r → read_term L 1 r ≡ good (subst x v t)
+    go : (b : Bool) → fits L (subst x v t) ≡ b → (if b then Ok (encode (subst x v t)) else refuse Outgrows 0 0) ≡ Ok r → read_term L 1 r ≡ Ok (subst x v t)
     go true f h =
         let w : encode (subst x v t) ≡ r = cc in
         rw (← w) (term-complete L 1 (encode (subst x v t)) (subst x v t) (fits-accepted L (subst x v t) (subst-legal x v l t k) f))
@@ -29,12 +30,12 @@ again L x t v r k l e = go (fits L (subst x v t)) refl e
 pub record Granted (L : Limits) (t x v r : Bytes) : Type 0 where
   pub term : Term
   pub value : Term
-  pub reads : read_term L 1 t ≡ good term
-  pub names : read_name 2 x ≡ good x
-  pub holds : read_term L 3 v ≡ good value
-  pub gives : read_term L 1 r ≡ good (subst x value term)
+  pub reads : read_term L 1 t ≡ Ok term
+  pub names : read_name 2 x ≡ Ok x
+  pub holds : read_term L 3 v ≡ Ok value
+  pub gives : read_term L 1 r ≡ Ok (subst x value term)
 
-pub granted : (L : Limits) (t x v r : Bytes) → substituted L t x v ≡ good r → Granted L t x v r
+pub granted : (L : Limits) (t x v r : Bytes) → substituted L t x v ≡ Ok r → Granted L t x v r
 unfolding substituted
 granted L t x v r e =
     let (t', p, e₁) = good-first (read_term L 1 t) _ r e in
@@ -42,7 +43,7 @@ granted L t x v r e =
     let (v', h, e₃) = good-first (read_term L 3 v) _ r e₂ in
     go t' x' v' p q (sym (bare-name-sound 2 x x' q).0) h e₃
   where
-    go : (t' : Term) (x' : Name) (v' : Term) → read_term L 1 t ≡ good t' → read_name 2 x ≡ good x' → x' ≡ x → read_term L 3 v ≡ good v' → grown L (subst x' v' t') ≡ good r → Granted L t x v r
+    go : (t' : Term) (x' : Name) (v' : Term) → read_term L 1 t ≡ Ok t' → read_name 2 x ≡ Ok x' → x' ≡ x → read_term L 3 v ≡ Ok v' → grown L (subst x' v' t') ≡ Ok r → Granted L t x v r
     go t' x' v' p q i h e =
         record {
           term = t';

@@ -1,9 +1,9 @@
 -- A table of two feeds: for each condition of `Apart` a smallest template, and feeds that lack it alone, where the two orders differ.
 -- Assumes nothing: these are definitions.
-use Rattle.std.specs.Prelude.{ℕ, Bool, true, false, not, List, [], ◌∷◌, take, replicate}
+use Rattle.std.specs.Prelude.{ℕ, Bool, true, false, not, List, [], ◌∷◌, take, replicate, Ok}
 use Rattle.rules.specs.Basic.{Bytes, say}
 use Rattle.rules.specs.Limits.{Limits, limits, output_room, scratch_room}
-use Rattle.rules.specs.Refusal.{Outcome, good, mapped}
+use Rattle.rules.specs.Refusal.{Outcome, mapped}
 use Rattle.rules.specs.Name.{Name, same, leads, follows, is_a_word}
 use Rattle.rules.specs.Term.{Term, var, leaf, one, two, abs, unit, trivial, promote, app, encode, nodes, fits}
 use Rattle.rules.specs.Reading.{times, many, byte, byte_for, room, letters, spelled, name, tag, too_many, node, whole, read_term, read_name}
@@ -81,7 +81,7 @@ abbrev pub computed : Row → Found
 computed r = found limits (feed_x r) (feed_y r) (encode r.template)
 
 abbrev pub stated : Row → Found
-stated r = (r.conditions, good (encode r.x_first), good (encode r.y_first))
+stated r = (r.conditions, Ok (encode r.x_first), Ok (encode r.y_first))
 
 -- One order alone may be refused, by 8 half-way: with nine bytes at most, !!!() for x and () for yyy in (x, yyy).
 abbrev pub nine : Limits

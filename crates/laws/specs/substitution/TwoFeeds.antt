@@ -1,9 +1,9 @@
 -- Two feeds are patched into one template, and either may go first (request (viii)): of the public call, answer and output, byte for byte.
 -- Assumes nothing: these are definitions.
-use Rattle.std.specs.Prelude.{ℕ, ◌≡◌, false, length, take}
+use Rattle.std.specs.Prelude.{ℕ, ◌≡◌, false, length, take, Ok}
 use Rattle.rules.specs.Basic.{Bytes}
 use Rattle.rules.specs.Limits.{Limits}
-use Rattle.rules.specs.Refusal.{Outcome, good, mapped, ◌>>=◌}
+use Rattle.rules.specs.Refusal.{Outcome, mapped, ◌>>=◌}
 use Rattle.rules.specs.Name.{same}
 use Rattle.rules.specs.Buffers.{Worked}
 use Rattle.rules.specs.Calls.{substitute_call}
@@ -41,4 +41,4 @@ in_order L f g t a b = do
 
 -- THE ORDER OF TWO FEEDS: where neither order is refused, both answer the same, and leave the same bytes in outputs of the same length.
 abbrev pub EitherFirst : Limits → (f g : Feed) → (template : Bytes) → Type 0
-EitherFirst L f g t = (a b a' b' : Buffers) (r r' : ℕ × Bytes) → in_order L f g t a b ≡ good r → in_order L g f t a' b' ≡ good r' → length b.output ≡ length b'.output → r ≡ r'
+EitherFirst L f g t = (a b a' b' : Buffers) (r r' : ℕ × Bytes) → in_order L f g t a b ≡ Ok r → in_order L g f t a' b' ≡ Ok r' → length b.output ≡ length b'.output → r ≡ r'

@@ -1,4 +1,5 @@
 -- What is printed for a file, by what opening it comes to: its content, or the refusal. Assumes nothing.
+use Rattle.std.specs.Prelude.{Ok, Err}
 use Prim.Native.Nat.{ℕ, ◌-◌, ◌≤◌}
 use mathlib.Core.Path.{◌≡◌, refl, sym, ap, ◌∙◌}
 use native.Mathlib.Omega.{arith}
@@ -7,9 +8,7 @@ use borrow.Author.Tests.{le-leb}
 use Rattle.rules.specs.Basic.{Bytes}
 use Rattle.rules.specs.Limits.{limits, output_room}
 use Rattle.rules.specs.declared.Refusal.{Refusal}
-use Rattle.rules.specs.Refusal.{Outcome, good, refused, answered}
-use Rattle.rules.specs.declared.Answer.{Answer}
-use Rattle.rules.specs.declared.Answer.TheVariants.{Good, Refused}
+use Rattle.rules.specs.Refusal.{Outcome}
 use Rattle.rules.specs.declared.Kind.TheVariants.{Term as a_term}
 use Rattle.rules.specs.Stored.{opened}
 use Rattle.rules.specs.Buffers.{Wrote, bytes_or, wrote}
@@ -39,10 +38,10 @@ module _ (file term scratch out : Bytes) (room : output_room limits ≤ length o
   unfolding load_call
   calls = rw (le-leb (output_room limits) (length out) room)
 
-  opened-from : (o : Outcome Bytes) → opened limits a_term file ≡ o → (n : ℕ) → answered (ends o).answer ≡ Good n → (out₁ : Bytes) → out₁ ≡ (ends o).output → Opened file term scratch out₁ n
+  opened-from : (o : Outcome Bytes) → opened limits a_term file ≡ o → (n : ℕ) → (ends o).answer ≡ Ok n → (out₁ : Bytes) → out₁ ≡ (ends o).output → Opened file term scratch out₁ n
   unfolding patchrun printed_for term_left scratch_left
-  opened-from (refused q) e n h out₁ l = absurd (let z : ◌≡◌ {A = ℕ} 0 1 = cc in omega arith)
-  opened-from (good s) e n h out₁ l =
+  opened-from (Err q) e n h out₁ l = absurd (let z : ◌≡◌ {A = ℕ} 0 1 = cc in omega arith)
+  opened-from (Ok s) e n h out₁ l =
       let f : n ≡ length s = cc in
       let a = starts-append s (replicate (length out - length s) 0) l f in
       record {
@@ -52,16 +51,16 @@ module _ (file term scratch out : Bytes) (room : output_room limits ≤ length o
         inside = starts-inside a;
       }
 
-  unopened-from : (o : Outcome Bytes) → opened limits a_term file ≡ o → (q : Refusal) → answered (ends o).answer ≡ Refused q → Unopened file term scratch q
+  unopened-from : (o : Outcome Bytes) → opened limits a_term file ≡ o → (q : Refusal) → (ends o).answer ≡ Err q → Unopened file term scratch q
   unfolding patchrun term_left scratch_left
-  unopened-from (good s) e q h = absurd (let z : ◌≡◌ {A = ℕ} 0 1 = cc in omega arith)
-  unopened-from (refused q') e q h =
+  unopened-from (Ok s) e q h = absurd (let z : ◌≡◌ {A = ℕ} 0 1 = cc in omega arith)
+  unopened-from (Err q') e q h =
       let f : q' ≡ q = cc in
       record { prints = rw e (ap refusal_line f); terms = rw (e, term_left); scratches = rw (e, scratch_left) }
 
-  module _ {r : Answer} (says : r ≡ answered (load_call limits a_term file out).answer) where
-    pub opens : (n : ℕ) → r ≡ Good n → (out₁ : Bytes) → out₁ ≡ (load_call limits a_term file out).output → Opened file term scratch out₁ n
+  module _ {r : Outcome ℕ} (says : r ≡ (load_call limits a_term file out).answer) where
+    pub opens : (n : ℕ) → r ≡ Ok n → (out₁ : Bytes) → out₁ ≡ (load_call limits a_term file out).output → Opened file term scratch out₁ n
     opens n h out₁ l = opened-from (opened limits a_term file) refl n (rw calls at (sym says ∙ h)) out₁ (rw calls at l)
 
-    pub unopened : (q : Refusal) → r ≡ Refused q → Unopened file term scratch q
+    pub unopened : (q : Refusal) → r ≡ Err q → Unopened file term scratch q
     unopened q h = unopened-from (opened limits a_term file) refl q (rw calls at (sym says ∙ h))

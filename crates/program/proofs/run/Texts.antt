@@ -1,4 +1,6 @@
 -- The text of a term that can be read, and the line of the counts behind it: the printer's refusal is impossible, and both fit. Assumes nothing.
+use Rattle.rules.specs.Refusal.{Outcome}
+use Rattle.std.specs.Prelude.{Ok, Err}
 use Prim.Native.Nat.{ℕ, ◌+◌, ◌-◌, ◌≤◌}
 use mathlib.Core.Path.{◌≡◌, sym, ap, ◌∙◌}
 use mathlib.Core.List.{◌∷◌}
@@ -8,9 +10,6 @@ use borrow.Author.Tests.{le-leb}
 use Rattle.rules.specs.Basic.{Bytes, ◌‥◌}
 use Rattle.rules.specs.Limits.{limits, text_room}
 use Rattle.rules.specs.declared.Refusal.{Refusal}
-use Rattle.rules.specs.Refusal.{answered}
-use Rattle.rules.specs.declared.Answer.{Answer}
-use Rattle.rules.specs.declared.Answer.TheVariants.{Good, Refused}
 use Rattle.rules.specs.Term.{Term}
 use Rattle.rules.specs.Text.{text}
 use Rattle.rules.specs.Calls.{text_call}
@@ -25,24 +24,24 @@ use Rattle.program.proofs.run.Starting.{starts-wrote, starts-append, starts-agai
 
 module _ {term : Bytes} {t : Term} (w : TermIn limits term t) (out : Bytes) (room : printed_room limits ≤ length out) where
   -- the printer's answer and output
-  abbrev Printed : Answer → Bytes → Type 0
-  Printed r o = (r ≡ answered (text_call limits term out).answer) × (o ≡ (text_call limits term out).output)
+  abbrev Printed : Outcome ℕ → Bytes → Type 0
+  Printed r o = (r ≡ (text_call limits term out).answer) × (o ≡ (text_call limits term out).output)
 
-  prints : Printed (Good (length (text t))) (text t ‥ replicate (length out - length (text t)) 0)
+  prints : Printed (Ok (length (text t))) (text t ‥ replicate (length out - length (text t)) 0)
   unfolding text_call
   prints =
       let l = le-leb (text_room limits) (length out) (omega arith) in
       let e = term-complete limits 1 term t w in
       (rw (l, e), rw (l, e))
 
-  module _ {r : Answer} (says : r ≡ answered (text_call limits term out).answer) where
-    tells : r ≡ Good (length (text t))
+  module _ {r : Outcome ℕ} (says : r ≡ (text_call limits term out).answer) where
+    tells : r ≡ Ok (length (text t))
     tells = says ∙ sym prints.0
 
-    pub never-refused : {q : Refusal} → r ≡ Refused q → ⊥
+    pub never-refused : {q : Refusal} → r ≡ Err q → ⊥
     never-refused e = let a = tells in let z : ◌≡◌ {A = ℕ} 0 1 = cc in omega arith
 
-    module _ {end : ℕ} (e : r ≡ Good end) where
+    module _ {end : ℕ} (e : r ≡ Ok end) where
       pub text-ends : end ≡ length (text t)
       text-ends = let a = tells in cc
 

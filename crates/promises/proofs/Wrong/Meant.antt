@@ -4,9 +4,9 @@ use Prim.Native.String.{String}
 use mathlib.Core.Path.{◌≡◌, refl}
 use mathlib.Core.Bool.{Bool, false, ◌&&◌}
 use mathlib.Core.List.{List, [], ◌∷◌}
-use Rattle.std.specs.Prelude.{◌==◌}
+use Rattle.std.specs.Prelude.{◌==◌, Ok, Err}
 use Rattle.rules.specs.Basic.{say, digits}
-use Rattle.rules.specs.Refusal.{Outcome, good, refused}
+use Rattle.rules.specs.Refusal.{Outcome}
 use Rattle.rules.specs.Term.{Term, nodes, encode, fits}
 use Rattle.rules.specs.Proof.{Proof}
 use Rattle.rules.specs.Text.{text}
@@ -42,8 +42,8 @@ is_reduced s n (stopped m c b t) = (m == n) && equal (text t) (say s)
 is_reduced s n (outgrew m t) = false
 
 abbrev pub is_extracted : String → Outcome (Term × ℕ) → Bool
-is_extracted s (good r) = equal (text r.0) (say s)
-is_extracted s (refused r) = false
+is_extracted s (Ok r) = equal (text r.0) (say s)
+is_extracted s (Err r) = false
 
 unfoldable pub right : Row → Bool
 unfolding text digits nodes encode fits before insert union without free subst contract oldest axiom_name first_free put_in contract_by step_by stepped reduce_from_by reduced extract_by extracted

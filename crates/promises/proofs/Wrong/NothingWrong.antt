@@ -1,5 +1,6 @@
 -- A version with nothing wrong meets every contract: by recursion on the term, on the limit and on the proof. So the definition over which the wrong
 -- versions are made is the contract's own, and each of them differs by its one fault alone. Assumes nothing.
+use Rattle.std.specs.Prelude.{Ok, Err}
 use Prim.Native.Nat.{ℕ, zero, suc, ◌+◌}
 use mathlib.Core.Path.{◌≡◌, refl, ap, ◌∙◌}
 use mathlib.Core.Bool.{true, false, ◌&&◌}
@@ -8,7 +9,8 @@ use lib.ListN.{length}
 use mathlib.Core.List.{List, [], ◌∷◌}
 use Rattle.rules.specs.Basic.{Bytes, ◌<?◌, ◌≤?◌}
 use Rattle.rules.specs.Limits.{limits, most_counter, entry_room}
-use Rattle.rules.specs.Refusal.{Outcome, good, refused, refuse, outgrows, counter_over, mapped, ◌>>=◌}
+use Rattle.rules.specs.Refusal.{Outcome, refuse, mapped, ◌>>=◌}
+use Rattle.rules.specs.declared.Reason.TheVariants.{Outgrows, CounterOver}
 use Rattle.rules.specs.Formula.{Formula}
 use Rattle.rules.specs.Term.{Term, var, leaf, one, two, abs, both, branch, inl, inr, fst, snd, abort, promote, derelict, pair, app, discard, let_a_pair, copy, size}
 use Rattle.rules.specs.Proof.{Proof, proof, Premises, done, ◌then◌, Rule, plain, cut, focus}
@@ -129,8 +131,8 @@ extracted-so n p =
     λ i.
     let (size, next) = extracts-one sizes p i [] n in
     elim (most_counter <? next) [
-      | true ↦ refuse counter_over 0 0
-      | false ↦ elim (size_fits limits size) [ true ↦ good (extracts-one terms p i [] n) | false ↦ refuse outgrows 0 0 ]
+      | true ↦ refuse CounterOver 0 0
+      | false ↦ elim (size_fits limits size) [ true ↦ Ok (extracts-one terms p i [] n) | false ↦ refuse Outgrows 0 0 ]
     ]
 
 extract-so : (n : ℕ) (p o s : Bytes) (es : List Entry) → extract_call_by nothing n p o s es ≡ extract_call limits n p o s es
@@ -159,8 +161,8 @@ printed-so f t s o =
     record {
       output_length = length (patchrun-so f i);
       output = filled o (some (patchrun-so f i));
-      term = elim (opened limits a_term f) [ good c ↦ (reduce-so c Program.program_steps t s i).output | refused r ↦ t ];
-      scratch = elim (opened limits a_term f) [ good c ↦ (reduce-so c Program.program_steps t s i).scratch | refused r ↦ s ];
+      term = elim (opened limits a_term f) [ Ok c ↦ (reduce-so c Program.program_steps t s i).output | Err r ↦ t ];
+      scratch = elim (opened limits a_term f) [ Ok c ↦ (reduce-so c Program.program_steps t s i).scratch | Err r ↦ s ];
     }
 
 pub nothing-wrong : (c : Call) → Meets c (version nothing c)

@@ -1,9 +1,10 @@
 -- Refusals and lent buffers, with something wrong or nothing.
 -- Assumes nothing: these are definitions.
-use Rattle.std.specs.Prelude.{ℕ, ◌-◌, suc, Bool, true, false, not, ◌&&◌, ◌||◌, List, length, replicate, take, drop, if◌then◌else◌, ◌==◌}
+use Rattle.std.specs.Prelude.{ℕ, ◌-◌, suc, Bool, true, false, not, ◌&&◌, ◌||◌, List, length, replicate, take, drop, if◌then◌else◌, ◌==◌, Ok, Err}
 use Rattle.std.proofs.Math.Option.{Option, none, some}
 use Rattle.rules.specs.Basic.{Bytes, between, ◌‥◌}
-use Rattle.rules.specs.Refusal.{Outcome, good, refused, refuse, mapped}
+use Rattle.rules.specs.Refusal.{Outcome, refuse, number_of, mapped}
+use Rattle.rules.specs.declared.Reason.TheVariants.{ShortBuffer, EndsInside}
 use Rattle.rules.specs.Term.{Term}
 use Rattle.rules.specs.Buffers.{Ending, writes_nothing, lent, filled, written, cleared, Wrote, Worked}
 use Rattle.rules.specs.Calls.{ReduceAnswer, ReduceCall, Entry, no_entry, Extracted, counter_after}
@@ -11,7 +12,7 @@ use Rattle.promises.specs.Wrong.{Wrong, ◌is◌, refuses-with-1, refuses-with-3
 
 -- 1 is about no input; 3 is that of an empty first input
 abbrev pub says : {A : Type 0} → Wrong → Outcome A → Outcome A
-says w o = if w is refuses-with-1 then refuse 1 0 0 else (if w is refuses-with-3 then refuse 3 0 1 else o)
+says w o = if w is refuses-with-1 then refuse ShortBuffer 0 0 else (if w is refuses-with-3 then refuse EndsInside 0 1 else o)
 
 abbrev pub lent_by : {A : Type 0} → Wrong → Bool → Ending A → Ending A
 lent_by w b e = if w is refuses-with-1 || w is refuses-with-3 then writes_nothing (says w e.says) else lent b e
@@ -24,8 +25,8 @@ abbrev pub agreed : Wrong → Outcome Bool → Outcome Bool
 agreed w o = if w is says-yes then mapped (λ _. true) o else o
 
 abbrev pub was_refused : {A : Type 0} → Outcome A → Bool
-was_refused (good a) = false
-was_refused (refused r) = true
+was_refused (Ok a) = false
+was_refused (Err r) = true
 
 -- the answer, the byte behind it as it was lent, then zeros
 abbrev pub filled_but : (buffer : Bytes) → Option Bytes → Bytes
@@ -39,8 +40,8 @@ filled_by w b e =
 
 -- no refusal 2 to 7 or 15
 abbrev pub was_read : {A : Type 0} → Outcome A → Bool
-was_read (good a) = true
-was_read (refused r) = not (between 2 7 r.number || (r.number == 15))
+was_read (Ok a) = true
+was_read (Err r) = not (between 2 7 (number_of r.reason) || (number_of r.reason == 15))
 
 abbrev pub cleared_by : {A B : Type 0} → (leaves clears : Bool) → (zero : B) → List B → Outcome A → List B
 cleared_by leaves clears z b o =

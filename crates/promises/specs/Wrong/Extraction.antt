@@ -1,9 +1,10 @@
 -- Extraction, with something wrong or nothing: which cut entry is found first, and when the names of a Cut on Plus are taken.
 -- Assumes nothing: these are definitions.
-use Rattle.std.specs.Prelude.{ℕ, Bool, true, false, List, [], ◌∷◌, if◌then◌else◌}
+use Rattle.std.specs.Prelude.{ℕ, Bool, true, false, List, [], ◌∷◌, if◌then◌else◌, Ok}
 use Rattle.rules.specs.Basic.{◌‥◌, ◌<?◌}
 use Rattle.rules.specs.Limits.{limits, most_counter}
-use Rattle.rules.specs.Refusal.{Outcome, good, refuse, outgrows, counter_over}
+use Rattle.rules.specs.Refusal.{Outcome, refuse}
+use Rattle.rules.specs.declared.Reason.TheVariants.{Outgrows, CounterOver}
 use Rattle.rules.specs.Name.{Name}
 use Rattle.rules.specs.Formula.{Formula, atom, constant, exponential, connective, Tensor, Par, With, Plus, Lolli}
 use Rattle.rules.specs.Term.{Term, leaf, unit}
@@ -69,6 +70,6 @@ unfoldable pub extracted : Wrong → (counter : ℕ) → Proof → Outcome (Term
 extracted w n p =
     let (size, next) = extract_by w sizes p [] n in
     elim (most_counter <? next) [
-      | true ↦ refuse counter_over 0 0
-      | false ↦ elim (size_fits limits size) [ true ↦ good (made w (extract_by w terms p [] n)) | false ↦ refuse outgrows 0 0 ]
+      | true ↦ refuse CounterOver 0 0
+      | false ↦ elim (size_fits limits size) [ true ↦ Ok (made w (extract_by w terms p [] n)) | false ↦ refuse Outgrows 0 0 ]
     ]

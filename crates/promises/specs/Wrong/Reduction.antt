@@ -4,7 +4,8 @@ use Rattle.std.specs.Prelude.{ℕ, zero, suc, true, false, ◌&&◌, if◌then�
 use Rattle.std.proofs.Math.Option.{none, some}
 use Rattle.rules.specs.Basic.{◌<?◌}
 use Rattle.rules.specs.Limits.{limits}
-use Rattle.rules.specs.Refusal.{refuse, outgrows}
+use Rattle.rules.specs.Refusal.{refuse}
+use Rattle.rules.specs.declared.Reason.TheVariants.{Outgrows}
 use Rattle.rules.specs.Term.{Term, encode}
 use Rattle.rules.specs.Step.{normal, found, is_normal_term, step_fits}
 use Rattle.rules.specs.Reduction.{zero_counts, plus, Reduced, stopped, outgrew}
@@ -49,4 +50,4 @@ reduced w limit u = if w is answers-normal then stopped 0 zero_counts true u els
 
 abbrev pub reduce_ending_by : Wrong → Reduced → Ending ReduceAnswer
 reduce_ending_by w (stopped n c b t) = reduce_ending (stopped n c b t)
-reduce_ending_by w (outgrew n t) = record { says = refuse outgrows n 0; writes = if w is leaves-output-on-8 then none else some (encode t) }
+reduce_ending_by w (outgrew n t) = record { says = refuse Outgrows n 0; writes = if w is leaves-output-on-8 then none else some (encode t) }

@@ -1,10 +1,10 @@
 -- Every public call, with something wrong or nothing.
 -- Assumes nothing: these are definitions.
-use Rattle.std.specs.Prelude.{ℕ, ◌&&◌, List, [], length, if◌then◌else◌}
+use Rattle.std.specs.Prelude.{ℕ, ◌&&◌, List, [], length, if◌then◌else◌, Ok, Err}
 use Rattle.std.proofs.Math.Option.{Option, some}
 use Rattle.rules.specs.Basic.{Bytes, ◌≤?◌}
 use Rattle.rules.specs.Limits.{limits, output_room, text_room, formula_text_room, stored_room, entry_room}
-use Rattle.rules.specs.Refusal.{Outcome, good, refused, ◌>>=◌, mapped}
+use Rattle.rules.specs.Refusal.{Outcome, ◌>>=◌, mapped}
 use Rattle.rules.specs.Name.{encode_names}
 use Rattle.rules.specs.Term.{Term, encode}
 use Rattle.rules.specs.Reading.{read_term, read_formula, read_proof, read_name}
@@ -37,10 +37,10 @@ reduce_call_by w t n o s = reduced_by w o s (lent_by w (work_room limits o s) (r
 
 -- all refused: an empty part, and the refusal
 abbrev pub part_or : Wrong → Bytes → Bytes
-part_or w s = elim (says w (good s)) [ good s' ↦ s' | refused r ↦ [] ]
+part_or w s = elim (says w (Ok s)) [ Ok s' ↦ s' | Err r ↦ [] ]
 
 abbrev pub fault_or : Wrong → Option Refusal → Option Refusal
-fault_or w f = elim (says w (good f)) [ good f' ↦ f' | refused r ↦ some r ]
+fault_or w f = elim (says w (Ok f)) [ Ok f' ↦ f' | Err r ↦ some r ]
 
 abbrev pub proof_outcome_by : Wrong → (counter : ℕ) → (proof : Bytes) → Outcome (Term × ℕ)
 proof_outcome_by w n p = do
@@ -63,8 +63,8 @@ printed_by w f t s o =
     record {
       output_length = length (patchrun_by w f);
       output = filled_by w o (answers (length (patchrun_by w f)) (patchrun_by w f));
-      term = elim (opened limits a_term f) [ good c ↦ (reduce_call_by w c program_steps t s).output | refused r ↦ t ];
-      scratch = elim (opened limits a_term f) [ good c ↦ (reduce_call_by w c program_steps t s).scratch | refused r ↦ s ];
+      term = elim (opened limits a_term f) [ Ok c ↦ (reduce_call_by w c program_steps t s).output | Err r ↦ t ];
+      scratch = elim (opened limits a_term f) [ Ok c ↦ (reduce_call_by w c program_steps t s).scratch | Err r ↦ s ];
     }
 
 unfoldable pub answered_by : Wrong → (c : Call) → Version c

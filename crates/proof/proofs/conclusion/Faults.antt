@@ -1,5 +1,9 @@
 -- A fault lies in the input or at its end: so it does for a byte, and by each way in which readings are put together.
 -- Assumes nothing.
+use Rattle.std.specs.Prelude.{Err}
+use Rattle.rules.specs.declared.Fault.{Fault}
+use Rattle.rules.specs.declared.Reason.{Reason}
+use Rattle.rules.specs.declared.Reason.TheVariants.{EndsInside, NotListed, BadName, OneTooMany, ReservedWord}
 use Prim.Native.Nat.{ℕ, zero, suc, ◌+◌, ◌-◌, ◌≤◌}
 use native.Mathlib.Omega.{arith}
 use mathlib.Core.Path.{◌≡◌, ap, ◌∙◌}
@@ -16,7 +20,7 @@ use Rattle.rules.specs.Formula.{formulas}
 use Rattle.rules.specs.Proof.{RuleHead, a_plain, a_cut, a_focus, rule_heads}
 use Rattle.rules.specs.Reading.{Got, got, bad, Reader, and_then, only, times, many, byte, byte_for, room, letters, spelled, name, listed, tag, too_many, node, rule_got, formula_got, rule_of}
 use Rattle.laws.specs.reading.Steady.{Stands, stands, stands-next}
-use Rattle.proof.specs.Seen.{Reached, NoCount, found, count_seen}
+use Rattle.proof.specs.Seen.{Reached, found, count_seen}
 use Rattle.proof.specs.Stages.{formula_of, row_of, tag_of, own_of, linear_of, count_of, top_of}
 use Rattle.proof.proofs.conclusion.Split.{count-bad}
 
@@ -45,20 +49,20 @@ module _ {S : Type 0} where
   in-byte s u at [] h = h.within
   in-byte s u at (b ∷ r) h = stands-next s at b r h
 
-  in-only : {A : Type 0} (ok : A → Bool) (n : ℕ) (m : Reader S A) → Inside m → Inside (only ok n m)
+  in-only : {A : Type 0} (ok : A → Bool) (n : Reason) (m : Reader S A) → Inside m → Inside (only ok n m)
   in-only {A} ok n m k s u at r h = go (m u at r) (k s u at r h)
     where
       go : (g : Got S A) → Lies s g → Lies s (and_then g (λ x v p r'. if ok x then got x v p r' else bad n at))
       go (got x v p r') i = chosen s (ok x) (got x v p r') (bad n at) i h.within
       go (bad k p) i = i
 
-  in-byte_for : (ok : ℕ → Bool) (n : ℕ) → Inside {S = S} (byte_for ok n)
+  in-byte_for : (ok : ℕ → Bool) (n : Reason) → Inside {S = S} (byte_for ok n)
   unfolding byte_for
   in-byte_for ok n = in-only ok n byte in-byte
 
   in-room : (n : ℕ) → Inside {S = S} (room n)
   unfolding room
-  in-room n s u at r h = chosen s (n ≤? length r) (got tt u at r) (bad 3 (at + length r)) h (omega (arith, h.within, ap length h.rest ∙ length-drop at s))
+  in-room n s u at r h = chosen s (n ≤? length r) (got tt u at r) (bad EndsInside (at + length r)) h (omega (arith, h.within, ap length h.rest ∙ length-drop at s))
 
   module _ {A : Type 0} (m : Reader S A) (h : Inside m) where
     in-times : (n : ℕ) → Inside (times m n)
@@ -74,21 +78,21 @@ module _ {S : Type 0} where
   in_letters : (n : ℕ) → Inside {S = S} (letters n)
   unfolding letters
   in_letters n =
-      in_then (byte_for leads 5) _ (in-byte_for leads 5) (λ b.
-      in_then (many (byte_for follows 5) (n - 1)) _ (in-many (byte_for follows 5) (in-byte_for follows 5) (n - 1)) (λ bs s u at r h. h))
+      in_then (byte_for leads BadName) _ (in-byte_for leads BadName) (λ b.
+      in_then (many (byte_for follows BadName) (n - 1)) _ (in-many (byte_for follows BadName) (in-byte_for follows BadName) (n - 1)) (λ bs s u at r h. h))
 
   in-name : (P : Spelling) → Inside {S = S} (name P)
   unfolding name spelled
   in-name P =
-      in_then (byte_for (between 1 P.longest) 5) _ (in-byte_for (between 1 P.longest) 5) (λ n.
-      in_then (room n) _ (in-room n) (λ _. in-only P.allowed 15 (letters n) (in_letters n)))
+      in_then (byte_for (between 1 P.longest) BadName) _ (in-byte_for (between 1 P.longest) BadName) (λ n.
+      in_then (room n) _ (in-room n) (λ _. in-only P.allowed ReservedWord (letters n) (in_letters n)))
 
 in-tag : {H : Type 0} (most : ℕ) (heads : ℕ → Option H) → Inside (tag most heads)
 unfolding tag byte
 in-tag most heads s u at [] h = h.within
 in-tag {H} most heads s u at (b ∷ r) h = go (u <? most) (heads b)
   where
-    go : (t : Bool) (o : Option H) → Lies s (if t then listed u at (at + 1) r o else bad 6 at)
+    go : (t : Bool) (o : Option H) → Lies s (if t then listed u at (at + 1) r o else bad OneTooMany at)
     go true none = h.within
     go true (some k) = stands-next s at b r h
     go false o = h.within
@@ -131,10 +135,10 @@ module _ (L : Limits) where
   in_top =
       in_then (own_of L) _ (in_then (tag_of L) _ in-rule-tag in-carried) (λ r.
       in_then (linear_of L) _ (in_then byte _ in-byte (in-many (formula_of L) in-formula)) (λ l.
-      in_then count_of _ (in-byte_for (◌≤? 3) 4) (λ n s u at r h. h)))
+      in_then count_of _ (in-byte_for (◌≤? 3) NotListed) (λ n s u at r h. h)))
 
-  pub top-fault : (s : Bytes) (from : Reached) → from.next ≤ length s → {n p : ℕ} → count_seen (λ x. x.premises) (found (top_of L) s from) ≡ NoCount n p → p ≤ length s
-  top-fault s from h {n} {p} e =
+  pub top-fault : (s : Bytes) (from : Reached) → from.next ≤ length s → {f : Fault} → count_seen (λ x. x.premises) (found (top_of L) s from) ≡ Err f → f.place ≤ length s
+  top-fault s from h {f} e =
       let g = found (top_of L) s from in
       let b = count-bad (λ x. x.premises) g e in
       let i : Lies s g = in_top s _ from.next _ (stands s from.next h) in

@@ -4,22 +4,21 @@ use Prim.Native.Nat.{ℕ, zero, suc}
 use mathlib.Core.Path.{◌≡◌, refl, sym, ap, ◌∙◌}
 use mathlib.Core.List.{◌∷◌}
 use lib.ListN.{drop}
+use Rattle.std.specs.Prelude.{Ok, Err}
 use Rattle.rules.specs.Basic.{Bytes}
 use Rattle.rules.specs.Layout.{Tuple}
 use Rattle.rules.specs.Formula.{formulas}
 use Rattle.rules.specs.Reading.{Got, got, bad, Reader, and_then, pure, times, many, node, formula_got, counting_formulas}
-use Rattle.reader.specs.declared.class.Read.{Read}
-use Rattle.reader.specs.declared.class.Read.TheVariants.{Whole, Bad}
-use Rattle.reader.specs.View.{view}
+use Rattle.reader.specs.View.{view, Read}
 use Rattle.reader.proofs.class.Views.{view_made}
-use Rattle.proof.specs.Seen.{Reached, Most, Reading, To, Fault, seen, found, within}
+use Rattle.proof.specs.Seen.{Reached, Most, Reading, seen, found, within}
 use Rattle.proof.specs.Stages.{row_of}
 use Rattle.proof.proofs.conclusion.Views.{seen-made}
 
 -- what a row of nodes says, where k rules were met
 abbrev pub after_rules : ℕ → Read → Reading
-after_rules k (Whole p u) = To (record { next = p; rules = k; formulas = u })
-after_rules k (Bad n p) = Fault n p
+after_rules k (Ok q) = Ok (record { next = q.next; rules = k; formulas = q.met })
+after_rules k (Err f) = Err f
 
 abbrev pair : {A : Type 0} (n : ℕ) → A → Tuple A n → Tuple A (suc n)
 pair n x xs = (x, xs)

@@ -5,13 +5,15 @@ use mathlib.Core.Path.{◌≡◌, refl, sym, ap, ◌∙◌}
 use mathlib.Core.List.{[], ◌∷◌}
 use lib.ListN.{length, drop}
 use borrow.Author.Tests.{le-ltb}
+use Rattle.std.specs.Prelude.{Err}
+use Rattle.rules.specs.declared.Fault.{Fault}
 use Rattle.rules.specs.Basic.{Bytes}
 use Rattle.rules.specs.Limits.{Limits}
 use Rattle.rules.specs.Proof.{Proof, proof, row}
 use Rattle.rules.specs.Reading.{Got, got, bad, Reader, Met, and_then, pure, many, byte, tag, too_many, rule_of, proof_at}
 use Rattle.laws.specs.reading.Holds.{told}
 use Rattle.laws.specs.reading.Steady.{steady-got}
-use Rattle.proof.specs.Seen.{Reached, Before, NoCount, met_by, found, count_seen}
+use Rattle.proof.specs.Seen.{Reached, Conclusion, met_by, reached, found, count_seen, before}
 use Rattle.proof.specs.Stages.{formula_of, row_of, tag_of, own_of, linear_of, count_of, Top, top_of}
 use Rattle.proof.proofs.conclusion.Ways.{steady-top, Ruled, top-ruled}
 
@@ -65,16 +67,20 @@ pub record Topped (L : Limits) (s : Bytes) (from q : Reached) (n : ℕ) : Type 0
   pub inside : q.next ≤ length s
   pub ruled : Ruled L (met_by from) from.next (met_by q) q.next
 
-count-got : {A : Type 0} (i : A → ℕ) (g : Got Met A) {q : Reached} {n : ℕ} → count_seen i g ≡ Before q n → (x : A) × (r : Bytes) × (g ≡ got x (met_by q) q.next r) × (i x ≡ n)
-count-got i (got x u p r) e = (x, r, cc, cc)
+count-got : {A : Type 0} (i : A → ℕ) (g : Got Met A) {q : Reached} {n : ℕ} → count_seen i g ≡ before q n → (x : A) × (r : Bytes) × (g ≡ got x (met_by q) q.next r) × (i x ≡ n)
+count-got i (got x u p r) {q} {n} e =
+    let z : ◌≡◌ {A = Conclusion} (record { reached = reached u p; premises = i x }) (record { reached = q; premises = n }) = cc in
+    (x, r, ap (λ (c : Conclusion). got x (met_by c.reached) c.reached.next r) z, ap (λ (c : Conclusion). c.premises) z)
 count-got i (bad n' p) e = absurd (let z : ◌≡◌ {A = ℕ} 0 1 = cc in omega arith)
 
-pub count-bad : {A : Type 0} (i : A → ℕ) (g : Got Met A) {n p : ℕ} → count_seen i g ≡ NoCount n p → g ≡ bad n p
+pub count-bad : {A : Type 0} (i : A → ℕ) (g : Got Met A) {f : Fault} → count_seen i g ≡ Err f → g ≡ bad f.reason f.place
 count-bad i (got x u p r) e = absurd (let z : ◌≡◌ {A = ℕ} 0 1 = cc in omega arith)
-count-bad i (bad n' p') e = cc
+count-bad i (bad n' p') {f} e =
+    let z : ◌≡◌ {A = Fault} (record { reason = n'; place = p' }) f = cc in
+    ap (λ (g : Fault). bad g.reason g.place) z
 
 module _ (L : Limits) (s : Bytes) (from : Reached) where
-  pub topped : from.next ≤ length s → {q : Reached} {n : ℕ} → count_seen (λ x. x.premises) (found (top_of L) s from) ≡ Before q n → Topped L s from q n
+  pub topped : from.next ≤ length s → {q : Reached} {n : ℕ} → count_seen (λ x. x.premises) (found (top_of L) s from) ≡ before q n → Topped L s from q n
   topped h {q} {n} e =
       let g = found (top_of L) s from in
       let w = count-got (λ x. x.premises) g e in

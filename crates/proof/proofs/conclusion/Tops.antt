@@ -2,10 +2,12 @@
 -- Assumes nothing.
 use Prim.Native.Nat.{ℕ}
 use mathlib.Core.Path.{◌≡◌, refl}
+use Rattle.std.specs.Prelude.{Result, Err}
+use Rattle.rules.specs.declared.Fault.{Fault}
 use Rattle.rules.specs.Basic.{Bytes}
 use Rattle.rules.specs.Limits.{Limits}
 use Rattle.rules.specs.Reading.{Got, got, bad, Met, and_then}
-use Rattle.proof.specs.Seen.{Reached, Conclusion, Fault, NoCount, seen, found, count_seen}
+use Rattle.proof.specs.Seen.{Reached, Conclusion, seen, found, count_seen}
 use Rattle.proof.specs.Stages.{own_of, linear_of, count_of, top_of}
 use Rattle.proof.proofs.conclusion.Views.{seen-bad, Came}
 
@@ -14,17 +16,17 @@ count-made (got x u p r) f i j e = rw (e x)
 count-made (bad n p) f i j e = refl
 
 module _ (L : Limits) (s : Bytes) (from : Reached) where
-  abbrev top : Conclusion
+  abbrev top : Result Conclusion Fault
   top = count_seen (λ x. x.premises) (found (top_of L) s from)
 
-  pub top-no-rule : (n p : ℕ) → seen (found (own_of L) s from) ≡ Fault n p → top ≡ NoCount n p
+  pub top-no-rule : (f : Fault) → seen (found (own_of L) s from) ≡ Err f → top ≡ Err f
   unfolding top_of
-  top-no-rule n p e = rw (seen-bad (found (own_of L) s from) e)
+  top-no-rule f e = rw (seen-bad (found (own_of L) s from) e)
 
   module _ {q : Reached} (own : Came s (found (own_of L) s from) q) where
-    pub top-no-linear : (n p : ℕ) → seen (found (linear_of L) s q) ≡ Fault n p → top ≡ NoCount n p
+    pub top-no-linear : (f : Fault) → seen (found (linear_of L) s q) ≡ Err f → top ≡ Err f
     unfolding top_of
-    top-no-linear n p e = rw (own.is, seen-bad (found (linear_of L) s q) e)
+    top-no-linear f e = rw (own.is, seen-bad (found (linear_of L) s q) e)
 
     pub top-on : {q' : Reached} → Came s (found (linear_of L) s q) q' → top ≡ count_seen (λ n. n) (found count_of s q')
     unfolding top_of

@@ -5,6 +5,7 @@ use Prim.Native.Nat.{ℕ, ◌+◌, ◌<◌, ◌≤◌}
 use native.Mathlib.Omega.{arith}
 use mathlib.Core.Path.{◌≡◌, refl, ◌∙◌}
 use mathlib.Core.List.{◌∷◌}
+use Rattle.rules.specs.declared.Reason.TheVariants.{NotListed}
 use Rattle.rules.specs.Basic.{Bytes, ◌≤?◌}
 use Rattle.rules.specs.Limits.{Limits}
 use Rattle.rules.specs.Layout.{head_by_tag}
@@ -34,7 +35,7 @@ module _ (R : Met → ℕ → Bytes → Met → ℕ → Bytes → Type 0) (k : K
 
   keeps-count : Keeps R count_of
   unfolding count_of
-  keeps-count = keeps-byte_for R k (◌≤? 3) 4
+  keeps-count = keeps-byte_for R k (◌≤? 3) NotListed
 
   module _ (T : Met → ℕ → Bytes → Met → ℕ → Bytes → Type 0) (b : Begins L T R) where
     makes-tag : Keeps T (tag_of L)

@@ -9,12 +9,14 @@ use lib.ListN.{length, get_or, drop, length-append}
 use Rattle.rules.specs.Basic.{Bytes}
 use Rattle.rules.specs.Layout.{head_by_tag}
 use Rattle.rules.specs.Formula.{Formula, encode_formula}
-use Rattle.rules.specs.Proof.{Proof, proof, Premises, done, ◌then◌, premise_count, Rule, plain, cut, focus, rule_heads, encode_proof, encode_premises}
+use Rattle.rules.specs.Proof.{Proof, proof, Premises, done, ◌then◌, premise_count, Rule, plain, cut, focus, FocusPositive, FocusNegative, rule_heads, encode_proof, encode_premises}
 use Rattle.laws.specs.reading.Lists.{joined, formulas-joined}
 use Rattle.laws.specs.reading.WrittenProof.{head_of, head_at, carried, rule-bytes}
 use Rattle.term.proofs.node.Names.{drop_app, head_byte, long}
 use Rattle.proof.specs.Place.{FormulaAt, FormulasAt, ProofAt, formulas_long}
-use Rattle.proof.specs.Seen.{carried_of}
+use mathlib.Core.Logic.{◌⊎◌, inl, inr}
+use Rattle.std.specs.Prelude.{Option, Some as Given}
+use Rattle.proof.specs.Seen.{Carries, Formula as AFormula, Index as AnIndex, carried_of}
 use Rattle.proof.specs.Shape.{rule_of, linear_of, premises_of, listed, rule_tag, proof_head, Sees}
 use Rattle.proof.specs.declared.rule.Looked.{Looked}
 use Rattle.proof.proofs.rule.Items.{Spelt, Some, SkipIs, skip-one, at-bytes, at-inside, some_alone}
@@ -42,28 +44,36 @@ proof-apart (proof x l ps) =
 pub proofs-spelt : Spelt encode_proof proof_head premises_of
 proofs-spelt = record { apart = proof-apart; big = λ p. omega arith }
 
--- ---- what a rule carries, by the number that its tag has for it
+-- ---- what a rule carries, by its tag
 
-abbrev number : Rule → ℕ
-number x = carried_of (some (head_of x))
+abbrev borne : Rule → Option Carries
+borne x = carried_of (some (head_of x))
 
-number_at : (x : Rule) (t : ℕ) → t ≡ rule_tag x → carried_of (head_by_tag rule_heads t) ≡ number x
-number_at x t e = ap (λ (k : ℕ). carried_of (head_by_tag rule_heads k)) e ∙ ap carried_of (head_at (head_of x))
+borne_at : (x : Rule) (t : ℕ) → t ≡ rule_tag x → carried_of (head_by_tag rule_heads t) ≡ borne x
+borne_at x t e = ap (λ (k : ℕ). carried_of (head_by_tag rule_heads k)) e ∙ ap carried_of (head_at (head_of x))
 
-carries-formula : (x : Rule) → number x ≡ 2 → (f : Formula) × (x ≡ cut f)
-carries-formula (plain k) e = absurd (omega (arith, e))
+carries-formula : (x : Rule) → borne x ≡ Given AFormula → (f : Formula) × (x ≡ cut f)
+carries-formula (plain k) e = absurd (let z : ◌≡◌ {A = ℕ} 0 1 = cc in omega arith)
 carries-formula (cut f) e = (f, refl)
-carries-formula (focus k n) e = absurd (omega (arith, e))
+carries-formula (focus k n) e = absurd (let z : ◌≡◌ {A = ℕ} 0 1 = cc in omega arith)
 
-carries-index : (x : Rule) → number x ≡ 3 → length (carried x) ≡ 2
-carries-index (plain k) e = absurd (omega (arith, e))
-carries-index (cut f) e = absurd (omega (arith, e))
+carries-index : (x : Rule) → borne x ≡ Given AnIndex → length (carried x) ≡ 2
+carries-index (plain k) e = absurd (let z : ◌≡◌ {A = ℕ} 0 1 = cc in omega arith)
+carries-index (cut f) e = absurd (let z : ◌≡◌ {A = ℕ} 0 1 = cc in omega arith)
 carries-index (focus k n) e = refl
 
-carries-nothing : (x : Rule) → (number x ≡ 2 → ⊥) → (number x ≡ 3 → ⊥) → length (carried x) ≡ 0
-carries-nothing (plain k) a b = refl
-carries-nothing (cut f) a b = absurd (a refl)
-carries-nothing (focus k n) a b = absurd (b refl)
+cut-tagged : (x : Rule) → rule_tag x ≡ 2 → (f : Formula) × (x ≡ cut f)
+cut-tagged x e = carries-formula x (sym (borne_at x 2 (sym e)))
+
+focus-tagged : (x : Rule) → (rule_tag x ≡ 16) ⊎ (rule_tag x ≡ 17) → length (carried x) ≡ 2
+focus-tagged x (inl e) = carries-index x (sym (borne_at x 16 (sym e)))
+focus-tagged x (inr e) = carries-index x (sym (borne_at x 17 (sym e)))
+
+plain-tagged : (x : Rule) → (rule_tag x ≡ 2 → ⊥) → (rule_tag x ≡ 16 → ⊥) → (rule_tag x ≡ 17 → ⊥) → length (carried x) ≡ 0
+plain-tagged (plain k) c p n = refl
+plain-tagged (cut f) c p n = absurd (c refl)
+plain-tagged (focus FocusPositive k) c p n = absurd (p refl)
+plain-tagged (focus FocusNegative k) c p n = absurd (n refl)
 
 -- ---- at a place
 
@@ -148,28 +158,27 @@ module _ (s : Bytes) (i : ℕ) where
   pub here-inside : Here s i → i < length s
   here-inside (p, w) = rule-inside s i p w
 
-  -- what the code makes of the tag
-  module _ (k : ℕ) (is : k ≡ carried_of (head_by_tag rule_heads (get_or s i 0))) where
-    is_number : (p : Proof) → ProofAt s i p → k ≡ number (rule_of p)
-    is_number p w = is ∙ number_at (rule_of p) (get_or s i 0) (rule-tag s i p w)
+  -- by the tag
+  some-cut : get_or s i 0 ≡ 2 → (p : Proof) → ProofAt s i p → (f : Formula) × (rule_of p ≡ cut f)
+  some-cut e p w = cut-tagged (rule_of p) (sym (rule-tag s i p w) ∙ e)
 
-    some-cut : k ≡ 2 → (p : Proof) → ProofAt s i p → (f : Formula) × (rule_of p ≡ cut f)
-    some-cut e p w = carries-formula (rule_of p) (sym (is_number p w) ∙ e)
+  pub formula-some : get_or s i 0 ≡ 2 → Here s i → Some encode_formula s (i + 1) 1
+  formula-some e (p, w) = let (f, g) = some-cut e p w in some_alone encode_formula s (i + 1) (f, cut-formula s i p w f g)
 
-    pub formula-some : k ≡ 2 → Here s i → Some encode_formula s (i + 1) 1
-    formula-some e (p, w) = let (f, g) = some-cut e p w in some_alone encode_formula s (i + 1) (f, cut-formula s i p w f g)
+  pub formula-past : get_or s i 0 ≡ 2 → (q : ℕ) → SkipIs encode_formula s (i + 1) 1 q → OwnIs s i q
+  formula-past e q h p w =
+      let (f, g) = some-cut e p w in
+      let a : q ≡ i + 1 + length (encode_formula f) = skip-one encode_formula s (i + 1) q h f (cut-formula s i p w f g) in
+      a ∙ ap (λ (x : Rule). i + 1 + length (carried x)) (sym g)
 
-    pub formula-past : k ≡ 2 → (q : ℕ) → SkipIs encode_formula s (i + 1) 1 q → OwnIs s i q
-    formula-past e q h p w =
-        let (f, g) = some-cut e p w in
-        let a : q ≡ i + 1 + length (encode_formula f) = skip-one encode_formula s (i + 1) q h f (cut-formula s i p w f g) in
-        a ∙ ap (λ (x : Rule). i + 1 + length (carried x)) (sym g)
+  pub index-past : {P : Type 0} → (get_or s i 0 ≡ 16) ⊎ (P × (get_or s i 0 ≡ 17)) → OwnIs s i (i + 1 + 2)
+  index-past (inl e) p w = omega (arith, focus-tagged (rule_of p) (inl (sym (rule-tag s i p w) ∙ e)))
+  index-past (inr e) p w = omega (arith, focus-tagged (rule_of p) (inr (sym (rule-tag s i p w) ∙ e.1)))
 
-    pub index-past : k ≡ 3 → OwnIs s i (i + 1 + 2)
-    index-past e p w = omega (arith, carries-index (rule_of p) (sym (is_number p w) ∙ e))
-
-    pub nothing-past : (k ≡ 2 → ⊥) → (k ≡ 3 → ⊥) → OwnIs s i (i + 1)
-    nothing-past a b p w = omega (arith, carries-nothing (rule_of p) (λ e. a (is_number p w ∙ e)) (λ e. b (is_number p w ∙ e)))
+  pub nothing-past : (get_or s i 0 ≡ 2 → ⊥) → (get_or s i 0 ≡ 16 → ⊥) → (get_or s i 0 ≡ 17 → ⊥) → OwnIs s i (i + 1)
+  nothing-past c f n p w =
+      let t = rule-tag s i p w in
+      omega (arith, plain-tagged (rule_of p) (λ e. c (t ∙ e)) (λ e. f (t ∙ e)) (λ e. n (t ∙ e)))
 
   pub own_room : (q : ℕ) → OwnIs s i q → Here s i → q < length s
   own_room q f (p, w) = omega (arith, f p w, own-fits s i p w)

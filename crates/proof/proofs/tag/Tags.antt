@@ -1,41 +1,42 @@
 -- What reading a rule's tag finds, by the tests that the code makes: no byte, one tag too many, or what the tag carries.
 -- Assumes nothing.
+use Rattle.reader.specs.View.{fault}
+use Rattle.rules.specs.declared.Reason.TheVariants.{EndsInside, NotListed, OneTooMany}
 use Prim.Native.Nat.{ℕ, ◌+◌, ◌<◌, ◌≤◌}
 use native.Mathlib.Omega.{arith}
-use mathlib.Core.Path.{◌≡◌, refl, sym, ap, ◌∙◌}
-use mathlib.Core.Bool.{Bool, true, false}
+use mathlib.Core.Path.{◌≡◌, refl, sym, ◌∙◌}
 use mathlib.Core.List.{[], ◌∷◌}
-use mathlib.Core.Option.{Option, none, some}
+use mathlib.Core.Option.{Option as Perhaps, none, some}
 use lib.ListN.{length, get_or, drop}
 use borrow.Author.Tests.{lt-ltb, le-ltb, ltb-true}
-use Rattle.std.specs.Prelude.{if◌then◌else◌, ◌==◌}
+use Rattle.std.specs.Prelude.{Result, Ok, Option}
+use Rattle.std.specs.Option.{ok_or}
 use Rattle.rules.specs.Basic.{Bytes, ◌<?◌}
 use Rattle.rules.specs.Layout.{head_by_tag}
-use Rattle.rules.specs.Proof.{RuleHead, a_plain, a_cut, a_focus, rule_heads}
+use Rattle.rules.specs.Proof.{RuleHead, rule_heads}
 use Rattle.rules.specs.Reading.{Got, got, bad, byte, listed, tag}
 use Rattle.laws.specs.reading.Holds.{Holds, chosen, told as read}
 use Rattle.laws.specs.reading.Steady.{steady-got, steady-tag}
-use Rattle.proof.specs.Seen.{Tag, Plain, Cut, Focus, NoTag, carries, carried_of, tag_seen}
+use Rattle.rules.specs.declared.Fault.{Fault}
+use Rattle.proof.specs.Seen.{Carries, carries, carried_of, tag_seen}
 use Rattle.reader.proofs.class.Views.{rest_in, rest_out}
 
-abbrev pub shown : (at carried : ℕ) → Tag
-shown at k = if k == 0 then NoTag 4 at else (if k == 1 then Plain else (if k == 2 then Cut else Focus))
+abbrev pub shown : (at : ℕ) → Option Carries → Result Carries Fault
+shown at o = ok_or o (record { reason = NotListed; place = at })
 
-by-carried : (used at next : ℕ) (r : Bytes) (o : Option RuleHead) → tag_seen (listed used at next r o) ≡ shown at (carried_of o)
+by-carried : (used at next : ℕ) (r : Bytes) (o : Perhaps RuleHead) → tag_seen (listed used at next r o) ≡ shown at (carried_of o)
 by-carried used at next r none = refl
-by-carried used at next r (some (a_plain k)) = refl
-by-carried used at next r (some a_cut) = refl
-by-carried used at next r (some (a_focus k)) = refl
+by-carried used at next r (some h) = refl
 
 module _ (s : Bytes) (at used most : ℕ) where
-  abbrev told : Tag
+  abbrev told : Result Carries Fault
   told = tag_seen (tag most (head_by_tag rule_heads) used at (drop at s))
 
-  pub tag-out : length s ≤ at → told ≡ NoTag 3 at
+  pub tag-out : length s ≤ at → told ≡ fault EndsInside at
   unfolding tag byte
   tag-out h = rw (rest_out s at h)
 
-  pub tag-full : at < length s → most ≤ used → told ≡ NoTag 6 at
+  pub tag-full : at < length s → most ≤ used → told ≡ fault OneTooMany at
   unfolding tag byte
   tag-full h l = rw (rest_in s at h) (simp (le-ltb used most l))
 
@@ -56,38 +57,32 @@ unfolding tag byte
 tag-holds most u at [] = tt
 tag-holds most u at (b ∷ r) = chosen _ (u <? most) _ _ (λ e. go (ltb-true _ _ e) (head_by_tag rule_heads b)) (λ e. tt)
   where
-    go : u < most → (o : Option RuleHead) → Holds (λ h v p r'. Tagged most u at (b ∷ r) v p r') (listed u at (at + 1) r o)
+    go : u < most → (o : Perhaps RuleHead) → Holds (λ h v p r'. Tagged most u at (b ∷ r) v p r') (listed u at (at + 1) r o)
     go l none = tt
     go l (some h) = record { first = b; bytes = refl; next = refl; met = refl; room = l }
 
-abbrev pub known : Tag → Bool
-known Plain = true
-known Cut = true
-known Focus = true
-known (NoTag n p) = false
-
-seen-tag : (g : Got ℕ RuleHead) (k : Tag) → tag_seen g ≡ k → known k ≡ true → (h : RuleHead) × (v : ℕ) × (p : ℕ) × (r : Bytes) × (g ≡ got h v p r)
-seen-tag (got h v p r) k e i = (h, v, p, r, refl)
-seen-tag (bad n p) k e i = absurd (let f : false ≡ true = ap known e ∙ i in let z : ◌≡◌ {A = ℕ} 0 1 = cc in omega arith)
+seen-tag : (g : Got ℕ RuleHead) (k : Carries) → tag_seen g ≡ Ok k → (h : RuleHead) × (v : ℕ) × (p : ℕ) × (r : Bytes) × ((g ≡ got h v p r) × (carries h ≡ k))
+seen-tag (got h v p r) k e = (h, v, p, r, (refl, cc))
+seen-tag (bad n p) k e = absurd (let z : ◌≡◌ {A = ℕ} 0 1 = cc in omega arith)
 
 -- The same, from what the code tells: the head that was read, and what is left.
-pub record Headed (s : Bytes) (at used most : ℕ) (k : Tag) : Type 0 where
+pub record Headed (s : Bytes) (at used most : ℕ) (k : Carries) : Type 0 where
   pub head : RuleHead
   pub is : tag most (head_by_tag rule_heads) used at (drop at s) ≡ got head (used + 1) (at + 1) (drop (at + 1) s)
   pub carried : carries head ≡ k
   pub room : used < most
   pub inside : at < length s
 
-pub headed : (s : Bytes) (at used most : ℕ) (k : Tag) → at ≤ length s → k ≡ tag_seen (tag most (head_by_tag rule_heads) used at (drop at s)) → known k ≡ true → Headed s at used most k
-headed s at used most k h e i =
+pub headed : (s : Bytes) (at used most : ℕ) (k : Carries) → at ≤ length s → Ok k ≡ tag_seen (tag most (head_by_tag rule_heads) used at (drop at s)) → Headed s at used most k
+headed s at used most k h e =
     let g = tag most (head_by_tag rule_heads) used at (drop at s) in
-    let w = seen-tag g k (sym e) i in
-    let t : Tagged most used at (drop at s) w.1 w.2 w.3 = read (λ h v p r'. Tagged most used at (drop at s) v p r') g (tag-holds most used at (drop at s)) w.4 in
-    let d = steady-got (tag most (head_by_tag rule_heads)) (steady-tag most (head_by_tag rule_heads)) s used at h w.4 in
+    let w = seen-tag g k (sym e) in
+    let t : Tagged most used at (drop at s) w.1 w.2 w.3 = read (λ h v p r'. Tagged most used at (drop at s) v p r') g (tag-holds most used at (drop at s)) w.4.0 in
+    let d = steady-got (tag most (head_by_tag rule_heads)) (steady-tag most (head_by_tag rule_heads)) s used at h w.4.0 in
     record {
       head = w.0;
-      is = w.4 ∙ cc (t.met, t.next, d.rest);
-      carried = ap tag_seen (sym w.4) ∙ sym e;
+      is = w.4.0 ∙ cc (t.met, t.next, d.rest);
+      carried = w.4.1;
       room = t.room;
       inside = omega (arith, t.next, d.within);
     }

@@ -5,6 +5,7 @@ use mathlib.Core.List.{List, [], ◌∷◌}
 use mathlib.Core.Option.{Option, none, some}
 use native.Mathlib.Omega.{arith}
 use lib.ListN.{length, get_or}
+use Rattle.std.specs.Prelude.{Option as Found, Some as Given, None as Nothing, true, false, is_some}
 use Rattle.rules.specs.Basic.{Bytes}
 use Rattle.rules.specs.Name.{Name}
 use Rattle.rules.specs.Formula.{Formula, atom, constant, exponential, connective, Sign, plain, negated, tag_of_sign, encode_formula}
@@ -13,11 +14,12 @@ use Rattle.draft.specs.Draft.{name_of}
 use Rattle.proof.specs.Place.{FormulaAt}
 use Rattle.proof.specs.Shape.{formula_tag}
 use Rattle.proof_draft.specs.Entry.{EntriesAt}
+use Rattle.proof_draft.specs.declared.axiom.Label.{Label}
 use Rattle.proof_draft.specs.declared.entry.CutEntry.{CutEntry}
 use Rattle.proof.proofs.rule.Items.{Some, SkipIs, skip-one, first, others, some_alone}
 use Rattle.proof.proofs.rule.Formulas.{formula-tag, formula-inside, is-atom, atom-here}
 use Rattle.proof_draft.proofs.axiom.Stems.{own_name}
-use Rattle.proof_draft.specs.Searching.{Row, Takes}
+use Rattle.proof_draft.specs.Searching.{name_said, Given as Of, Gives, Listed, Takes}
 use Rattle.proof_draft.proofs.axiom.Opposites.{Sought, Finds}
 
 -- ---- one formula
@@ -43,22 +45,15 @@ is-negated plain e = absurd (e refl)
 is-negated negated e = refl
 
 module _ (s : Bytes) (row : List CutEntry) (k : ℕ) where
-  abbrev pub Given : ℕ → Type 0
-  Given i = (f : Formula) × (es : Entries) × FormulaAt s i f × EntriesAt s row k es
-
-  -- the formula at i gives this by itself
-  abbrev pub Gives : ℕ → Option Name → Type 0
-  Gives i o = (f : Formula) (es : Entries) → FormulaAt s i f → EntriesAt s row k es → o ≡ axiom_name es (f ∷ [])
-
   module _ (i : ℕ) where
-    pub given_inside : Given i → i < length s
+    pub given_inside : Of s row k i → i < length s
     given_inside (f, es, v, w) = formula-inside s i f v
 
-    pub gives-silent : 2 < get_or s i 0 → Gives i none
+    pub gives-silent : 2 < get_or s i 0 → Gives s row k i none
     gives-silent h f es v w = silent es f (omega (arith, formula-tag s i f v))
 
     module _ (low : get_or s i 0 < 3) where
-      pub atom-sought : Given i → Sought s i row k
+      pub atom-sought : Of s row k i → Sought s i row k
       atom-sought (f, es, v, w) = let (g, a, u) = atom-here s i (f, v) low in (g, a, es, u, w)
 
       module _ (o : Option Name) (find : Finds s i row k o) where
@@ -66,19 +61,19 @@ module _ (s : Bytes) (row : List CutEntry) (k : ℕ) where
             → or_itself g a z none ≡ axiom_name es (atom g a ∷ [])
         gives-atom g a es v w z e = atom-gives es g a z (sym e ∙ find g a es v w)
 
-        pub gives-entry : (y : Name) → o ≡ some y → Gives i (some y)
+        pub gives-entry : (y : Name) → o ≡ some y → Gives s row k i (some y)
         gives-entry y e f es v w =
             let (g, a, q) = is-atom f (omega (arith, formula-tag s i f v)) in
             rw q (gives-atom g a es (rw q at v) w (some y) e)
 
-        pub gives-own : get_or s i 0 ≡ 1 → o ≡ none → Gives i (some (name_of s (i + 1) 0))
+        pub gives-own : get_or s i 0 ≡ 1 → o ≡ none → Gives s row k i (some (name_of s (i + 1) 0))
         gives-own t e f es v w =
             let (g, a, q) = is-atom f (omega (arith, formula-tag s i f v)) in
             let u : FormulaAt s i (atom g a) = rw q at v in
             let p : g ≡ plain = is_plain g (sym (formula-tag s i (atom g a) u) ∙ t) in
             rw q (ap some (own_name s i g a u) ∙ ap (λ (h : Sign). or_itself h a none none) (sym p) ∙ gives-atom g a es u w none e)
 
-        pub gives_nothing : (get_or s i 0 ≡ 1 → ⊥) → o ≡ none → Gives i none
+        pub gives_nothing : (get_or s i 0 ≡ 1 → ⊥) → o ≡ none → Gives s row k i none
         gives_nothing t e f es v w =
             let (g, a, q) = is-atom f (omega (arith, formula-tag s i f v)) in
             let u : FormulaAt s i (atom g a) = rw q at v in
@@ -104,17 +99,21 @@ axiom-split es (exponential k f) fs = refl
 axiom-split es (connective k f g) fs = refl
 
 module _ (s : Bytes) (row : List CutEntry) (k : ℕ) where
+  pub gives-none : (i : ℕ) (q : Found Label) → Gives s row k i (name_said s q) → is_some q ≡ false → Gives s row k i none
+  gives-none i (Given q) g e = cc
+  gives-none i Nothing g e = g
+
   pub takes_none : (i n : ℕ) → n ≡ 0 → Takes s row k i n none
   unfolding axiom_name
   takes_none i n z [] es v w = refl
   takes_none i n z (f ∷ fs) es v w = absurd (omega (arith, v.many))
 
   module _ (i n : ℕ) (h : 0 < n) where
-    pub row_first : Row s row k i n → Given s row k i
+    pub row_first : Listed s row k i n → Of s row k i
     row_first ([], es, v, w) = absurd (omega (arith, v.many))
     row_first (f ∷ fs, es, v, w) = (f, es, first encode_formula s i n f fs v, w)
 
-    pub row_one : Row s row k i n → Some encode_formula s i 1
+    pub row_one : Listed s row k i n → Some encode_formula s i 1
     row_one r = let (f, es, v, w) = row_first r in some_alone encode_formula s i (f, v)
 
     pub takes_first : (y : Name) → Gives s row k i (some y) → Takes s row k i n (some y)
@@ -122,8 +121,12 @@ module _ (s : Bytes) (row : List CutEntry) (k : ℕ) where
     takes_first y g (f ∷ fs) es v w =
         sym (axiom-split es f fs ∙ ap (λ (o : Option Name). or_else o (axiom_name es fs)) (sym (g f es (first encode_formula s i n f fs v) w)))
 
+    pub takes-found : (q : Found Label) → Gives s row k i (name_said s q) → is_some q ≡ true → Takes s row k i n (name_said s q)
+    takes-found (Given q) g e = takes_first (name_of s q.stem q.number) g
+    takes-found Nothing g e = cc
+
     module _ (j : ℕ) (d : SkipIs encode_formula s i 1 j) where
-      pub row_next : Row s row k i n → Row s row k j (n - 1)
+      pub row_next : Listed s row k i n → Listed s row k j (n - 1)
       row_next ([], es, v, w) = absurd (omega (arith, v.many))
       row_next (f ∷ fs, es, v, w) = (fs, es, others encode_formula s i n f fs v j (skip-one encode_formula s i j d f (first encode_formula s i n f fs v)), w)
 

@@ -15,6 +15,7 @@ use Rattle.rules.specs.Name.{Name, same}
 use Rattle.rules.specs.Formula.{Formula, atom, constant, exponential, connective, Sign, plain, negated, tag_of_sign, One}
 use Rattle.rules.specs.Extraction.{Entries, fresh, stem_for, opposes, cuts_atom, oldest}
 use Rattle.draft.specs.Draft.{name_of}
+use Rattle.draft.specs.Made.{most_number}
 use Rattle.term.specs.Place.{NameAt}
 use Rattle.term.proofs.node.Names.{name-part, name-room, SameIs}
 use Rattle.proof.specs.Place.{FormulaAt}
@@ -22,7 +23,6 @@ use Rattle.proof.specs.Shape.{formula_tag}
 use Rattle.proof_draft.specs.Entry.{EntriesAt, entry_at, in_row}
 use Rattle.proof_draft.specs.declared.entry.CutEntry.{CutEntry}
 use Rattle.proof.proofs.rule.Formulas.{formula-tag, formula-inside, is-atom, atom-name}
-use Rattle.proof_draft.specs.Searching.{Left}
 use Rattle.proof_draft.proofs.axiom.Stems.{cut-name}
 
 -- ---- two atoms
@@ -80,6 +80,10 @@ module _ (s : Bytes) (i j : ℕ) where
 
 -- ---- the oldest entry
 
+-- for the atom at i, of the entries only those from j on are left
+abbrev pub Left : Bytes → (i : ℕ) → List CutEntry → (k j : ℕ) → Type 0
+Left s i row k j = (g : Sign) (a : Name) (es : Entries) → FormulaAt s i (atom g a) → EntriesAt s row k es → oldest g a es ≡ oldest g a (drop j es)
+
 -- only an atom is an atom's opposite
 cut-atom : (k : Sign) (a : Name) (f : Formula) → cuts_atom k a f ≡ true → (k' : Sign) × (b : Name) × (f ≡ atom k' b)
 cut-atom k a (atom k' b) e = (k', b, refl)
@@ -106,8 +110,8 @@ module _ (s : Bytes) (i : ℕ) (row : List CutEntry) (k : ℕ) where
     pub entry-two : Sought → Two s i (in_row row j).place
     entry-two (g, a, es, v, w) = (g, a, (entry_at es j).0, v, (w.each j l).formula)
 
-    pub entry-room : Sought → (in_row row j).place < length s
-    entry-room (g, a, es, v, w) = formula-inside s (in_row row j).place (entry_at es j).0 (w.each j l).formula
+    pub entry-room : Sought → ((in_row row j).place < length s) × ((in_row row j).counter + 1 < most_number)
+    entry-room (g, a, es, v, w) = let e = w.each j l in (formula-inside s (in_row row j).place (entry_at es j).0 e.formula, e.low)
 
     module _ (f : Left s i row k j) (r : Bool) (c : Cuts s i (in_row row j).place r) where
       step : (g : Sign) (a : Name) (es : Entries) → FormulaAt s i (atom g a) → EntriesAt s row k es

@@ -1,16 +1,19 @@
 -- From a rule's premises to what it makes of them: what each premise starts from, and what the rule comes to when they are walked.
 -- By the definition's own words for each kind of rule; the entries, the rows and the counter go from premise to premise. Assumes nothing.
-use Prim.Native.Nat.{ℕ, suc, ◌+◌, ◌-◌, ◌*◌, ◌<◌, ◌≤◌}
+use Prim.Native.Nat.{ℕ, suc, ◌+◌, ◌-◌, ◌<◌, ◌≤◌}
 use mathlib.Core.Path.{◌≡◌, ap, subst, ◌∙◌}
 use mathlib.Core.List.{List, [], ◌∷◌, append-nil}
 use native.Mathlib.Omega.{arith}
 use lib.ListN.{length, length-append}
+use Rattle.std.specs.Prelude.{Option}
 use Rattle.rules.specs.Basic.{Bytes, ◌‥◌}
 use Rattle.rules.specs.Formula.{Formula}
 use Rattle.rules.specs.Term.{Term, two, pair}
 use Rattle.rules.specs.Proof.{Proof, encode_proof}
 use Rattle.rules.specs.Extraction.{terms, Entries, fresh, stem_for, extract, joined}
 use Rattle.laws.specs.reading.Lists.{joined as row}
+use Rattle.draft.specs.declared.row.Row.{Row}
+use Rattle.draft.specs.declared.row.RowKind.{RowKind}
 use Rattle.draft.specs.Draft.{Drafts}
 use Rattle.draft.specs.Made.{most_number, over, Small}
 use Rattle.proof.specs.Place.{FormulaAt, ProofsAt, proofs_long}
@@ -22,24 +25,24 @@ use Rattle.proof_draft.specs.declared.entry.CutEntry.{CutEntry}
 use Rattle.proof.proofs.rule.Items.{Some, SkipIs, first, others}
 
 -- a rule that reads its first premise, and one that reads two
-abbrev pub FirstOf : Bytes → (at m : ℕ) (cs : List CutEntry) (k : ℕ) (ws : List ℕ) (used n : ℕ) → Type 0
+abbrev pub FirstOf : Bytes → (at m : ℕ) (cs : List CutEntry) (k : ℕ) (ws : List Row) (used n : ℕ) → Type 0
 FirstOf s at m cs k ws used n = (p : Proof) × (qs : List Proof) × (es : Entries) × Premises s at m cs k ws used n (p ∷ qs) es
 
-abbrev pub TwoOf : Bytes → (at : ℕ) (cs : List CutEntry) (k : ℕ) (ws : List ℕ) (used n : ℕ) → Type 0
+abbrev pub TwoOf : Bytes → (at : ℕ) (cs : List CutEntry) (k : ℕ) (ws : List Row) (used n : ℕ) → Type 0
 TwoOf s at cs k ws used n = (p : Proof) × (q : Proof) × (es : Entries) × Premises s at 2 cs k ws used n (p ∷ q ∷ []) es
 
 long-first : (p : Proof) (qs : List Proof) → proofs_long (p ∷ qs) ≡ length (encode_proof p) + proofs_long qs
 long-first p qs = length-append (encode_proof p) (row encode_proof qs)
 
-part-among : {s : Bytes} {ws : List ℕ} {n i : ℕ} {t : Term} → Drafts s ws n i t → i < n + 2
+part-among : {s : Bytes} {ws : List Row} {n i : ℕ} {t : Term} → Drafts s ws n i t → i < n + 2
 part-among d = d.among
 
-open_at : {s : Bytes} {ws : List ℕ} {u i : ℕ} {t : Term} → Drafts s ws u i t → Small ws u → u * 5 + 5 ≤ length ws → Open ws u
+open_at : {s : Bytes} {ws : List Row} {u i : ℕ} {t : Term} → Drafts s ws u i t → Small ws u → u < length ws → Open ws u
 open_at d m h = record { rows = d.rows; small = m; room = h }
 
 -- ---- the first premise, with a row over it or none
 
-module _ {s : Bytes} {at m : ℕ} {cs : List CutEntry} {k : ℕ} {ws : List ℕ} {used n : ℕ} where
+module _ {s : Bytes} {at m : ℕ} {cs : List CutEntry} {k : ℕ} {ws : List Row} {used n : ℕ} where
   module _ (names : ℕ) (few : names ≤ 3) where
     first-task : (p : Proof) (qs : List Proof) (es : Entries) → Premises s at m cs k ws used n (p ∷ qs) es → Task s at cs k ws used (n + names) p es
     first-task p qs es w =
@@ -63,7 +66,7 @@ module _ {s : Bytes} {at m : ℕ} {cs : List CutEntry} {k : ℕ} {ws : List ℕ}
     pub first_some : FirstOf s at m cs k ws used n → 0 < m
     first_some (p, qs, es, w) = omega (arith, w.proofs.many)
 
-    module _ {ws' : List ℕ} {r : Drafted} (a : Ends s at cs k ws ws' used (n + names) r) where
+    module _ {ws' : List Row} {r : Drafted} (a : Ends s at cs k ws ws' used (n + names) r) where
       rest-here : (p : Proof) (qs : List Proof) (es : Entries) → Premises s at m cs k ws used n (p ∷ qs) es → ProofsAt s r.next (m - 1) qs
       rest-here p qs es w = others encode_proof s at m p qs w.proofs r.next (a p es (first-task p qs es w)).next
 
@@ -75,7 +78,7 @@ module _ {s : Bytes} {at m : ℕ} {cs : List CutEntry} {k : ℕ} {ws : List ℕ}
           let d = a p es (first-task p qs es w) in
           (open_at d.part d.small (omega (arith, d.few, w.ready.room)), omega (arith, w.ready.few), part-among d.part)
 
-      module _ (kind : ℕ) {next : ℕ} {ws'' : List ℕ} {r' : Drafted} (f : SkipIs encode_proof s r.next (m - 1) next)
+      module _ (kind : Option RowKind) {next : ℕ} {ws'' : List Row} {r' : Drafted} (f : SkipIs encode_proof s r.next (m - 1) next)
           (g : (s : Bytes) (t : Term) → Drafts s ws' r.used r.part t → Put s ws' ws'' r.used r.counter next (over s kind n t, r.counter) r') where
         pub first_ends : (p : Proof) (qs : List Proof) (es : Entries) → Premises s at m cs k ws used n (p ∷ qs) es
             → Past s at ws ws'' used n (p ∷ qs) (over_first s kind names p es n) r'
@@ -97,7 +100,7 @@ module _ {s : Bytes} {at m : ℕ} {cs : List CutEntry} {k : ℕ} {ws : List ℕ}
 long-two : (p q : Proof) → proofs_long (p ∷ q ∷ []) ≡ length (encode_proof p) + length (encode_proof q)
 long-two p q = omega (arith, long-first p (q ∷ []), ap (λ (z : Bytes). length z) (append-nil (encode_proof q)))
 
-module _ {s : Bytes} {at : ℕ} {cs : List CutEntry} {k : ℕ} {ws : List ℕ} {used n : ℕ} where
+module _ {s : Bytes} {at : ℕ} {cs : List CutEntry} {k : ℕ} {ws : List Row} {used n : ℕ} where
   -- the first, after some names
   one-task : (names : ℕ) → names ≤ 1 → (p q : Proof) (es : Entries) → Premises s at 2 cs k ws used n (p ∷ q ∷ []) es → Task s at cs k ws used (n + names) p es
   one-task names h p q es w = first-task names (omega arith) p (q ∷ []) es w
@@ -114,7 +117,7 @@ module _ {s : Bytes} {at : ℕ} {cs : List CutEntry} {k : ℕ} {ws : List ℕ} {
 
   -- ---- paired
 
-  module _ {ws' : List ℕ} {r : Drafted} (a : Ends s at cs k ws ws' used n r) where
+  module _ {ws' : List Row} {r : Drafted} (a : Ends s at cs k ws ws' used n r) where
     pub two-on : TwoOf s at cs k ws used n → at ≤ r.next
     two-on (p, q, es, w) = omega (arith, (a p es (bare-task p q es w)).next)
 
@@ -139,7 +142,7 @@ module _ {s : Bytes} {at : ℕ} {cs : List CutEntry} {k : ℕ} {ws : List ℕ} {
       pub two-starts : TwoOf s at cs k ws used n → Starts s r.next cs k ws' r.used r.counter
       two-starts (p, q, es, w) = (q, es, two-task p q es w)
 
-      module _ {ws'' : List ℕ} {r' : Drafted} (b : Ends s r.next cs k ws' ws'' r.used r.counter r') where
+      module _ {ws'' : List Row} {r' : Drafted} (b : Ends s r.next cs k ws' ws'' r.used r.counter r') where
         pub pair-open : length ws'' ≡ length ws → TwoOf s at cs k ws used n → Open ws'' r'.used × (r.part < r'.used + 2) × (r'.part < r'.used + 2)
         pair-open lw' (p, q, es, w) =
             let d = a p es (bare-task p q es w) in
@@ -147,7 +150,7 @@ module _ {s : Bytes} {at : ℕ} {cs : List CutEntry} {k : ℕ} {ws : List ℕ} {
             let x = e.still r.part (extract terms p es n).0 d.part in
             (open_at e.part e.small (omega (arith, d.few, e.few, w.ready.room)), part-among x, part-among e.part)
 
-        module _ {ws''' : List ℕ} {r'' : Drafted}
+        module _ {ws''' : List Row} {r'' : Drafted}
             (g : (s : Bytes) (t u : Term) → Drafts s ws'' r'.used r.part t → Drafts s ws'' r'.used r'.part u
             → Put s ws'' ws''' r'.used r'.counter r'.next (two pair t u, r'.counter) r'') where
           pub pair_ends : (p q : Proof) (es : Entries) → Premises s at 2 cs k ws used n (p ∷ q ∷ []) es → Past s at ws ws''' used n (p ∷ q ∷ []) (pair_of p q es n) r''
@@ -169,7 +172,7 @@ module _ {s : Bytes} {at : ℕ} {cs : List CutEntry} {k : ℕ} {ws : List ℕ} {
 -- ---- the producer and the consumer of a Cut
 
 -- a Cut that reads two
-abbrev pub CutOf : Bytes → (own at : ℕ) (cs : List CutEntry) (k : ℕ) (ws : List ℕ) (used n : ℕ) → Type 0
+abbrev pub CutOf : Bytes → (own at : ℕ) (cs : List CutEntry) (k : ℕ) (ws : List Row) (used n : ℕ) → Type 0
 CutOf s own at cs k ws used n =
     (f : Formula) × (p : Proof) × (q : Proof) × (es : Entries) × FormulaAt s own f × Premises s at 2 cs k ws used n (p ∷ q ∷ []) es
 
@@ -180,11 +183,11 @@ with_entry f es n = es ‥ (f, (fresh (stem_for f) n).0) ∷ []
 add-one : (n : ℕ) → n + 1 ≡ suc n
 add-one n = omega arith
 
-module _ {s : Bytes} {own at : ℕ} {cs : List CutEntry} {k : ℕ} {ws : List ℕ} {used n : ℕ} where
+module _ {s : Bytes} {own at : ℕ} {cs : List CutEntry} {k : ℕ} {ws : List Row} {used n : ℕ} where
   pub cut-formula-here : CutOf s own at cs k ws used n → (f : Formula) × FormulaAt s own f
   cut-formula-here (f, p, q, es, v, w) = (f, v)
 
-  module _ {ws' : List ℕ} {r : Drafted} (a : Ends s at cs k ws ws' used (n + 1) r) where
+  module _ {ws' : List Row} {r : Drafted} (a : Ends s at cs k ws ws' used (n + 1) r) where
     pub cut_on : CutOf s own at cs k ws used n → at ≤ r.next
     cut_on (f, p, q, es, v, w) = omega (arith, (a p es (producer-task p q es w)).next)
 
@@ -211,7 +214,7 @@ module _ {s : Bytes} {own at : ℕ} {cs : List CutEntry} {k : ℕ} {ws : List �
       pub consumer-starts : CutOf s own at cs k ws used n → Starts s r.next cs' (k + 1) ws' r.used r.counter
       consumer-starts (f, p, q, es, v, w) = (q, with_entry f es n, consumer-task f p q es v w)
 
-      module _ {ws'' : List ℕ} {r' : Drafted} (b : Ends s r.next cs' (k + 1) ws' ws'' r.used r.counter r') where
+      module _ {ws'' : List Row} {r' : Drafted} (b : Ends s r.next cs' (k + 1) ws' ws'' r.used r.counter r') where
         pub cut-open : length ws'' ≡ length ws → CutOf s own at cs k ws used n
             → Open ws'' r'.used × (r'.counter + 2 < most_number) × (r.part < r'.used + 2) × (r'.part < r'.used + 2)
         cut-open lw' (f, p, q, es, v, w) =
@@ -224,7 +227,7 @@ module _ {s : Bytes} {own at : ℕ} {cs : List CutEntry} {k : ℕ} {ws : List �
               part-among c.part,
             )
 
-        module _ {ws''' : List ℕ} {r'' : Drafted}
+        module _ {ws''' : List Row} {r'' : Drafted}
             (g : (f : Formula) (t u : Term) → FormulaAt s own f → Drafts s ws'' r'.used r.part t → Drafts s ws'' r'.used r'.part u
             → Put s ws'' ws''' r'.used r'.counter r'.next (joined terms f t u r'.counter) r'') where
           pub cut-ends : (f : Formula) (p q : Proof) (es : Entries) → FormulaAt s own f → Premises s at 2 cs k ws used n (p ∷ q ∷ []) es

@@ -5,8 +5,9 @@ use mathlib.Core.Logic.{⊎_elim}
 use mathlib.Core.List.{List, [], ◌∷◌}
 use native.Mathlib.Nat.{eq-or-lt_of_le, not-suc-le-zero}
 use native.Mathlib.Omega.{arith}
-use lib.ListN.{length, set, length-set, length-append, get_or-append}
+use lib.ListN.{length, set, take, length-set, length-append, get_or-append}
 use lib.Seq.{get_or-set_same, get_or-set_other, get_or-append_seam}
+use Rattle.std.proofs.lemmas.List.{length-take-le, get_or-take}
 use Rattle.rules.specs.Basic.{Bytes, ◌‥◌}
 use Rattle.rules.specs.Name.{Name}
 use Rattle.rules.specs.Formula.{Formula, constant, One}
@@ -56,3 +57,13 @@ pub restored : (row : List CutEntry) (k : ℕ) (e : CutEntry) → k < length row
 restored [] k e l = absurd (not-suc-le-zero l)
 restored (c ∷ row) zero e l = refl
 restored (c ∷ row) (suc k) e l = ap (λ (z : List CutEntry). c ∷ z) (restored row k e (omega (arith, l)))
+
+-- the first k entries, as a row of their own
+pub entries-taken : {s : Bytes} {row : List CutEntry} {k : ℕ} {es : Entries} → EntriesAt s row k es → EntriesAt s (take k row) (length (take k row)) es
+entries-taken {s} {row} {k} {es} w =
+    let long = length-take-le k row w.room in
+    record {
+      many = w.many ∙ sym long;
+      room = omega arith;
+      each = λ i h. let l : i < k = omega (arith, long) in rw (get_or-take k row i zeros l) (w.each i l);
+    }

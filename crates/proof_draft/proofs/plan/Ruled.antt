@@ -6,15 +6,17 @@ use native.Mathlib.Omega.{arith}
 use lib.ListN.{length}
 use Rattle.rules.specs.Basic.{Bytes}
 use Rattle.rules.specs.Term.{Term, leaf}
-use Rattle.rules.specs.Proof.{Proof, proof, Premises as Row, done, ◌then◌, rules, rules_in, encode_proof}
+use Rattle.rules.specs.Proof.{Proof, proof, Premises as Parts, done, ◌then◌, rules, rules_in, encode_proof}
 use Rattle.rules.specs.Extraction.{terms, Entries, extract}
 use Rattle.laws.specs.reading.Lists.{total}
+use Rattle.draft.specs.declared.row.Row.{Row}
 use Rattle.draft.specs.Draft.{Rows, Drafts}
 use Rattle.draft.specs.Made.{most_number}
 use Rattle.draft.specs.Steady.{drafts-unit, drafts-trivial}
 use Rattle.proof.specs.Place.{ProofsAt, proofs_long}
 use Rattle.proof.specs.Shape.{listed, premises_of}
 use Rattle.proof_draft.specs.declared.entry.CutEntry.{CutEntry}
+use Rattle.proof_draft.specs.declared.plan.Act.{Act}
 use Rattle.proof_draft.specs.declared.plan.Plan.{Plan}
 use Rattle.proof_draft.specs.declared.put.Drafted.{Drafted}
 use Rattle.proof_draft.specs.Acts.{leaf_at, Acts}
@@ -24,7 +26,7 @@ use Rattle.proof_draft.specs.Walk.{Task, Done, Premises, Past, Starts}
 use Rattle.proof.proofs.rule.Items.{at-parts, at-inside, apart-size}
 use Rattle.proof.proofs.rule.Rules.{proofs-spelt}
 
-rules-many : (ps : Row) → rules_in ps ≡ total rules (listed ps)
+rules-many : (ps : Parts) → rules_in ps ≡ total rules (listed ps)
 unfolding rules
 rules-many done = refl
 rules-many (p then ps) = ap (λ (n : ℕ). rules p + n) (rules-many ps)
@@ -33,12 +35,12 @@ rules-all : (p : Proof) → rules p ≡ 1 + total rules (premises_of p)
 unfolding rules
 rules-all (proof x l ps) = omega (arith, rules-many ps)
 
-pub leaf-part : {s : Bytes} {ws : List ℕ} {used : ℕ} (i : ℕ) → i ≤ 1 → Rows ws used → Drafts s ws used i (leaf (leaf_at i))
+pub leaf-part : {s : Bytes} {ws : List Row} {used : ℕ} (i : ℕ) → i ≤ 1 → Rows ws used → Drafts s ws used i (leaf (leaf_at i))
 leaf-part zero h w = drafts-unit w
 leaf-part (suc zero) h w = drafts-trivial w
 leaf-part (suc (suc i)) h w = absurd (omega (arith, h))
 
-module _ {s : Bytes} {at : ℕ} {cs : List CutEntry} {k : ℕ} {ws : List ℕ} {used n : ℕ} where
+module _ {s : Bytes} {at : ℕ} {cs : List CutEntry} {k : ℕ} {ws : List Row} {used n : ℕ} where
   pub starts-inside : Starts s at cs k ws used n → at < length s
   starts-inside (p, es, w) = at-inside proofs-spelt s at p w.proof
 
@@ -52,8 +54,8 @@ module _ {s : Bytes} {at : ℕ} {cs : List CutEntry} {k : ℕ} {ws : List ℕ} {
     pub told : Tells at p r
     told = b.tells p w.proof
 
-    pub act-at : (a : ℕ) → r.act ≡ a → Acts a r.kind r.names p
-    act-at a e = subst (λ (i : ℕ). Acts i r.kind r.names p) e told.acts
+    pub act-at : (a : Act) → r.act ≡ a → Acts a p
+    act-at a e = subst (λ (i : Act). Acts i p) e told.acts
 
     here : (m : ℕ) → m ≡ length (premises_of p) → ProofsAt s r.first m (premises_of p)
     here m e = at-parts proofs-spelt s at p w.proof r.first m told.first e
@@ -75,7 +77,7 @@ module _ {s : Bytes} {at : ℕ} {cs : List CutEntry} {k : ℕ} {ws : List ℕ} {
     two-premises are =
         subst (λ (c : List Proof). Premises s r.first 2 cs k ws used n c es) are (premised 2 (ap (λ (c : List Proof). length c) (sym are)))
 
-    module _ {ws' : List ℕ} {made : Term × ℕ} {x : Drafted} (is : extract terms p es n ≡ made) where
+    module _ {ws' : List Row} {made : Term × ℕ} {x : Drafted} (is : extract terms p es n ≡ made) where
       -- what one row makes is what the rule comes to
       pub put-done : (next : ℕ) → next ≡ r.first + proofs_long (premises_of p) → Put s ws ws' used n next made x → Done s at ws ws' used n p es x
       put-done next e v =

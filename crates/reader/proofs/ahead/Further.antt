@@ -6,13 +6,13 @@ use mathlib.Core.Bool.{false}
 use mathlib.Core.List.{List, [], ◌∷◌}
 use mathlib.Core.Option.{some}
 use lib.ListN.{length, get_or, get_elem?, drop}
+use Rattle.std.specs.Prelude.{Ok}
 use Rattle.rules.specs.Basic.{Bytes}
 use Rattle.rules.specs.Name.{name_most, follows}
 use Rattle.rules.specs.Layout.{Layout, head_by_tag}
 use Rattle.rules.specs.Reading.{times, name}
 use Rattle.reader.specs.declared.class.Form.{Form}
 use Rattle.reader.specs.declared.class.Form.TheVariants.{Term, Formula}
-use Rattle.reader.specs.declared.name.Skip.TheVariants.{To}
 use Rattle.reader.specs.Form.{layout_of}
 use Rattle.reader.specs.Classes.{code_at}
 use Rattle.reader.specs.View.{view, skipped}
@@ -139,11 +139,11 @@ module _ (f : Form) (s : Bytes) (at n p met known names : ℕ) (w : Gone (layout
               let z = all_up (letters_from s at (q - at)) q at (met + 1 + (names + k)) g e in
               let x : letters_from s at (p - at) ≡ p - at - (met + names) = all-down _ p at (met + names) (omega (arith, c, a, b, z)) in
               let y : letters_from s (p + 1) (q - (p + 1)) ≡ q - (p + 1) - k = all-down _ q (p + 1) k (omega (arith, c, a, b, z)) in
-              let says : (v : ℕ) → skipped v (To q) ≡ view (times (name (layout_of f).spelling) (code / 2 % 4) v (p + 1) (drop (p + 1) s)) =
+              let says : (v : ℕ) → skipped v (Ok q) ≡ view (times (name (layout_of f).spelling) (code / 2 % 4) v (p + 1) (drop (p + 1) s)) =
               λ v. sym (t.reads v i y) ∙ ap (λ (m : ℕ). view (times (name (layout_of f).spelling) m v (p + 1) (drop (p + 1) s))) ek in
               w.reads most used (λ z. fewer used met most (h (omega arith))) (omega (arith, inside)) x
               ∙ sym (rest-is (layout_of f) most s (known - met) (used + met) p)
-              ∙ turn_on f most s (known - met) (used + met) p (waiting known met waits) inside (room-left used met most (h (omega arith))) code is ne (To q) says q refl
+              ∙ turn_on f most s (known - met) (used + met) p (waiting known met waits) inside (room-left used met most (h (omega arith))) code is ne (Ok q) says q refl
               ∙ ap (λ (m : ℕ). Rest (layout_of f) most s (known - met - 1 + m) (used + met + 1) q) (sym ep)
               ∙ rest-same (layout_of f) most s (left_over known met parts waits) (one_later used met) q
               ∙ rest-is (layout_of f) most s (known + parts - (met + 1)) (used + (met + 1)) q;

@@ -4,12 +4,12 @@ use native.Mathlib.Omega.{arith}
 use mathlib.Core.Path.{◌≡◌, refl, sym, ap, ◌∙◌}
 use mathlib.Core.Bool.{true}
 use lib.ListN.{length, get_or, take, drop}
+use Rattle.std.specs.Prelude.{IfSome, Option, Some, None}
 use Rattle.rules.specs.Basic.{Bytes}
 use Rattle.rules.specs.Name.{name_most, leads, follows, Spelling}
 use Rattle.rules.specs.Reading.{letters, name}
 use Rattle.laws.specs.reading.Steady.{steady-name}
-use Rattle.reader.specs.declared.class.Read.TheVariants.{Whole}
-use Rattle.reader.specs.View.{view}
+use Rattle.reader.specs.View.{view, past}
 use Rattle.reader.specs.Viewed.{passed}
 use Rattle.reader.proofs.class.Views.{times-on, times_none}
 use Rattle.reader.proofs.class.Name.{letters-on, spelled-on, name-on}
@@ -38,7 +38,7 @@ module _ (s : Bytes) (P : Spelling) (at n : ℕ) (small : P.longest ≤ name_mos
   length-first : letters_from s at (suc n) ≡ letters_from s (at + 1) n
   length-first = count_next s at n (suc n) refl ∙ rw (low (get_or s at 0) (omega (arith, is))) (omega arith)
 
-  name-read : (u : ℕ) → at + 1 + n ≤ length s → letters_from s at (suc n) ≡ n → view (name P u at (drop at s)) ≡ Whole (at + 1 + n) u
+  name-read : (u : ℕ) → at + 1 + n ≤ length s → letters_from s at (suc n) ≡ n → view (name P u at (drop at s)) ≡ past (at + 1 + n) u
   name-read u h e =
       let a : letters_from s (at + 1) n ≡ n = sym length-first ∙ e in
       let b : letters_from s (at + 1) n ≡ one (follows (get_or s (at + 1) 0)) + letters_from s (at + 1 + 1) (n - 1) = count_next s (at + 1) (n - 1) n (omega arith) in
@@ -46,11 +46,11 @@ module _ (s : Bytes) (P : Spelling) (at n : ℕ) (small : P.longest ≤ name_mos
       let k : at + 1 + n - (at + 1 + 1) ≡ n - 1 = omega arith in
       let j : at + 1 + n - (at + 1) ≡ n = omega arith in
       let z : at + 1 + 1 + (n - 1) ≡ at + 1 + n = omega arith in
-      let w : view (letters n u (at + 1) (drop (at + 1) s)) ≡ Whole (at + 1 + n) u =
+      let w : view (letters n u (at + 1) (drop (at + 1) s)) ≡ past (at + 1 + n) u =
       ap (λ (m : ℕ). view (letters m u (at + 1) (drop (at + 1) s))) (sym j)
       ∙ sym (letters-on s u (at + 1) (at + 1 + n) (omega arith) h lead)
       ∙ rw k (full-read s (n - 1) (at + 1 + 1) u (omega arith) f)
-      ∙ ap (λ (p : ℕ). Whole p u) z in
+      ∙ ap (λ (p : ℕ). past p u) z in
       sym (name-on P s u at (omega arith) (omega (arith, is)) (omega (arith, is)) (omega (arith, is)) n is)
       ∙ spelled-on P s u (at + 1) n least w (allowed h)
 
@@ -82,3 +82,9 @@ module _ (s : Bytes) (P : Spelling) (at m : ℕ) (small : P.longest ≤ name_mos
 
   pub one-to : NamesTo s P at 1 m
   one-to = then_to 0 m (none-to s P m)
+
+-- and where one more may end
+module _ (s : Bytes) (P : Spelling) (at second : ℕ) (small : P.longest ≤ name_most) (v : NameTo s P at second) where
+  pub two-end : (o : Option ℕ) → IfSome o (λ end. NameTo s P second end) → IfSome o (λ end. NamesTo s P at 2 end)
+  two-end None w = tt
+  two-end (Some end) w = then_to s P at second small v 1 end (one-to s P second end small w)

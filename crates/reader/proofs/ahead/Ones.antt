@@ -3,6 +3,7 @@ use Prim.Native.Nat.{ℕ, ◌+◌, ◌-◌, ◌<◌, ◌≤◌}
 use native.Mathlib.Omega.{arith}
 use mathlib.Core.Path.{◌≡◌, refl, sym, ap, ◌∙◌}
 use lib.ListN.{length, get_or, drop}
+use Rattle.std.specs.Prelude.{Ok}
 use Rattle.rules.specs.Basic.{Bytes}
 use Rattle.rules.specs.Layout.{head_by_tag}
 use Rattle.rules.specs.Reading.{name}
@@ -10,7 +11,6 @@ use Rattle.reader.specs.declared.class.Form.{Form}
 use Rattle.reader.specs.Form.{layout_of}
 use Rattle.reader.specs.Classes.{code_at}
 use Rattle.reader.specs.Passed.{OnePassed}
-use Rattle.reader.specs.declared.name.Skip.TheVariants.{To}
 use Rattle.reader.proofs.class.Views.{times_none}
 use Rattle.reader.proofs.node.Rest.{Rest, rest-is}
 use Rattle.reader.proofs.node.Turn.{turn_on}
@@ -22,7 +22,7 @@ Passes f s at p = (most used : ℕ) → (at < p → used + (p - at) ≤ most) �
 module _ (f : Form) (s : Bytes) where
   one-step : (most u p : ℕ) → p < length s → u < most → code_at (layout_of f) (head_by_tag (layout_of f).heads (get_or s p 0)) ≡ 9 → Rest (layout_of f) most s 1 u p ≡ Rest (layout_of f) most s 1 (u + 1) (p + 1)
   one-step most u p i r e =
-      turn_on f most s 1 u p (omega arith) i r 9 (sym e) (λ q. omega arith) (To (p + 1))
+      turn_on f most s 1 u p (omega arith) i r 9 (sym e) (λ q. omega arith) (Ok (p + 1))
       (λ v. sym (times_none (name (layout_of f).spelling) 0 v (p + 1) (drop (p + 1) s) refl)) (p + 1) refl
 
   pub passes_none : (at : ℕ) → Passes f s at at

@@ -1,5 +1,6 @@
 -- What the code's answer says of a reading: it tells all but the value read and the rest. A rule for each way in which readings are put together.
 -- Assumes nothing.
+use Rattle.rules.specs.declared.Reason.TheVariants.{BadName}
 use Prim.Native.Nat.{ℕ, suc, ◌+◌, ◌<◌, ◌≤◌}
 use native.Mathlib.Numerals.{add-one}
 use mathlib.Core.Path.{◌≡◌, refl}
@@ -7,9 +8,10 @@ use mathlib.Core.Bool.{Bool, true, false}
 use mathlib.Core.List.{[], ◌∷◌}
 use lib.ListN.{length, get_or, drop, drop_of_length-le}
 use lib.Seq.{drop-cons}
+use Rattle.rules.specs.declared.Reason.{Reason}
 use Rattle.rules.specs.Basic.{Bytes}
 use Rattle.rules.specs.Reading.{Got, got, bad, Reader, and_then, times, many, byte, byte_for}
-use Rattle.reader.specs.View.{Whole, Bad, view}
+use Rattle.reader.specs.View.{view, past, fault}
 
 -- The bytes that are left at a place.
 module _ (s : Bytes) (at : ℕ) where
@@ -26,11 +28,11 @@ view_made (bad n p) f = refl
 
 -- One byte of a name.
 module _ (ok : ℕ → Bool) (s : Bytes) (u at : ℕ) (inside : at < length s) where
-  pub letter-on : ok (get_or s at 0) ≡ true → byte_for ok 5 u at (drop at s) ≡ got (get_or s at 0) u (at + 1) (drop (at + 1) s)
+  pub letter-on : ok (get_or s at 0) ≡ true → byte_for ok BadName u at (drop at s) ≡ got (get_or s at 0) u (at + 1) (drop (at + 1) s)
   unfolding byte_for byte
   letter-on e = rw (rest_in s at inside) (simp e)
 
-  pub letter-off : ok (get_or s at 0) ≡ false → byte_for ok 5 u at (drop at s) ≡ bad 5 at
+  pub letter-off : ok (get_or s at 0) ≡ false → byte_for ok BadName u at (drop at s) ≡ bad BadName at
   unfolding byte_for byte
   letter-off e = rw (rest_in s at inside) (simp e)
 
@@ -40,11 +42,11 @@ module _ {A : Type 0} (m : Reader ℕ A) (n u at : ℕ) (r : Bytes) where
   unfolding many
   many-on k z x v p q e = rw (z, e) (view_made (many m k v p q) (λ xs. x ∷ xs))
 
-  pub many-off : (k : ℕ) → n ≡ suc k → (i p : ℕ) → m u at r ≡ bad i p → view (many m n u at r) ≡ Bad i p
+  pub many-off : (k : ℕ) → n ≡ suc k → (i : Reason) (p : ℕ) → m u at r ≡ bad i p → view (many m n u at r) ≡ fault i p
   unfolding many
   many-off k z i p e = rw (z, e)
 
-  pub many-none : n ≡ 0 → view (many m n u at r) ≡ Whole at u
+  pub many-none : n ≡ 0 → view (many m n u at r) ≡ past at u
   unfolding many
   many-none z = rw z
 
@@ -52,10 +54,10 @@ module _ {A : Type 0} (m : Reader ℕ A) (n u at : ℕ) (r : Bytes) where
   unfolding times
   times-on k z x v p q e = rw (z, e) (view_made (times m k v p q) (λ xs. (x, xs)))
 
-  pub times-off : (k : ℕ) → n ≡ suc k → (i p : ℕ) → m u at r ≡ bad i p → view (times m n u at r) ≡ Bad i p
+  pub times-off : (k : ℕ) → n ≡ suc k → (i : Reason) (p : ℕ) → m u at r ≡ bad i p → view (times m n u at r) ≡ fault i p
   unfolding times
   times-off k z i p e = rw (z, e)
 
-  pub times_none : n ≡ 0 → view (times m n u at r) ≡ Whole at u
+  pub times_none : n ≡ 0 → view (times m n u at r) ≡ past at u
   unfolding times
   times_none z = rw z

@@ -1,4 +1,5 @@
 -- Laws of counting letters: in two parts, at most all, and where it is all of them they are read as letters. Assumes nothing.
+use Rattle.rules.specs.declared.Reason.TheVariants.{BadName}
 use Prim.Native.Nat.{ℕ, zero, suc, ◌+◌, ◌-◌, ◌<◌, ◌≤◌}
 use native.Mathlib.Nat.{add-zero, zero-add, suc-add}
 use native.Mathlib.Omega.{arith}
@@ -10,8 +11,7 @@ use Rattle.std.specs.Prelude.{if◌then◌else◌, ◌==◌}
 use Rattle.rules.specs.Basic.{Bytes, between}
 use Rattle.rules.specs.Name.{leads, follows}
 use Rattle.rules.specs.Reading.{byte_for, many}
-use Rattle.reader.specs.declared.class.Read.TheVariants.{Whole}
-use Rattle.reader.specs.View.{view}
+use Rattle.reader.specs.View.{view, past}
 use Rattle.reader.proofs.class.Views.{letter-on, many-on, many-none}
 use Rattle.reader.specs.Letters.{one, letters_from}
 
@@ -72,17 +72,17 @@ module _ (s : Bytes) where
       let y : at + (m - at) ≡ m = omega arith in
       ap (λ (n : ℕ). letters_from s at n) z ∙ count-apart (m - at) (to - m) at ∙ ap (λ (n : ℕ). letters_from s at (m - at) + letters_from s n (to - m)) y
 
-  pub full-read : (k at u : ℕ) → at + k ≤ length s → letters_from s at k ≡ k → view (many (byte_for follows 5) k u at (drop at s)) ≡ Whole (at + k) u
+  pub full-read : (k at u : ℕ) → at + k ≤ length s → letters_from s at k ≡ k → view (many (byte_for follows BadName) k u at (drop at s)) ≡ past (at + k) u
   unfolding letters_from
-  full-read zero at u h e = many-none (byte_for follows 5) 0 u at (drop at s) refl ∙ ap (λ (p : ℕ). Whole p u) (sym (add-zero at))
+  full-read zero at u h e = many-none (byte_for follows BadName) 0 u at (drop at s) refl ∙ ap (λ (p : ℕ). past p u) (sym (add-zero at))
   full-read (suc k) at u h e = go (follows (get_or s at 0)) refl e (full-read k (at + 1) u (omega arith))
     where
       go : (b : Bool) → follows (get_or s at 0) ≡ b → one b + letters_from s (at + 1) k ≡ suc k
-          → (letters_from s (at + 1) k ≡ k → view (many (byte_for follows 5) k u (at + 1) (drop (at + 1) s)) ≡ Whole (at + 1 + k) u)
-          → view (many (byte_for follows 5) (suc k) u at (drop at s)) ≡ Whole (at + suc k) u
+          → (letters_from s (at + 1) k ≡ k → view (many (byte_for follows BadName) k u (at + 1) (drop (at + 1) s)) ≡ past (at + 1 + k) u)
+          → view (many (byte_for follows BadName) (suc k) u at (drop at s)) ≡ past (at + suc k) u
       go false f d later = absurd (omega (arith, count_most k (at + 1)))
       go true f d later =
           let z : at + 1 + k ≡ at + suc k = omega arith in
-          many-on (byte_for follows 5) (suc k) u at (drop at s) k refl _ u (at + 1) _ (letter-on follows s u at (omega arith) f)
+          many-on (byte_for follows BadName) (suc k) u at (drop at s) k refl _ u (at + 1) _ (letter-on follows s u at (omega arith) f)
           ∙ later (omega arith)
-          ∙ ap (λ (p : ℕ). Whole p u) z
+          ∙ ap (λ (p : ℕ). past p u) z

@@ -1,21 +1,22 @@
 -- `name_input` meets its contract: each return is a case of what a bare name is. Assumes nothing.
 use native.Mathlib.Omega.{arith}
 use mathlib.Core.Path.{sym, ap, ◌∙◌}
+use Rattle.std.specs.Prelude.{Err}
 use Rattle.reader.specs.View.{skipped}
 use Rattle.reader.specs.Tables.{letter-classes}
 use Rattle.reader.proofs.Bare.{bare-empty, bare-long, bare-good, bare-bad}
 use Rattle.reader.proofs.name_input.Goals as goal
 
-pub returns-in-Fault : goal.returns-in-Fault
-returns-in-Fault c =
+pub returns-in-Err : goal.returns-in-Err
+returns-in-Err c =
     let a = c.args in
-    c.refused-in-Fault.ensures
-    ∙ sym (bare-bad a.input a.s.now (omega arith) (omega (arith, c.longest_name.ensures)) (sym (c.skip_spelled.ensures 0) ∙ ap (skipped 0) c.in-Fault.is))
+    ap Err c.of_input.ensures
+    ∙ sym (bare-bad a.input a.s.now (omega arith) (omega (arith, c.longest_name.ensures)) (sym (c.skip_spelled.ensures 0) ∙ ap (skipped 0) c.in-Err.is))
 
-pub returns-in-To : goal.returns-in-To
-returns-in-To c =
+pub returns-in-Ok : goal.returns-in-Ok
+returns-in-Ok c =
     let a = c.args in
-    sym (bare-good a.input a.s.now (omega arith) (omega (arith, c.longest_name.ensures)) (sym (c.skip_spelled.ensures 0) ∙ ap (skipped 0) c.in-To.is))
+    sym (bare-good a.input a.s.now (omega arith) (omega (arith, c.longest_name.ensures)) (sym (c.skip_spelled.ensures 0) ∙ ap (skipped 0) c.in-Ok.is))
 
 pub returns-then-longest_name-s : goal.returns-then-longest_name-s
 returns-then-longest_name-s c = let a = c.args in c.refused-then-longest_name-s.ensures ∙ sym (bare-long a.input a.s.now (omega (arith, c.longest_name.ensures)))

@@ -1,5 +1,6 @@
 -- Two depths that suffice read the same: where no node may follow, both say so, and each node that was read leaves one less to follow.
 -- Assumes nothing.
+use Rattle.rules.specs.declared.Reason.TheVariants.{OneTooMany}
 use Prim.Native.Nat.{ℕ, zero, suc, ◌+◌, ◌≤◌}
 use native.Mathlib.Omega.{arith}
 use mathlib.Core.Path.{◌≡◌, refl, sym, ap, ◌∙◌}
@@ -24,7 +25,7 @@ unfolding tag byte
 tag-counts most hs u at [] e = absurd (let z : ◌≡◌ {A = ℕ} 0 1 = cc in omega arith)
 tag-counts {H} most hs u at (b ∷ r) {h} {v} {p} {q} e = go (u <? most) (hs b) e
   where
-    go : (t : Bool) (o : Option H) → (if t then listed u at (at + 1) r o else bad 6 at) ≡ got h v p q → v ≡ u + 1
+    go : (t : Bool) (o : Option H) → (if t then listed u at (at + 1) r o else bad OneTooMany at) ≡ got h v p q → v ≡ u + 1
     go true none e = absurd (let z : ◌≡◌ {A = ℕ} 0 1 = cc in omega arith)
     go true (some h') e = cc
     go false o e = absurd (let z : ◌≡◌ {A = ℕ} 0 1 = cc in omega arith)

@@ -1,11 +1,13 @@
 -- What reading a node finds, by the tests that the code makes.
 -- Assumes nothing.
+use Rattle.rules.specs.declared.Reason.TheVariants.{EndsInside, NotListed, OneTooMany}
 use Prim.Native.Nat.{ℕ, zero, suc, ◌+◌, ◌<◌, ◌≤◌}
 use native.Mathlib.Omega.{arith}
 use mathlib.Core.Path.{◌≡◌, ◌∙◌}
 use mathlib.Core.Option.{none, some}
 use lib.ListN.{length, get_or, drop}
 use borrow.Author.Tests.{lt-ltb, le-ltb}
+use Rattle.rules.specs.declared.Reason.{Reason}
 use Rattle.rules.specs.Basic.{Bytes}
 use Rattle.rules.specs.Name.{Name}
 use Rattle.rules.specs.Layout.{Layout, Tuple, head_by_tag}
@@ -14,12 +16,12 @@ use Rattle.reader.proofs.class.Views.{rest_in, rest_out}
 use Rattle.reader.proofs.node.Depth.{same}
 
 module _ {H A : Type 0} (F : Layout H A) (most : ℕ) (s : Bytes) (u at : ℕ) where
-  pub node-out : length s ≤ at → (f : ℕ) → node F most f u at (drop at s) ≡ bad 3 at
+  pub node-out : length s ≤ at → (f : ℕ) → node F most f u at (drop at s) ≡ bad EndsInside at
   unfolding node tag too_many byte
   node-out h zero = rw (rest_out s at h)
   node-out h (suc f) = rw (rest_out s at h)
 
-  pub node-full : at < length s → most ≤ u → (f : ℕ) → node F most f u at (drop at s) ≡ bad 6 at
+  pub node-full : at < length s → most ≤ u → (f : ℕ) → node F most f u at (drop at s) ≡ bad OneTooMany at
   unfolding node tag too_many byte
   node-full h l zero = rw (rest_in s at h)
   node-full h l (suc f) = rw (rest_in s at h) (simp (le-ltb u most l))
@@ -29,7 +31,7 @@ module _ {H A : Type 0} (F : Layout H A) (most : ℕ) (s : Bytes) (u at : ℕ) (
   deeper : node F most most u at (drop at s) ≡ node F most (suc most) u at (drop at s)
   deeper = same F most most (suc most) u at (drop at s) (omega arith) (omega arith)
 
-  pub node-unknown : head_by_tag F.heads (get_or s at 0) ≡ none → node F most most u at (drop at s) ≡ bad 4 at
+  pub node-unknown : head_by_tag F.heads (get_or s at 0) ≡ none → node F most most u at (drop at s) ≡ bad NotListed at
   unfolding node tag byte
   node-unknown e = deeper ∙ rw (rest_in s at inside) (simp (lt-ltb u most room, e))
 
@@ -38,7 +40,7 @@ module _ {H A : Type 0} (F : Layout H A) (most : ℕ) (s : Bytes) (u at : ℕ) (
     unfolding tag byte
     head-known = rw (rest_in s at inside) (simp (lt-ltb u most room, known))
 
-    pub node-off : (n p : ℕ) → times (name F.spelling) (F.names h) (u + 1) (at + 1) (drop (at + 1) s) ≡ bad n p
+    pub node-off : (n : Reason) (p : ℕ) → times (name F.spelling) (F.names h) (u + 1) (at + 1) (drop (at + 1) s) ≡ bad n p
         → node F most most u at (drop at s) ≡ bad n p
     unfolding node
     node-off n p e = deeper ∙ rw (head-known, e)

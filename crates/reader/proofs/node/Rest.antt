@@ -6,13 +6,12 @@ use native.Mathlib.Omega.{arith}
 use mathlib.Core.Path.{◌≡◌, refl, sym, ap, ◌∙◌}
 use mathlib.Core.Option.{some}
 use lib.ListN.{length, get_or, drop}
+use Rattle.rules.specs.declared.Reason.{Reason}
 use Rattle.rules.specs.Basic.{Bytes}
 use Rattle.rules.specs.Name.{Name}
 use Rattle.rules.specs.Layout.{Layout, Tuple, head_by_tag}
 use Rattle.rules.specs.Reading.{Got, got, bad, Reader, and_then, pure, times, name, node}
-use Rattle.reader.specs.declared.class.Read.{Read}
-use Rattle.reader.specs.declared.class.Read.TheVariants.{Whole, Bad}
-use Rattle.reader.specs.View.{view}
+use Rattle.reader.specs.View.{view, past, fault, Read}
 use Rattle.reader.proofs.class.Views.{view_made, times_none, times-off}
 use Rattle.reader.proofs.node.Node.{node-on}
 
@@ -63,12 +62,12 @@ module _ {H A : Type 0} (F : Layout H A) (most : ℕ) (s : Bytes) where
   unfolding Rest times
   rest-one u at = sym (view_made (node F most most u at (drop at s)) (λ x. more 0 x tt))
 
-  pub rest-none : (c u at : ℕ) → c ≡ 0 → Rest c u at ≡ Whole at u
+  pub rest-none : (c u at : ℕ) → c ≡ 0 → Rest c u at ≡ past at u
   unfolding Rest
   rest-none c u at e = times_none (node F most most) c u at (drop at s) e
 
   -- the first of c nodes fails
-  pub rest-bad : (c u at n p : ℕ) → 0 < c → node F most most u at (drop at s) ≡ bad n p → Rest c u at ≡ Bad n p
+  pub rest-bad : (c u at : ℕ) (n : Reason) (p : ℕ) → 0 < c → node F most most u at (drop at s) ≡ bad n p → Rest c u at ≡ fault n p
   unfolding Rest
   rest-bad c u at n p h e = times-off (node F most most) c u at (drop at s) (c - 1) (omega arith) n p e
 

@@ -1,6 +1,5 @@
 -- A calm term is normal: by induction on it, the search goes on past every node. Assumes nothing.
 use Prim.Native.Nat.{ℕ, ◌+◌}
-use native.Mathlib.Omega.{arith}
 use mathlib.Core.Path.{◌≡◌, refl, ◌∙◌}
 use mathlib.Core.Bool.{true, false}
 use mathlib.Core.Option.{Option, none, some}
@@ -12,15 +11,15 @@ use Rattle.redex.specs.Calm.{Calm}
 
 not-here : (t : Term) (c : Contraction) (p : Option Spot) → contracts c ≡ false → p ≡ none → itself t c p ≡ none
 not-here t no p e d = d
-not-here t (by r h u) p e d = absurd (let z : ◌≡◌ {A = ℕ} 0 1 = cc in omega arith)
+not-here t (by r h u) p e d = absurd (cc)
 
 below : (o : ℕ) (f : Term → Term) (p : Option Spot) → p ≡ none → deeper o f p ≡ none
 below o f none e = refl
-below o f (some q) e = absurd (let z : ◌≡◌ {A = ℕ} 0 1 = cc in omega arith)
+below o f (some q) e = absurd (cc)
 
 neither : (p q : Option Spot) → p ≡ none → q ≡ none → or_later p q ≡ none
 neither none q e d = d
-neither (some p) q e d = absurd (let z : ◌≡◌ {A = ℕ} 0 1 = cc in omega arith)
+neither (some p) q e d = absurd (cc)
 
 in_two : (k : Two) (a b : Term) → contracts (contract (two k a b)) ≡ false → spot a ≡ none → spot b ≡ none → spot (two k a b) ≡ none
 unfolding spot

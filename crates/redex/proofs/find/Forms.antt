@@ -12,7 +12,7 @@ use Rattle.redex.specs.Side.{side}
 use Rattle.redex.proofs.find.Firsts.{First, a_pair, an_abs, an_inl, an_inr, a_promote, other, first_of, contracts}
 
 never : {A : Type 0} → false ≡ true → A
-never h = absurd (let z : ◌≡◌ {A = ℕ} 0 1 = cc in omega arith)
+never h = absurd (cc)
 
 -- ---- what the first part is
 

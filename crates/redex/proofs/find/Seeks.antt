@@ -15,40 +15,39 @@ use Rattle.term.specs.Node.{tag, head, encode_all}
 use Rattle.term.proofs.node.Terms.{apart-size}
 use Rattle.redex.specs.Spot.{Spot, deeper, or_later, itself, spot}
 use Rattle.redex.specs.Searched.{enters_after, reduces, sought_at, sought}
-use Rattle.redex.specs.declared.find.Sought.{Sought}
-use Rattle.redex.specs.declared.find.Sought.TheVariants.{Redex, After}
+use Rattle.std.specs.Prelude.{Result, Ok, Err}
 use Rattle.redex.proofs.find.Firsts.{contracts, wants-pair, wants-abs, wants-promote, wants-injection, wants-nothing}
 
 -- the search goes on behind what has no redex
-abbrev pub onward : Sought → (ℕ → Sought) → Sought
-onward (Redex p) f = Redex p
-onward (After m) f = f m
+abbrev pub onward : Result ℕ ℕ → (ℕ → Result ℕ ℕ) → Result ℕ ℕ
+onward (Ok p) f = Ok p
+onward (Err m) f = f m
 
 -- how a node is searched: not at all; its first part u; its parts u and v
 pub data Opened (t : Term) (n : ℕ) : Type 0 where
   shut : n ≡ 0 → spot t ≡ none → Opened t n
   into_one : (u : Term) (ts : List Term) → n ≡ 1 → parts t ≡ u ∷ ts
-      → ((i : ℕ) → sought i t ≡ (if reduces (tag t) (tag u) then Redex i else onward (sought (i + length (head t)) u) (λ m. After (m + length (encode_all ts))))) → Opened t n
+      → ((i : ℕ) → sought i t ≡ (if reduces (tag t) (tag u) then Ok i else onward (sought (i + length (head t)) u) (λ m. Err (m + length (encode_all ts))))) → Opened t n
   into_two : (u v : Term) → n ≡ 2 → parts t ≡ u ∷ v ∷ []
-      → ((i : ℕ) → sought i t ≡ (if reduces (tag t) (tag u) then Redex i else onward (sought (i + length (head t)) u) (λ m. sought m v))) → Opened t n
+      → ((i : ℕ) → sought i t ≡ (if reduces (tag t) (tag u) then Ok i else onward (sought (i + length (head t)) u) (λ m. sought m v))) → Opened t n
 
 -- ---- the laws of the search, over the spots of the parts
 
 module _ (i n : ℕ) where
-  in-first : (o m l : ℕ) (f : Term → Term) (p : Option Spot) → n ≡ o + (m + l) → sought_at i n (deeper o f p) ≡ onward (sought_at (i + o) m p) (λ j. After (j + l))
-  in-first o m l f none e = ap After (omega arith)
-  in-first o m l f (some q) e = ap Redex (omega arith)
+  in-first : (o m l : ℕ) (f : Term → Term) (p : Option Spot) → n ≡ o + (m + l) → sought_at i n (deeper o f p) ≡ onward (sought_at (i + o) m p) (λ j. Err (j + l))
+  in-first o m l f none e = ap Err (omega arith)
+  in-first o m l f (some q) e = ap Ok (omega arith)
 
   in_both : (o o' m m' : ℕ) (f g : Term → Term) (p q : Option Spot) → o' ≡ o + m → n ≡ o + (m + m')
       → sought_at i n (or_later (deeper o f p) (deeper o' g q)) ≡ onward (sought_at (i + o) m p) (λ j. sought_at j m' q)
-  in_both o o' m m' f g (some p) q d e = ap Redex (omega arith)
-  in_both o o' m m' f g none none d e = ap After (omega arith)
-  in_both o o' m m' f g none (some q) d e = ap Redex (omega arith)
+  in_both o o' m m' f g (some p) q d e = ap Ok (omega arith)
+  in_both o o' m m' f g none none d e = ap Err (omega arith)
+  in_both o o' m m' f g none (some q) d e = ap Ok (omega arith)
 
   -- the node is the redex, or else what p says
-  here : (t : Term) (c : Contraction) (b : Bool) (p : Option Spot) (s : Sought) → contracts c ≡ b → sought_at i n p ≡ s → sought_at i n (itself t c p) ≡ (if b then Redex i else s)
+  here : (t : Term) (c : Contraction) (b : Bool) (p : Option Spot) (s : Result ℕ ℕ) → contracts c ≡ b → sought_at i n p ≡ s → sought_at i n (itself t c p) ≡ (if b then Ok i else s)
   here t no b p s e d = rw (← e) d
-  here t (by r h u) b p s e d = rw (← e) (ap Redex (omega arith))
+  here t (by r h u) b p s e d = rw (← e) (ap Ok (omega arith))
 
 -- ---- the shapes of nodes
 
@@ -58,19 +57,19 @@ module _ (t u : Term) (ts : List Term) (f : Term → Term) (o : ℕ) (e : parts 
 
   -- one part is entered, of a node that may be a redex, and of one that is none
   one-itself : (b : Bool) → contracts (contract t) ≡ b → (i : ℕ)
-      → sought_at i (size t) (itself t (contract t) (deeper o f (spot u))) ≡ (if b then Redex i else onward (sought (i + length (head t)) u) (λ m. After (m + length (encode_all ts))))
+      → sought_at i (size t) (itself t (contract t) (deeper o f (spot u))) ≡ (if b then Ok i else onward (sought (i + length (head t)) u) (λ m. Err (m + length (encode_all ts))))
   one-itself b h i =
       here i (size t) t (contract t) b (deeper o f (spot u)) _ h
-      (in-first i (size t) o (size u) (length (encode_all ts)) f (spot u) long ∙ ap (λ (k : ℕ). onward (sought (i + k) u) (λ m. After (m + length (encode_all ts)))) l)
+      (in-first i (size t) o (size u) (length (encode_all ts)) f (spot u) long ∙ ap (λ (k : ℕ). onward (sought (i + k) u) (λ m. Err (m + length (encode_all ts)))) l)
 
-  one_plain : (i : ℕ) → sought_at i (size t) (deeper o f (spot u)) ≡ (if reduces 3 (tag u) then Redex i else onward (sought (i + length (head t)) u) (λ m. After (m + length (encode_all ts))))
+  one_plain : (i : ℕ) → sought_at i (size t) (deeper o f (spot u)) ≡ (if reduces 3 (tag u) then Ok i else onward (sought (i + length (head t)) u) (λ m. Err (m + length (encode_all ts))))
   one_plain i =
       rw (← wants-nothing u)
-      (in-first i (size t) o (size u) (length (encode_all ts)) f (spot u) long ∙ ap (λ (k : ℕ). onward (sought (i + k) u) (λ m. After (m + length (encode_all ts)))) l)
+      (in-first i (size t) o (size u) (length (encode_all ts)) f (spot u) long ∙ ap (λ (k : ℕ). onward (sought (i + k) u) (λ m. Err (m + length (encode_all ts)))) l)
 
 -- two parts are entered
 two-itself : (t u v : Term) (f g : Term → Term) (o : ℕ) → parts t ≡ u ∷ v ∷ [] → o ≡ length (head t) → (b : Bool) → contracts (contract t) ≡ b → (i : ℕ)
-    → sought_at i (size t) (itself t (contract t) (or_later (deeper o f (spot u)) (deeper (o + size u) g (spot v)))) ≡ (if b then Redex i else onward (sought (i + length (head t)) u) (λ m. sought m v))
+    → sought_at i (size t) (itself t (contract t) (or_later (deeper o f (spot u)) (deeper (o + size u) g (spot v)))) ≡ (if b then Ok i else onward (sought (i + length (head t)) u) (λ m. sought m v))
 two-itself t u v f g o e l b h i =
     here i (size t) t (contract t) b _ _ h
     (in_both i (size t) o (o + size u) (size u) (size v) f g (spot u) (spot v) refl

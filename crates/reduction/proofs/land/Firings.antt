@@ -5,10 +5,11 @@ use mathlib.Core.Path.{◌≡◌, refl, sym, subst, ap, ◌∙◌}
 use mathlib.Core.Bool.{Bool, true, ◌&&◌}
 use mathlib.Core.List.{List, [], ◌∷◌, ◌++◌, append_assoc}
 use native.Mathlib.Omega.{arith}
+use Rattle.std.specs.Prelude.{Option, Some, None}
 use lib.ListN.{length, take, drop, length-append, take-append-drop}
 use lib.Seq.{length-sets, slice, length-slice, length-take-le, drop-append-le}
 use Rattle.rules.specs.Basic.{Bytes}
-use Rattle.rules.specs.Limits.{limits}
+use Rattle.rules.specs.Limits.{limits, output_room}
 use Rattle.rules.specs.Term.{Term, encode, nodes, size, fits}
 use Rattle.laws.specs.reading.Fits.{within}
 use Rattle.rules.specs.declared.Rule.{Rule}
@@ -18,15 +19,14 @@ use Rattle.buffer.specs.Wrote.{Wrote}
 use Rattle.term.proofs.node.Names.{drop_app, long}
 use Rattle.contraction.specs.Beside.{fits_around, step-fits-in-frame}
 use Rattle.contraction.specs.Contracted as parts
-use Rattle.contraction.specs.Contracted.{becomes, outgrows}
+use Rattle.contraction.specs.Contracted.{Row, becomes, outgrows}
 use Rattle.contraction.specs.declared.part.Contraction.{Contraction}
-use Rattle.contraction.specs.declared.part.Contracted.{Contracted}
-use Rattle.contraction.specs.declared.part.Contracted.TheVariants.{Made, Outgrown}
 use Rattle.contraction.specs.Contracting.{Contracting}
+use Rattle.reduction.proofs.moves.Places.{place}
 use Rattle.reduction.specs.Hole.{Above, plug, rights}
 use Rattle.reduction.specs.Quiet.{Quiet, Steps}
 use Rattle.reduction.specs.Seen.{Contracts}
-use Rattle.reduction.specs.Standing.{Standing, Nearly, Landed}
+use Rattle.reduction.specs.Standing.{Marks, Standing, Nearly, Landed}
 use Rattle.reduction.specs.Fired.{Firing, Lands, Over}
 use Rattle.reduction.specs.declared.place.Place.{Place}
 use Rattle.reduction.proofs.moves.Contexts.{plug-frame, plug-size, only-nearest, first-same}
@@ -45,8 +45,8 @@ drop-slice : (i j : ℕ) (l : Bytes) → i ≤ j → j ≤ length l → drop i l
 drop-slice i j l h g =
     ap (λ (z : Bytes). drop i z) (sym (take-append-drop j l)) ∙ drop-append-le i (take j l) (drop j l) (omega (arith, length-take-le j l g))
 
-module _ {w : Term} {out scratch stack : List ℕ} {o i d n : ℕ} {places : List ℕ} {out₁ : Bytes} (e : Firing w out scratch stack o i d n places out₁) where
-  abbrev s : Standing w out scratch stack o i d
+module _ {w : Term} {out scratch : List ℕ} {stack : Marks} {o i d n : ℕ} (e : Firing w out scratch stack (place o i d) n) where
+  abbrev s : Standing w out scratch stack (place o i d)
   s = e.reducing.stands
 
   abbrev x : Contracts s.at
@@ -67,8 +67,8 @@ module _ {w : Term} {out scratch stack : List ℕ} {o i d n : ℕ} {places : Lis
   pub short : l ≤ limits.bytes
   short = whole-short s
 
-  pub job : Contracting scratch i n l places out₁ t x.rule x.half u
-  job =
+  pub job : {places : List ℕ} {made : Bytes} → Row places → output_room limits ≤ length made → Contracting scratch i n l places made t x.rule x.half u
+  job r h =
       record {
         redex =
             record {
@@ -80,8 +80,8 @@ module _ {w : Term} {out scratch stack : List ℕ} {o i d n : ℕ} {places : Lis
               short = short;
             };
         contracts = x.is;
-        row = e.row;
-        made-room = e.made-room;
+        row = r;
+        made-room = h;
       }
 
   steps : Steps w x.rule x.half next
@@ -99,15 +99,15 @@ module _ {w : Term} {out scratch stack : List ℕ} {o i d n : ℕ} {places : Lis
       ∙ ap (λ (k : ℕ). half_fits limits x.half && fits_around (nodes (plug s.above t)) k t u) b
       ∙ step-fits-in-frame (plug-frame s.above) t u x.half
 
-  module _ {made₁ : Bytes} {a : Contracted} (v : parts.Contracts scratch i n l t x.rule x.half u made₁ a) where
-    pub outgrew : a ≡ Outgrown → Over w out scratch stack o i d
+  module _ {made₁ : Bytes} {a : Option Contraction} (v : parts.Contracts scratch i n l t x.rule x.half u made₁ a) where
+    pub outgrew : a ≡ None → Over w out scratch stack (place o i d)
     outgrew q = go v
       where
-        go : parts.Contracts scratch i n l t x.rule x.half u made₁ a → Over w out scratch stack o i d
+        go : parts.Contracts scratch i n l t x.rule x.half u made₁ a → Over w out scratch stack (place o i d)
         go (becomes m b c y) = absurd (let z : ◌≡◌ {A = ℕ} 0 1 = cc in omega arith)
         go (outgrows b c) = record { rule = x.rule; half = x.half; next = next; steps = steps; tested = sym tested ∙ b; stands = s }
 
-    module _ {m : Contraction} (q : a ≡ Made m) where
+    module _ {m : Contraction} (q : a ≡ Some m) where
       abbrev k : ℕ
       k = m.size
 
@@ -182,7 +182,7 @@ module _ {w : Term} {out scratch stack : List ℕ} {o i d n : ℕ} {places : Lis
             ∙ sym (append_assoc (slice 0 k made₁) (slice end (i + size t) scratch) (rights s.above))
             ∙ ap (λ (z : Bytes). z ++ rights s.above) is.replaced.bytes
 
-        pub landed : Landed next out scratch₁ stack o (end - k) d
+        pub landed : Landed next out scratch₁ stack (place o (end - k) d)
         landed =
             let r = made-room in
             let y = s.sides in
@@ -207,7 +207,7 @@ module _ {w : Term} {out scratch stack : List ℕ} {o i d n : ℕ} {places : Lis
                   };
             }
 
-      pub lands : {scratch₂ : List ℕ} (g : Place) → Standing next out scratch₂ stack g.o g.i g.depth → Lands w m out scratch₂ stack g
+      pub lands : {scratch₂ : List ℕ} (g : Place) → Standing next out scratch₂ stack g → Lands w m out scratch₂ stack g
       lands g y =
           let b : m.nodes ≡ nodes next = is.replaced.count ∙ omega (arith, e.count, ap nodes s.is, (plug-frame s.above).count t, (plug-frame s.above).count u) in
           record {

@@ -6,6 +6,7 @@ use mathlib.Core.List.{List, [], ◌∷◌, ◌++◌, append_assoc, append-nil}
 use native.Mathlib.Omega.{arith}
 use lib.ListN.{length, take, drop, get_or, length-append}
 use lib.Seq.{length-sets, slice, take_at, take-take, drop_at}
+use Rattle.std.specs.Prelude.{Some, None}
 use Rattle.rules.specs.Basic.{Bytes}
 use Rattle.rules.specs.Limits.{limits}
 use Rattle.rules.specs.Term.{Term, encode, fits}
@@ -14,17 +15,18 @@ use Rattle.term.specs.Node.{tag}
 use Rattle.term.specs.Place.{TermAt}
 use Rattle.term.proofs.node.Terms.{at_tag, at_small, at-inside}
 use Rattle.redex.specs.Searched.{reduces}
+use Rattle.reduction.proofs.moves.Places.{place}
 use Rattle.reduction.specs.Hole.{Hole, fill, passed, before, behind, Above, plug, lefts, rights}
 use Rattle.reduction.specs.Quiet.{part_first, Entered, Asleep, Quiet}
-use Rattle.reduction.specs.Standing.{second_mark, Sides, Standing, Nearly, Landed}
+use Rattle.reduction.specs.Standing.{Marks, Sides, Standing, Nearly, Landed}
 use Rattle.reduction.proofs.moves.Holes.{fill-encode}
 use Rattle.reduction.proofs.moves.Contexts.{plug-encode}
 use Rattle.reduction.proofs.moves.Sights.{first-is}
 use Rattle.reduction.proofs.moves.Buffers.{wrote_right, sides-short, depth-few}
-use Rattle.reduction.proofs.moves.Marks.{Under, not_first, none_passed, started, start-before, tag_is}
+use Rattle.reduction.proofs.moves.Marks.{Under, none_passed, started, start-before, tag_is}
 
 -- the nearest node above
-pub record Nearest (w : Term) (out scratch stack : List ℕ) (o i d : ℕ) : Type 0 where
+pub record Nearest (w : Term) (out scratch : List ℕ) (stack : Marks) (o i d : ℕ) : Type 0 where
   pub hole : Hole
   pub rest : Above
   pub part : Term
@@ -35,7 +37,7 @@ pub record Nearest (w : Term) (out scratch stack : List ℕ) (o i d : ℕ) : Typ
   pub fits : fits limits w ≡ true
   pub sides : Sides (lefts rest ++ before hole) (encode part ++ (behind hole ++ rights rest)) (hole ∷ rest) out scratch stack o i d
 
-module _ {w : Term} {out scratch stack : List ℕ} {o i d : ℕ} (s : Landed w out scratch stack o i d) where
+module _ {w : Term} {out scratch : List ℕ} {stack : Marks} {o i d : ℕ} (s : Landed w out scratch stack (place o i d)) where
   pub nearest : (d ≡ 0 → ⊥) → Nearest w out scratch stack o i d
   nearest ne = go s.above s.is s.nearly s.sides
     where
@@ -45,14 +47,14 @@ module _ {w : Term} {out scratch stack : List ℕ} {o i d : ℕ} (s : Landed w o
           record { hole = f; rest = c; part = s.at; is = e; enters = q.0; second = q.1; quiet = q.2; fits = s.fits; sides = t }
 
   -- no node above
-  pub alone : d ≡ 0 → Standing w out scratch stack o i d
+  pub alone : d ≡ 0 → Standing w out scratch stack (place o i d)
   alone z = go s.above s.is s.sides
     where
-      go : (c : Above) → w ≡ plug c s.at → Sides (lefts c) (encode s.at ++ rights c) c out scratch stack o i d → Standing w out scratch stack o i d
+      go : (c : Above) → w ≡ plug c s.at → Sides (lefts c) (encode s.at ++ rights c) c out scratch stack o i d → Standing w out scratch stack (place o i d)
       go [] e t = record { above = []; at = s.at; is = e; quiet = tt; fits = s.fits; sides = t }
       go (f ∷ c) e t = absurd (omega (arith, t.depth, z))
 
-module _ {w : Term} {out scratch stack : List ℕ} {o i d : ℕ} (k : Nearest w out scratch stack o i d) where
+module _ {w : Term} {out scratch : List ℕ} {stack : Marks} {o i d : ℕ} (k : Nearest w out scratch stack o i d) where
   abbrev f : Hole
   f = k.hole
 
@@ -88,31 +90,25 @@ module _ {w : Term} {out scratch stack : List ℕ} {o i d : ℕ} (k : Nearest w 
         long = omega (arith, k.sides.long, length-append (lefts c) (before f));
         short = omega (arith, short);
         room = k.sides.room;
-        marked = ap (λ (j : ℕ). get_or stack j 0) e ∙ k.sides.held.0;
+        marked = ap (λ (j : ℕ). get_or stack j None) e ∙ k.sides.held.0;
       }
 
   -- the node stays no redex
-  stays : Asleep f t → Standing w out scratch stack o i d
+  stays : Asleep f t → Standing w out scratch stack (place o i d)
   stays a = record { above = f ∷ c; at = t; is = k.is; quiet = (k.enters, a, k.quiet); fits = k.fits; sides = k.sides }
 
-  pub stays-second : get_or stack (d - 1) 0 ≡ second_mark → Standing w out scratch stack o i d
-  stays-second e = stays (k.second (λ p. not_first under e p))
-
-  module _ (ne : get_or stack (d - 1) 0 ≡ second_mark → ⊥) where
-    abbrev start : ℕ
-    start = get_or stack (d - 1) 0
-
-    pub stays-first : (b : Bool) → b ≡ reduces (get_or out start 0) (get_or scratch i 0) → b ≡ false → Standing w out scratch stack o i d
+  module _ {start : ℕ} (at : get_or stack (d - 1) None ≡ Some start) where
+    pub stays-first : (b : Bool) → b ≡ reduces (get_or out start 0) (get_or scratch i 0) → b ≡ false → Standing w out scratch stack (place o i d)
     stays-first b e y =
         stays
-        (ap (λ (j : ℕ). reduces j (tag (part_first f t))) (sym (tag_is under ne))
-        ∙ ap (λ (j : ℕ). reduces (get_or out start 0) j) (ap tag (first-is f t (none_passed under ne)) ∙ sym (at_tag scratch i t stands_at))
+        (ap (λ (j : ℕ). reduces j (tag (part_first f t))) (sym (tag_is under at))
+        ∙ ap (λ (j : ℕ). reduces (get_or out start 0) j) (ap tag (first-is f t (none_passed under at)) ∙ sym (at_tag scratch i t stands_at))
         ∙ sym e
         ∙ y)
 
     pub back-room : (start ≤ o) × (o - start ≤ i) × (o ≤ length out) × (i - (o - start) + (o - start) ≤ length scratch)
     back-room =
-        let a = start-before under ne in
+        let a = start-before under at in
         let b = short in
         let e = k.sides.inside in
         let g = k.sides.scratch-room in
@@ -121,14 +117,14 @@ module _ {w : Term} {out scratch stack : List ℕ} {o i d : ℕ} (k : Nearest w 
 
     -- its head, in the output
     head-is : slice start o out ≡ before f
-    head-is = ap (λ (z : Bytes). drop start z) k.sides.left ∙ drop_at (lefts c) (before f) start (sym (started under ne))
+    head-is = ap (λ (z : Bytes). drop start z) k.sides.left ∙ drop_at (lefts c) (before f) start (sym (started under at))
 
-    pub wakes : {scratch₁ : List ℕ} {p : ℕ} → Wrote scratch (i - (o - start)) (slice start o out) scratch₁ p → Standing w out scratch₁ stack start (i - (o - start)) (d - 1)
+    pub wakes : {scratch₁ : List ℕ} {p : ℕ} → Wrote scratch (i - (o - start)) (slice start o out) scratch₁ p → Standing w out scratch₁ stack (place start (i - (o - start)) (d - 1))
     wakes {scratch₁} {p} v =
         let u : Wrote scratch (i - (o - start)) (before f) scratch₁ p = rw head-is at v in
         let s = k.sides in
         let r = back-room in
-        let n : length (before f) ≡ o - start = omega (arith, started under ne, s.long, length-append (lefts c) (before f)) in
+        let n : length (before f) ≡ o - start = omega (arith, started under at, s.long, length-append (lefts c) (before f)) in
         let e : p ≡ i = u.ends ∙ omega (arith, n, r) in
         let g : length scratch₁ ≡ length scratch = ap (λ (z : Bytes). length z) u.holds ∙ length-sets scratch (i - (o - start)) (before f) in
         record {
@@ -139,8 +135,8 @@ module _ {w : Term} {out scratch stack : List ℕ} {o i d : ℕ} (k : Nearest w 
           fits = k.fits;
           sides =
               record {
-                left = sym (take-take start o out r.0) ∙ ap (λ (z : Bytes). take start z) s.left ∙ take_at (lefts c) (before f) start (sym (started under ne));
-                long = started under ne;
+                left = sym (take-take start o out r.0) ∙ ap (λ (z : Bytes). take start z) s.left ∙ take_at (lefts c) (before f) start (sym (started under at));
+                long = started under at;
                 right =
                     wrote_right u (omega (arith, n, r)) ∙ ap (λ (j : ℕ). before f ++ drop j scratch) e
                     ∙ ap (λ (z : Bytes). before f ++ z) (s.right ∙ sym (append_assoc (encode t) (behind f) (rights c)))

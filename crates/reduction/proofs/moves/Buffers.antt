@@ -3,6 +3,7 @@
 use Prim.Native.Nat.{ℕ, ◌+◌, ◌-◌, ◌≤◌, ◌<◌}
 use mathlib.Core.Path.{◌≡◌, sym, ap, ◌∙◌}
 use mathlib.Core.Bool.{true}
+use Rattle.std.specs.Prelude.{Option, None}
 use mathlib.Core.List.{List, [], ◌∷◌, ◌++◌, append_assoc}
 use native.Mathlib.Omega.{arith}
 use lib.ListN.{length, take, drop, set, get_or, length-append, length-drop}
@@ -13,7 +14,7 @@ use Rattle.rules.specs.Term.{Term, encode, nodes, size, fits}
 use Rattle.laws.specs.reading.Fits.{within}
 use Rattle.buffer.specs.Wrote.{Wrote}
 use Rattle.reduction.specs.Hole.{Hole, passed, Above, plug, lefts}
-use Rattle.reduction.specs.Standing.{mark, Held, Sides}
+use Rattle.reduction.specs.Standing.{Marks, mark, Held, Sides}
 use Rattle.reduction.proofs.moves.Contexts.{depth_below}
 
 module _ {l xs l' : Bytes} {i p : ℕ} (w : Wrote l i xs l' p) (h : i + length xs ≤ length l) where
@@ -36,18 +37,18 @@ module _ {l xs l' : Bytes} {i p : ℕ} (w : Wrote l i xs l' p) (h : i + length x
 
 -- ---- marks
 
-pub held_below : (s : List ℕ) (c : Above) (k v : ℕ) → length c ≤ k → Held s c → Held (set s k v) c
+pub held_below : (s : Marks) (c : Above) (k : ℕ) (v : Option ℕ) → length c ≤ k → Held s c → Held (set s k v) c
 held_below s [] k v h d = tt
 held_below s (f ∷ c) k v h d =
-    (get_or-set_other s k (length c) v 0 (λ e. omega (arith, h, e)) ∙ d.0, held_below s c k v (omega arith) d.1)
+    (get_or-set_other s k (length c) v None (λ e. omega (arith, h, e)) ∙ d.0, held_below s c k v (omega arith) d.1)
 
-pub held-set : (s : List ℕ) (f : Hole) (c : Above) (k v : ℕ) → k ≡ length c → k < length s → v ≡ mark (length (passed f)) (length (lefts c)) → Held s c → Held (set s k v) (f ∷ c)
+pub held-set : (s : Marks) (f : Hole) (c : Above) (k : ℕ) (v : Option ℕ) → k ≡ length c → k < length s → v ≡ mark (length (passed f)) (length (lefts c)) → Held s c → Held (set s k v) (f ∷ c)
 held-set s f c k v e h m d =
-    (ap (λ (j : ℕ). get_or (set s k v) j 0) (sym e) ∙ get_or-set_same s k v 0 h ∙ m, held_below s c k v (omega (arith, e)) d)
+    (ap (λ (j : ℕ). get_or (set s k v) j None) (sym e) ∙ get_or-set_same s k v None h ∙ m, held_below s c k v (omega (arith, e)) d)
 
 -- ---- both sides of a whole that fits
 
-module _ {l r : Bytes} {c : Above} {out scratch stack : List ℕ} {o i d : ℕ} (s : Sides l r c out scratch stack o i d) (w : Term) where
+module _ {l r : Bytes} {c : Above} {out scratch : List ℕ} {stack : Marks} {o i d : ℕ} (s : Sides l r c out scratch stack o i d) (w : Term) where
   pub sides-size : l ++ r ≡ encode w → o + (length scratch - i) ≡ size w
   sides-size e =
       omega (arith, s.long, ap (λ (z : Bytes). length z) s.right, length-drop i scratch, length-append l r, ap (λ (z : Bytes). length z) e)

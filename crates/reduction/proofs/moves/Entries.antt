@@ -1,25 +1,26 @@
 -- Into a node: its head goes over to the output, its mark onto the stack, and the search stands at its first part. Assumes nothing.
 use Prim.Native.Nat.{ℕ, ◌+◌, ◌-◌, ◌≤◌, ◌<◌}
 use mathlib.Core.Path.{◌≡◌, sym, subst, ap, ◌∙◌}
-use mathlib.Core.Bool.{true}
 use mathlib.Core.List.{List, ◌∷◌, ◌++◌, append_assoc}
 use native.Mathlib.Omega.{arith}
 use lib.ListN.{length, drop, set, length-append, length-set}
 use lib.Seq.{length-sets, slice}
 use Rattle.rules.specs.Limits.{limits}
+use Rattle.std.specs.Prelude.{Option, Some}
 use Rattle.rules.specs.Basic.{Bytes}
 use Rattle.rules.specs.Term.{Term, encode, size}
 use Rattle.buffer.specs.Wrote.{Wrote}
 use Rattle.buffer.specs.Writing.{slice_is}
 use Rattle.term.proofs.node.Names.{drop_app, long}
+use Rattle.reduction.proofs.moves.Places.{place}
 use Rattle.reduction.specs.Hole.{Hole, before, behind, plug, lefts, rights}
 use Rattle.reduction.specs.Quiet.{Quiet}
-use Rattle.reduction.specs.Standing.{Sides, Standing, Goes, Entering}
+use Rattle.reduction.specs.Standing.{Marks, mark, Sides, Standing, Reaches, Entering}
 use Rattle.reduction.proofs.moves.Holes.{fill-encode}
 use Rattle.reduction.proofs.moves.Contexts.{plug-encode}
 use Rattle.reduction.proofs.moves.Buffers.{wrote-left, held-set, sides-size, sides-short, depth-few}
 
-module _ {w : Term} {out scratch stack : List ℕ} {o i d : ℕ} (s : Standing w out scratch stack o i d) where
+module _ {w : Term} {out scratch : List ℕ} {stack : Marks} {o i d : ℕ} (s : Standing w out scratch stack (place o i d)) where
   -- the two sides are the whole
   pub is_whole : lefts s.above ++ (encode s.at ++ rights s.above) ≡ encode w
   is_whole = sym (plug-encode s.above s.at) ∙ ap encode (sym s.is)
@@ -30,8 +31,8 @@ module _ {w : Term} {out scratch stack : List ℕ} {o i d : ℕ} (s : Standing w
   pub whole-short : o + (length scratch - i) ≤ limits.bytes
   whole-short = sides-short s.sides w s.fits is_whole
 
-module _ {w : Term} {out scratch stack : List ℕ} {o i d m : ℕ} (e : Entering w out scratch stack o i d m) where
-  abbrev s : Standing w out scratch stack o i d
+module _ {w : Term} {out scratch : List ℕ} {stack : Marks} {o i d m : ℕ} (e : Entering w out scratch stack (place o i d) m) where
+  abbrev s : Standing w out scratch stack (place o i d)
   s = e.stands
 
   abbrev f : Hole
@@ -71,7 +72,7 @@ module _ {w : Term} {out scratch stack : List ℕ} {o i d m : ℕ} (e : Entering
         let n : slice i m scratch ≡ before f = ap (λ (k : ℕ). slice i k scratch) e.opens.starts ∙ slice_is i scratch (before f) rest apart in
         rw n at c
 
-    sides-now : Sides (lefts s.above ++ before f) rest (f ∷ s.above) out₁ scratch (set stack d o) p m (d + 1)
+    sides-now : Sides (lefts s.above ++ before f) rest (f ∷ s.above) out₁ scratch (set stack d (Some o)) p m (d + 1)
     sides-now =
         let t = s.sides in
         let n = length-append (lefts s.above) (before f) in
@@ -81,14 +82,14 @@ module _ {w : Term} {out scratch stack : List ℕ} {o i d m : ℕ} (e : Entering
           long = omega (arith, copied.ends, t.long, n);
           right = drop_app (before f) rest scratch i m apart e.opens.starts;
           inside = r.1;
-          held = held-set stack f s.above d o t.depth enter-depth.1 (rw e.opens.first t.long) t.held;
+          held = held-set stack f s.above d (Some o) t.depth enter-depth.1 (ap (λ (k : ℕ). Some k) t.long ∙ ap (λ (z : List Term). mark (length z) (length (lefts s.above))) (sym e.opens.first)) t.held;
           depth = omega (arith, t.depth);
           room = omega (arith, t.room, ap (λ (z : Bytes). length z) copied.holds, length-sets out o (before f));
           scratch-room = t.scratch-room;
-          stack-room = omega (arith, t.stack-room, length-set stack d o);
+          stack-room = omega (arith, t.stack-room, length-set {A = Option ℕ} stack d (Some o));
         }
 
-    inside-now : Standing w out₁ scratch (set stack d o) p m (d + 1)
+    inside-now : Standing w out₁ scratch (set stack d (Some o)) (place p m (d + 1))
     inside-now =
         record {
           above = f ∷ s.above;
@@ -99,5 +100,5 @@ module _ {w : Term} {out scratch stack : List ℕ} {o i d m : ℕ} (e : Entering
           sides = sides-now;
         }
 
-    pub entered : Goes w out₁ scratch (set stack d o) m (record { o = p; i = m; depth = d + 1; going = true })
-    entered = record { goes = λ _. inside-now; ends = λ z. absurd (let y : ◌≡◌ {A = ℕ} 0 1 = cc in omega arith); past = omega arith }
+    pub entered : Reaches w out₁ scratch (set stack d (Some o)) m (record { o = p; i = m; depth = d + 1 })
+    entered = record { stands = inside-now; past = omega arith }

@@ -10,13 +10,14 @@ use Rattle.rules.specs.Term.{Term, encode}
 use Rattle.buffer.specs.Wrote.{Wrote}
 use Rattle.buffer.specs.Writing.{slice_is}
 use Rattle.term.proofs.node.Names.{drop_app, long}
+use Rattle.reduction.proofs.moves.Places.{place}
 use Rattle.reduction.specs.Hole.{lefts, rights}
-use Rattle.reduction.specs.Standing.{Standing, Done, Passing}
+use Rattle.reduction.specs.Standing.{Marks, Standing, Done, Passing}
 use Rattle.reduction.proofs.moves.Buffers.{wrote-left}
 use Rattle.reduction.proofs.moves.Entries.{whole-short}
 
-module _ {w : Term} {out scratch stack : List ℕ} {o i d m : ℕ} (e : Passing w out scratch stack o i d m) where
-  abbrev s : Standing w out scratch stack o i d
+module _ {w : Term} {out scratch : List ℕ} {stack : Marks} {o i d m : ℕ} (e : Passing w out scratch stack (place o i d) m) where
+  abbrev s : Standing w out scratch stack (place o i d)
   s = e.stands
 
   pub pass-room : (i ≤ m) × (m ≤ length scratch) × (o + (m - i) ≤ length out)
@@ -35,7 +36,7 @@ module _ {w : Term} {out scratch stack : List ℕ} {o i d m : ℕ} (e : Passing 
         ap (λ (k : ℕ). slice i k scratch) e.rests.ends ∙ slice_is i scratch (encode s.at) (rights s.above) s.sides.right in
         rw n at c
 
-    pub done : Done w out₁ scratch stack p m d
+    pub done : Done w out₁ scratch stack (place p m d)
     done =
         let t = s.sides in
         let r = pass-room in

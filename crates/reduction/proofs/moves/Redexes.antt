@@ -7,9 +7,10 @@ use native.Mathlib.Omega.{arith}
 use Rattle.rules.specs.Term.{Term, var, leaf, one, two, abs, both, branch, inl, inr, fst, snd, abort, promote, derelict, let_a_pair, copy}
 use Rattle.rules.specs.declared.Rule.{Rule}
 use Rattle.rules.specs.Step.{no, by, contract, step}
+use Rattle.reduction.proofs.moves.Places.{place}
 use Rattle.reduction.specs.Hole.{plug}
 use Rattle.reduction.specs.Quiet.{Steps}
-use Rattle.reduction.specs.Standing.{Reducing}
+use Rattle.reduction.specs.Standing.{Marks, Reducing}
 use Rattle.reduction.proofs.moves.Contexts.{plug-steps}
 
 nothing : {r : Rule} {h : Option Term} {u : Term} → no ≡ by r h u → ⊥
@@ -33,7 +34,7 @@ contract-steps (both let_a_pair x y a b) r h u e = record { place = 0; is = rw e
 contract-steps (both copy x y a b) r h u e = record { place = 0; is = rw e }
 contract-steps (branch x y a l m) r h u e = record { place = 0; is = rw e }
 
-pub redex-steps : {w : Term} {out scratch stack : List ℕ} {o i d : ℕ} (e : Reducing w out scratch stack o i d)
+pub redex-steps : {w : Term} {out scratch : List ℕ} {stack : Marks} {o i d : ℕ} (e : Reducing w out scratch stack (place o i d))
     → Steps w e.redex.rule e.redex.half (plug e.stands.above e.redex.result)
 redex-steps e =
     let s = e.stands in

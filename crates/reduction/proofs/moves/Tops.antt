@@ -5,18 +5,20 @@ use mathlib.Core.Bool.{true}
 use mathlib.Core.List.{List, [], ◌∷◌, ◌++◌, append_assoc}
 use native.Mathlib.Omega.{arith}
 use lib.ListN.{length, get_or, length-append}
+use Rattle.std.specs.Prelude.{None}
 use Rattle.rules.specs.Limits.{limits}
 use Rattle.rules.specs.Term.{Term, encode, size, fits}
 use Rattle.rules.specs.Step.{normal, step}
+use Rattle.reduction.proofs.moves.Places.{place}
 use Rattle.reduction.specs.Hole.{Hole, fill, before, behind, Above, plug, lefts, rights}
 use Rattle.reduction.specs.Quiet.{Entered, Asleep, Quiet}
-use Rattle.reduction.specs.Standing.{Sides, Done, Ended}
+use Rattle.reduction.specs.Standing.{Marks, Sides, Done, Ended}
 use Rattle.reduction.proofs.moves.Contexts.{plug-encode}
 use Rattle.reduction.proofs.moves.Buffers.{sides-short, depth-few}
 use Rattle.reduction.proofs.moves.Marks.{Under}
 
 -- the nearest node above
-pub record Top (w : Term) (out scratch stack : List ℕ) (o i d : ℕ) : Type 0 where
+pub record Top (w : Term) (out scratch : List ℕ) (stack : Marks) (o i d : ℕ) : Type 0 where
   pub hole : Hole
   pub rest : Above
   pub part : Term
@@ -28,7 +30,7 @@ pub record Top (w : Term) (out scratch stack : List ℕ) (o i d : ℕ) : Type 0 
   pub fits : fits limits w ≡ true
   pub sides : Sides ((lefts rest ++ before hole) ++ encode part) (behind hole ++ rights rest) (hole ∷ rest) out scratch stack o i d
 
-pub top : {w : Term} {out scratch stack : List ℕ} {o i d : ℕ} → Done w out scratch stack o i d → 0 < d → Top w out scratch stack o i d
+pub top : {w : Term} {out scratch : List ℕ} {stack : Marks} {o i d : ℕ} → Done w out scratch stack (place o i d) → 0 < d → Top w out scratch stack o i d
 top {w} {out} {scratch} {stack} {o} {i} {d} s h = go s.above s.is s.quiet s.sides
   where
     go : (c : Above) → w ≡ plug c s.at → Quiet c s.at → Sides (lefts c ++ encode s.at) (rights c) c out scratch stack o i d → Top w out scratch stack o i d
@@ -37,14 +39,14 @@ top {w} {out} {scratch} {stack} {o} {i} {d} s h = go s.above s.is s.quiet s.side
         record { hole = f; rest = c; part = s.at; is = e; enters = q.0; sleeps = q.1; quiet = q.2; none = s.none; fits = s.fits; sides = t }
 
 -- no node above: the whole has no step
-pub ended : {w : Term} {out scratch stack : List ℕ} {o i d : ℕ} → Done w out scratch stack o i d → d ≤ 0 → Ended w out o
+pub ended : {w : Term} {out scratch : List ℕ} {stack : Marks} {o i d : ℕ} → Done w out scratch stack (place o i d) → d ≤ 0 → Ended w out o
 ended {w} {out} {scratch} {stack} {o} {i} {d} s h = go s.above s.is s.sides
   where
     go : (c : Above) → w ≡ plug c s.at → Sides (lefts c ++ encode s.at) (rights c) c out scratch stack o i d → Ended w out o
     go [] e t = record { none = rw e s.none; bytes = rw e t.left; long = rw e t.long; fits = s.fits }
     go (f ∷ c) e t = absurd (omega (arith, t.depth, h))
 
-module _ {w : Term} {out scratch stack : List ℕ} {o i d : ℕ} (k : Top w out scratch stack o i d) where
+module _ {w : Term} {out scratch : List ℕ} {stack : Marks} {o i d : ℕ} (k : Top w out scratch stack o i d) where
   abbrev f : Hole
   f = k.hole
 
@@ -78,5 +80,5 @@ module _ {w : Term} {out scratch stack : List ℕ} {o i d : ℕ} (k : Top w out 
         long = left-long;
         short = omega (arith, whole-short);
         room = k.sides.room;
-        marked = ap (λ (j : ℕ). get_or stack j 0) e ∙ k.sides.held.0;
+        marked = ap (λ (j : ℕ). get_or stack j None) e ∙ k.sides.held.0;
       }

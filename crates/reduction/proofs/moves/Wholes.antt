@@ -10,12 +10,13 @@ use Rattle.rules.specs.Basic.{Bytes}
 use Rattle.rules.specs.Limits.{limits, output_room, scratch_room}
 use Rattle.rules.specs.Term.{Term, encode, size, fits}
 use Rattle.buffer.specs.Wrote.{Wrote}
+use Rattle.reduction.proofs.moves.Places.{place}
 use Rattle.reduction.specs.Hole.{rights}
-use Rattle.reduction.specs.Standing.{Standing}
+use Rattle.reduction.specs.Standing.{Marks, Standing}
 use Rattle.reduction.proofs.moves.Buffers.{wrote-left, wrote_right}
 use Rattle.reduction.proofs.moves.Entries.{is_whole, whole-size, whole-short}
 
-module _ {w : Term} {out scratch stack : List ℕ} {o i d : ℕ} (s : Standing w out scratch stack o i d) where
+module _ {w : Term} {out scratch : List ℕ} {stack : Marks} {o i d : ℕ} (s : Standing w out scratch stack (place o i d)) where
   pub join-room : (i ≤ length scratch) × (o + (length scratch - i) ≤ length out)
   join-room = (s.sides.inside, omega (arith, whole-short s, s.sides.room))
 
@@ -35,9 +36,9 @@ module _ {w : Term} {out scratch stack : List ℕ} {o i d : ℕ} (s : Standing w
         ∙ is_whole s
 
 -- a term at the end of the scratch, and nothing passed: there the search begins
-module _ (t : Term) (f : fits limits t ≡ true) {out scratch stack scratch₁ : List ℕ} {k p : ℕ} (v : Wrote scratch k (encode t) scratch₁ p)
+module _ (t : Term) (f : fits limits t ≡ true) {out scratch scratch₁ : List ℕ} {stack : Marks} {k p : ℕ} (v : Wrote scratch k (encode t) scratch₁ p)
     (e : k + size t ≡ length scratch) (r : output_room limits ≤ length out) (q : scratch_room limits ≤ length scratch) (h : limits.nodes ≤ length stack) where
-  pub stands-first : Standing t out scratch₁ stack 0 k 0
+  pub stands-first : Standing t out scratch₁ stack (place 0 k 0)
   stands-first =
       let g : length scratch₁ ≡ length scratch = ap (λ (z : Bytes). length z) v.holds ∙ length-sets scratch k (encode t) in
       record {

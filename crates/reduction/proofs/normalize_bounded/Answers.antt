@@ -7,22 +7,22 @@ pub reduce_read-requires : goal.reduce_read-requires
 reduce_read-requires c =
     let a = c.args in
     let (h, k) = c.short.ensures.many c.if-short.false in
-    (read a.term.now a.limit a.out.now a.scratch.now h k _ (sym c.term_input.ensures ∙ c.in-Good.is), k)
+    (read a.term.now a.limit a.out.now a.scratch.now h k _ (sym c.term_input.ensures ∙ c.in-Ok.is), k)
 
-pub returns-in-Good : goal.returns-in-Good
-returns-in-Good c =
+pub returns-in-Ok : goal.returns-in-Ok
+returns-in-Ok c =
     let a = c.args in
     let (h, k) = c.short.ensures.many c.if-short.false in
-    let e = sym c.term_input.ensures ∙ c.in-Good.is in
+    let e = sym c.term_input.ensures ∙ c.in-Ok.is in
     let w = read a.term.now a.limit a.out.now a.scratch.now h k _ e in
     let (v, (o, s)) = reduced a.term.now a.limit a.out.now a.scratch.now h k _ e _ _ _ (c.reduce_read.ensures w.0 w.1) in
     record { value = v; out_after = o; scratch_after = s }
 
-pub returns-in-Refused : goal.returns-in-Refused
-returns-in-Refused c =
+pub returns-in-Err : goal.returns-in-Err
+returns-in-Err c =
     let a = c.args in
     let (h, k) = c.short.ensures.many c.if-short.false in
-    let (v, (o, s)) = not-read a.term.now a.limit a.out.now a.scratch.now h k _ (sym c.term_input.ensures ∙ c.in-Refused.is) in
+    let (v, (o, s)) = not-read a.term.now a.limit a.out.now a.scratch.now h k _ (sym c.term_input.ensures ∙ c.in-Err.is) in
     record { value = v; out_after = o; scratch_after = s }
 
 pub returns-then-short : goal.returns-then-short

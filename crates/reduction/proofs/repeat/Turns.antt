@@ -1,37 +1,30 @@
 -- A turn: the search goes on to a redex or to the end; what is left to do is what the rules leave to do, of the whole in which
 -- the search stands. Assumes nothing.
 use Prim.Native.Nat.{ℕ, suc, ◌+◌, ◌-◌, ◌≤◌}
-use mathlib.Core.Path.{◌≡◌, refl, subst, ap, ◌∙◌}
-use mathlib.Core.Bool.{true, false, not}
+use mathlib.Core.Path.{◌≡◌, refl, ap, ◌∙◌}
+use mathlib.Core.Bool.{true, false}
 use mathlib.Core.List.{List}
 use native.Mathlib.Numerals.{add-one}
 use native.Mathlib.Omega.{arith}
-use borrow.Author.Tests.{not-false}
 use lib.ListN.{length}
 use lib.Seq.{slice}
-use Rattle.rules.specs.Basic.{Bytes}
 use Rattle.rules.specs.Limits.{limits}
 use Rattle.rules.specs.Term.{Term}
 use Rattle.rules.specs.Step.{Stepped, is_normal_term}
 use Rattle.rules.specs.Reduction.{stopped, plus, reduce_from, reduce}
 use Rattle.buffer.specs.Wrote.{Wrote}
 use Rattle.contraction.specs.declared.part.Contraction.{Contraction}
-use Rattle.reduction.specs.Standing.{Ended, Reducing, Finds}
-use Rattle.reduction.specs.Fired.{Firing, Fires, Lands, Over, Row}
-use Rattle.reduction.specs.declared.land.Fired.{Fired}
-use Rattle.reduction.specs.declared.land.Fired.TheVariants.{Made, Outgrown as TooLarge}
+use Rattle.reduction.specs.Standing.{Marks, Ended, Reducing}
+use Rattle.std.specs.Prelude.{Err}
+use Rattle.reduction.specs.Fired.{Firing, Lands, Over}
 use Rattle.reduction.specs.declared.place.Place.{Place}
 use Rattle.reduction.proofs.moves.Redexes.{redex-steps}
 use Rattle.reduction.proofs.moves.Wholes.{join-long, join-bytes, join-room}
 use Rattle.reduction.specs.Counted.{counted}
 use Rattle.reduction.specs.Told.{stopped_at, onward}
 use Rattle.reduction.specs.declared.course.Course.{Course}
-use Rattle.reduction.specs.declared.course.Repeated.{Repeated}
-use Rattle.reduction.specs.declared.course.Repeated.TheVariants.{Outgrown}
 use Rattle.reduction.specs.Carried.{at-limit, at_rest, at-found, at-over}
-use Rattle.reduction.specs.Turning.{Carried, Stands, AtRedex, Room, GoesOn, Turns, Repeats}
-use Rattle.reduction.specs.declared.turn.Turned.{Turned}
-use Rattle.reduction.specs.declared.turn.Turned.TheVariants.{Ended as End, On}
+use Rattle.reduction.specs.Turning.{Carried, Stands, AtRedex, GoesOn, Repeats}
 
 -- no step remains
 pub rests : {limit : ℕ} {t w : Term} {g : Course} {out : List ℕ} {l : ℕ} → Carried limit t w g → Ended w out l
@@ -40,10 +33,7 @@ rests {limit} {w = w} {g = g} k e =
     rw (k.carries ∙ at_rest limits g.steps g.counts w (limit - g.steps) e.none)
     (record { says = rw e.long; bytes = rw (← e.long) e.bytes; fits = e.fits })
 
-module _ {limit : ℕ} {t : Term} {out scratch stack out₁ stack₁ : List ℕ} {g : Course} {p : Place} (a : Stands limit t out scratch stack g) (f : Finds a.whole out₁ scratch stack₁ p) (e : not p.going ≡ false) where
-  on : Reducing a.whole out₁ scratch stack₁ p.o p.i p.depth
-  on = f.finds (not-false p.going e)
-
+module _ {limit : ℕ} {t : Term} {out scratch out₁ : List ℕ} {stack stack₁ : Marks} {g : Course} {p : Place} (a : Stands limit t out scratch stack g) (on : Reducing a.whole out₁ scratch stack₁ p) where
   -- the search has gone on to a redex
   pub found : (g.steps ≡ limit → ⊥) → limit ≤ 4294967295 → AtRedex limit t out₁ scratch stack₁ g p
   found ne m = record { whole = a.whole; carried = a.carried; redex = on; below = omega (arith, ne, a.carried.within); small = m }
@@ -65,17 +55,17 @@ module _ {limit : ℕ} {t : Term} {out scratch stack out₁ stack₁ : List ℕ}
       ∙ ap (λ (x : Stepped). stopped g.steps g.counts (is_normal_term x) a.whole) y.is)
       (record { says = rw l; bytes = rw (← l) (join-bytes s v); fits = s.fits })
 
-module _ {limit : ℕ} {t : Term} {out scratch stack : List ℕ} {g : Course} {p : Place} (a : AtRedex limit t out scratch stack g p) where
-  pub fires : {places : List ℕ} {made : Bytes} → Room places made → Firing a.whole out scratch stack p.o p.i p.depth g.nodes places made
-  fires b = record { reducing = a.redex; count = a.carried.count; row = b.row; made-room = b.made-room }
+module _ {limit : ℕ} {t : Term} {out scratch : List ℕ} {stack : Marks} {g : Course} {p : Place} (a : AtRedex limit t out scratch stack g p) where
+  pub fires : Firing a.whole out scratch stack p g.nodes
+  fires = record { reducing = a.redex; count = a.carried.count }
 
   left : reduce limits limit t ≡ reduce_from limits (suc (limit - (g.steps + 1))) g.steps g.counts a.whole
   left =
       let z : limit - g.steps ≡ suc (limit - (g.steps + 1)) = omega (arith, a.below) in
       a.carried.carries ∙ ap (λ (m : ℕ). reduce_from limits m g.steps g.counts a.whole) z
 
-  pub outgrows : {scratch₁ : List ℕ} (y : Over a.whole out scratch₁ stack p.o p.i p.depth) {out₂ : List ℕ} {q : ℕ}
-      → Wrote out p.o (slice p.i (length scratch₁) scratch₁) out₂ q → Repeats (reduce limits limit t) out₂ (Outgrown g.steps q)
+  pub outgrows : {scratch₁ : List ℕ} (y : Over a.whole out scratch₁ stack p) {out₂ : List ℕ} {q : ℕ}
+      → Wrote out p.o (slice p.i (length scratch₁) scratch₁) out₂ q → Repeats (reduce limits limit t) out₂ (Err (record { steps = g.steps; length = q }))
   outgrows y {out₂} {q} v =
       let s = y.stands in
       let l = join-long s v in
@@ -101,30 +91,8 @@ module _ {limit : ℕ} {t : Term} {out scratch stack : List ℕ} {g : Course} {p
         one = refl;
       }
 
--- what the contraction's answer says
-module _ {w : Term} {out scratch stack : List ℕ} (o i d : ℕ) (r : Fired) (f : Fires w out scratch stack o i d r) where
-  pub is-over : r ≡ TooLarge → Over w out scratch stack o i d
-  is-over e = subst (λ (z : Fired). Fires w out scratch stack o i d z) e f
-
-  pub is_made : {m : Contraction} {p : Place} → r ≡ Made m p → Lands w m out scratch stack p
-  is_made e = subst (λ (z : Fired). Fires w out scratch stack o i d z) e f
-
--- what a turn's answer says
-module _ (limit : ℕ) (t : Term) (steps : ℕ) (out scratch stack : List ℕ) (r : Turned) (f : Turns limit t steps out scratch stack r) where
-  pub is-ended : {x : Repeated} → r ≡ End x → Repeats (reduce limits limit t) out x
-  is-ended e = subst (λ (z : Turned). Turns limit t steps out scratch stack z) e f
-
-  pub is-on : {g : Course} → r ≡ On g → GoesOn limit t steps out scratch stack g
-  is-on e = subst (λ (z : Turned). Turns limit t steps out scratch stack z) e f
-
 -- the buffers keep their lengths
-pub record Kept (out₀ scratch₀ stack₀ : List ℕ) (made₀ : Bytes) (out scratch stack places : List ℕ) (made : Bytes) : Type 0 where
+pub record Kept (out₀ scratch₀ : List ℕ) (stack₀ : Marks) (out scratch : List ℕ) (stack : Marks) : Type 0 where
   pub same_out : length out ≡ length out₀
   pub same-scratch : length scratch ≡ length scratch₀
   pub same-stack : length stack ≡ length stack₀
-  pub same-made : length made ≡ length made₀
-  pub row : Row places
-
-pub still-room : {out₀ scratch₀ stack₀ places₀ : List ℕ} {made₀ : Bytes} {out scratch stack places : List ℕ} {made : Bytes}
-    → Kept out₀ scratch₀ stack₀ made₀ out scratch stack places made → Room places₀ made₀ → Room places made
-still-room k a = record { row = k.row; made-room = omega (arith, k.same-made, a.made-room) }

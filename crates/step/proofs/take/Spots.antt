@@ -11,8 +11,8 @@ use Rattle.redex.specs.Around.{Around, Arounds, spot-around}
 use Rattle.redex.specs.Searched.{sought_at, sought}
 use Rattle.term.specs.Given.{Reads}
 use Rattle.step.specs.Taken.{contracted, Framed, Takes}
-use Rattle.redex.specs.declared.find.Sought.TheVariants.{Redex, After}
-use Rattle.step.specs.declared.take.Taken.TheVariants.{Normal}
+use Rattle.std.specs.Prelude.{Ok, Err}
+use Rattle.step.specs.declared.Stepped.TheVariants.{Normal}
 
 -- the redex u stands at p in the whole f, and the step of t is its contraction
 pub record Spotted (src : Bytes) (n p : ℕ) (out : Bytes) (t : Term) : Type 0 where
@@ -36,12 +36,12 @@ module _ {src : Bytes} {n : ℕ} {out : Bytes} {t : Term} (d : Reads src n out t
         contracts = c.3;
       }
 
-  pub spotted : (p : ℕ) → Redex p ≡ sought 0 t → Spotted src n p out t
+  pub spotted : (p : ℕ) → Ok p ≡ sought 0 t → Spotted src n p out t
   unfolding contracted
   spotted p e = go (spot t) refl e (spot-around t) (spot-contracts t)
     where
-      go : (s : Option Spot) → spot t ≡ s → Redex p ≡ sought_at 0 (size t) s → Arounds t s → Contracts s → Spotted src n p out t
-      go none h r a c = absurd (let z : ◌≡◌ {A = ℕ} 0 1 = cc in omega arith)
+      go : (s : Option Spot) → spot t ≡ s → Ok p ≡ sought_at 0 (size t) s → Arounds t s → Contracts s → Spotted src n p out t
+      go none h r a c = absurd (cc)
       go (some q) h r a c =
           let k : p ≡ 0 + q.place = cc in
           let l : p ≡ q.place = omega arith in
@@ -52,9 +52,9 @@ module _ {src : Bytes} {n : ℕ} {out : Bytes} {t : Term} (d : Reads src n out t
             is = step-spot t ∙ rw (h, l);
           }
 
-  pub nowhere : (m : ℕ) → After m ≡ sought 0 t → Takes (step t) out out Normal
+  pub nowhere : (m : ℕ) → Err m ≡ sought 0 t → Takes (step t) out out (Ok Normal)
   nowhere m e = go (spot t) refl e
     where
-      go : (s : Option Spot) → spot t ≡ s → After m ≡ sought_at 0 (size t) s → Takes (step t) out out Normal
+      go : (s : Option Spot) → spot t ≡ s → Err m ≡ sought_at 0 (size t) s → Takes (step t) out out (Ok Normal)
       go none h r = let k : step t ≡ normal = step-spot t ∙ rw h in rw k (record { says = refl; leaves = refl })
-      go (some q) h r = absurd (let z : ◌≡◌ {A = ℕ} 0 1 = cc in omega arith)
+      go (some q) h r = absurd (cc)

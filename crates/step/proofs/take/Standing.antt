@@ -3,11 +3,14 @@
 use Prim.Native.Nat.{ℕ, ◌+◌, ◌-◌, ◌≤◌}
 use mathlib.Core.Path.{◌≡◌, refl, sym, ap, ◌∙◌}
 use mathlib.Core.Bool.{true, ◌&&◌}
-use mathlib.Core.Option.{Option}
+use mathlib.Core.Option.{Option as Maybe}
 use mathlib.Core.List.{[], ◌++◌, append-nil, append_assoc}
 use native.Mathlib.Omega.{arith}
+use Rattle.std.specs.Prelude.{Option, Some, None}
 use lib.ListN.{length, drop, replicate, length-append, length-replicate}
 use lib.Seq.{slice, drop_at, length-slice}
+use Rattle.std.specs.Prelude.{Ok, Err}
+use Rattle.rules.specs.declared.Reason.TheVariants.{Outgrows}
 use Rattle.rules.specs.Basic.{Bytes}
 use Rattle.rules.specs.Limits.{limits, output_room}
 use Rattle.rules.specs.Term.{Term, encode, nodes, size, fits}
@@ -20,11 +23,10 @@ use Rattle.term.proofs.node.Names.{drop_app}
 use Rattle.contraction.specs.Beside.{fits_around, step-fits-in-frame}
 use Rattle.contraction.specs.Contracted.{Replaced, Contracts, becomes, outgrows}
 use Rattle.contraction.specs.declared.part.Contraction.{Contraction}
-use Rattle.contraction.specs.declared.part.Contracted.{Contracted}
-use Rattle.contraction.specs.declared.part.Contracted.TheVariants.{Made, Outgrown}
 use Rattle.contraction.specs.Contracting.{Contracting}
 use Rattle.step.specs.Taken.{contracted, Framed, Takes}
-use Rattle.step.specs.declared.take.Taken.TheVariants.{Found, Outgrown as Outgrew}
+use Rattle.rules.specs.declared.Refusal.{Refusal}
+use Rattle.step.specs.declared.Stepped.TheVariants.{Found}
 
 module _ {src : Bytes} {n place : ℕ} {out : Bytes} {f : Term → Term} {t : Term} (j : Framed src n place out f t) where
   abbrev left : Bytes
@@ -36,7 +38,7 @@ module _ {src : Bytes} {n place : ℕ} {out : Bytes} {f : Term → Term} {t : Te
   abbrev u : Term
   u = j.result
 
-  abbrev h : Option Term
+  abbrev h : Maybe Term
   h = j.half
 
   bytes : src ≡ left ++ (encode t ++ right)
@@ -79,15 +81,15 @@ module _ {src : Bytes} {n place : ℕ} {out : Bytes} {f : Term → Term} {t : Te
       ∙ ap (λ (k : ℕ). half_fits limits h && fits_around (nodes (f t)) k t u) l
       ∙ step-fits-in-frame j.frame t u h
 
-  module _ {work : Bytes} {c : Contracted} (v : Contracts src place n (length src) t j.rule h u work c) where
-    pub outgrew : c ≡ Outgrown → Takes (contracted place f t) out out Outgrew
-    outgrew q = go v
+  module _ {work : Bytes} {c : Option Contraction} (v : Contracts src place n (length src) t j.rule h u work c) where
+    pub outgrew : c ≡ None → {r : Refusal} → r ≡ record { reason = Outgrows; place = 0; input = 0 } → Takes (contracted place f t) out out (Err r)
+    outgrew q {r} e = go v
       where
-        go : Contracts src place n (length src) t j.rule h u work c → Takes (contracted place f t) out out Outgrew
-        go (becomes m y s r) = absurd (let z : ◌≡◌ {A = ℕ} 0 1 = cc in omega arith)
-        go (outgrows y s) = let z = sym tested ∙ y in record { says = rw (step_is, z); leaves = rw (step_is, z) }
+        go : Contracts src place n (length src) t j.rule h u work c → Takes (contracted place f t) out out (Err r)
+        go (becomes m y s r) = absurd (cc)
+        go (outgrows y s) = let z = sym tested ∙ y in record { says = rw (step_is, z) (ap Err e); leaves = rw (step_is, z) }
 
-    module _ {m : Contraction} (q : c ≡ Made m) where
+    module _ {m : Contraction} (q : c ≡ Some m) where
       abbrev k : ℕ
       k = m.size
 
@@ -103,7 +105,7 @@ module _ {src : Bytes} {n place : ℕ} {out : Bytes} {f : Term → Term} {t : Te
         where
           go : Contracts src place n (length src) t j.rule h u work c → Is
           go (becomes m' y s z) = let a : m ≡ m' = cc in record { passes = sym tested ∙ y; replaced = rw a z }
-          go (outgrows y s) = absurd (let z : ◌≡◌ {A = ℕ} 0 1 = cc in omega arith)
+          go (outgrows y s) = absurd (cc)
 
       end-inside : end ≤ length src
       end-inside = omega (arith, is.replaced.inside, long)
@@ -154,7 +156,7 @@ module _ {src : Bytes} {n place : ℕ} {out : Bytes} {f : Term → Term} {t : Te
           third-room =
               omega (arith, whole_long, j.room, x.ends, length-slice 0 place src room.0, wrote-length x, y.ends, length-slice 0 k work is.replaced.written, wrote-length y)
 
-          pub made : {out₃ : Bytes} {o₃ : ℕ} → Wrote out₂ o₂ (slice end (length src) src) out₃ o₃ → Takes (contracted place f t) out out₃ (Found (record { rule = m.rule; place = place; length = o₃ }))
+          pub made : {out₃ : Bytes} {o₃ : ℕ} → Wrote out₂ o₂ (slice end (length src) src) out₃ o₃ → Takes (contracted place f t) out out₃ (Ok (Found (record { rule = m.rule; place = place; length = o₃ })))
           made {out₃} {o₃} z =
               let w : Wrote out 0 (encode (f u)) out₃ o₃ = rw (← runs) (chain x (chain y z)) in
               let e : o₃ ≡ size (f u) = w.ends ∙ omega arith in

@@ -1,12 +1,13 @@
 -- `stored::load` meets its contract: room, the file's size, its blocks, their content, and only then the output. Assumes nothing.
-use Prim.Native.Nat.{◌≤◌}
+use Rattle.rules.specs.Refusal.{Outcome}
+use Rattle.std.specs.Prelude.{Err}
+use Prim.Native.Nat.{ℕ, ◌≤◌}
 use mathlib.Core.Path.{refl, sym, ap, ◌∙◌}
 use native.Mathlib.Omega.{arith}
 use lib.ListN.{length, take}
 use lib.Seq.{length-take-le}
 use Rattle.rules.specs.Limits.{limits}
-use Rattle.rules.specs.declared.Answer.{Answer}
-use Rattle.rules.specs.declared.Answer.TheVariants.{Refused}
+use Rattle.laws.specs.Handed.{handed}
 use Rattle.stored.specs.Answers.{accepted}
 use Rattle.stored.specs.Opening.{taken, amount}
 use Rattle.stored.specs.Storing.{read_short, load-short, load-size, load-blocks, load-content, load-good, ends}
@@ -16,34 +17,34 @@ pub put_content-requires : goal.put_content-requires
 put_content-requires c =
     let a = c.args in
     let o = c.open_blocks in
-    let n = c.in-Good.size in
-    let all : n ≤ length o.new.content = omega (arith, o.ensures.within, ap amount c.in-Good.is) in
-    let short = read_short limits a.kind 1 (take n o.new.content) (c.content_input.ensures ∙ ap accepted c.in-Good-content_input.is) in
+    let n = c.in_ok-size.size in
+    let all : n ≤ length o.new.content = omega (arith, o.ensures.within, ap amount c.in_ok-size.was) in
+    let short = read_short limits a.kind 1 (take n o.new.content) (c.content_input.ensures ∙ ap accepted c.in_ok-content_input.was) in
     (all, omega (arith, short, length-take-le n o.new.content all, c.if-out-lt-OUTPUT_ROOM.false))
 
-pub returns-in-Good-content_input : goal.returns-in-Good-content_input
-returns-in-Good-content_input c =
+pub returns : goal.returns
+returns c =
     let a = c.args in
     let o = c.open_blocks in
     let p = c.put_content.ensures in
     let both =
     ends
     (load-good limits a.kind a.file.now a.out.now c.if-out-lt-OUTPUT_ROOM.false (sym c.size_wrong.ensures ∙ c.if-size_wrong.false)
-    (take c.in-Good.size o.new.content) (o.ensures.outcome ∙ ap (λ (r : Answer). taken r o.new.content) c.in-Good.is)
-    (c.content_input.ensures ∙ ap accepted c.in-Good-content_input.is))
+    (take c.in_ok-size.size o.new.content) (o.ensures.outcome ∙ ap (λ (r : Outcome ℕ). taken r o.new.content) c.in_ok-size.was)
+    (c.content_input.ensures ∙ ap accepted c.in_ok-content_input.was))
     p.answer
     p.output in
     record { value = both.0; out_after = both.1 }
 
-pub returns-in-Refused : goal.returns-in-Refused
-returns-in-Refused c =
+pub returns-in_err-size : goal.returns-in_err-size
+returns-in_err-size c =
     let a = c.args in
     let o = c.open_blocks in
     let both =
     ends
-    (load-blocks limits a.kind a.file.now a.out.now c.if-out-lt-OUTPUT_ROOM.false (sym c.size_wrong.ensures ∙ c.if-size_wrong.false) c.in-Refused.r
-    (o.ensures.outcome ∙ ap (λ (r : Answer). taken r o.new.content) c.in-Refused.is))
-    refl
+    (load-blocks limits a.kind a.file.now a.out.now c.if-out-lt-OUTPUT_ROOM.false (sym c.size_wrong.ensures ∙ c.if-size_wrong.false) _
+    (o.ensures.outcome ∙ ap (λ (r : Outcome ℕ). taken r o.new.content) c.in_err-size.was))
+    (handed c.from_residual.result c.from_residual.ensures.1)
     refl in
     record { value = both.0; out_after = both.1 }
 
@@ -61,18 +62,18 @@ pub returns-then-out-lt-OUTPUT_ROOM : goal.returns-then-out-lt-OUTPUT_ROOM
 returns-then-out-lt-OUTPUT_ROOM c =
     let a = c.args in
     let both =
-    ends (load-short limits a.kind a.file.now a.out.now c.if-out-lt-OUTPUT_ROOM.true) (ap Refused c.of_no_input.ensures) refl in
+    ends (load-short limits a.kind a.file.now a.out.now c.if-out-lt-OUTPUT_ROOM.true) (ap Err c.of_no_input.ensures) refl in
     record { value = both.0; out_after = both.1 }
 
-pub returns-in-Refused-content_input : goal.returns-in-Refused-content_input
-returns-in-Refused-content_input c =
+pub returns-in_err-content_input : goal.returns-in_err-content_input
+returns-in_err-content_input c =
     let a = c.args in
     let o = c.open_blocks in
     let both =
     ends
     (load-content limits a.kind a.file.now a.out.now c.if-out-lt-OUTPUT_ROOM.false (sym c.size_wrong.ensures ∙ c.if-size_wrong.false)
-    (take c.in-Good.size o.new.content) (o.ensures.outcome ∙ ap (λ (r : Answer). taken r o.new.content) c.in-Good.is) c.in-Refused-content_input.r
-    (c.content_input.ensures ∙ ap accepted c.in-Refused-content_input.is))
-    refl
+    (take c.in_ok-size.size o.new.content) (o.ensures.outcome ∙ ap (λ (r : Outcome ℕ). taken r o.new.content) c.in_ok-size.was) _
+    (c.content_input.ensures ∙ ap accepted c.in_err-content_input.was))
+    (handed c.from_residual-in_err-content_input.result c.from_residual-in_err-content_input.ensures.1)
     refl in
     record { value = both.0; out_after = both.1 }

@@ -1,8 +1,8 @@
 -- `stored::put_stored` meets its contract: the blocks, then zeros. Assumes nothing.
+use Rattle.std.specs.Prelude.{Ok}
 use mathlib.Core.Path.{ap, ◌∙◌}
 use native.Mathlib.Nat.{zero-add}
 use native.Mathlib.Omega.{arith}
-use Rattle.rules.specs.declared.Answer.TheVariants.{Good}
 use Rattle.stored.specs.Blocks.{length-stored}
 use Rattle.buffer.specs.Writing.{filled-up}
 use Rattle.stored.proofs.put_stored.Goals as goal
@@ -18,5 +18,5 @@ returns c =
     let l = length-stored c.args.kind c.args.content.now in
     record {
       output = filled-up p.ensures c.clear.ensures (omega (arith, l, c.requires));
-      answer = ap Good (p.ensures.ends ∙ zero-add _);
+      answer = ap Ok (p.ensures.ends ∙ zero-add _);
     }

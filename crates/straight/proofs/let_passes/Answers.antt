@@ -25,10 +25,10 @@ overflow_add-at c = let (w, x, y, p, e, a) = c.requires in omega (arith, at-insi
 pub overflow_add-at-2 : goal.overflow_add-at-2
 overflow_add-at-2 c = let (w, x, y, p, e, a) = c.requires in omega (arith, at-inside _ _ _ a.here)
 
-pub returns : goal.returns
-returns c w x y p e a =
+pub returns-else-once : goal.returns-else-once
+returns-else-once c w x y p e a =
     let b = first-binds a _ c.parts_at-row.ensures _ c.skip-body.ensures in
-    let-passes a _ _ (sym c.if-once.false ∙ c.once.ensures w x e b) refl
+    c.if-once.false ∙ let-passes a _ _ (sym c.if-once.false ∙ c.once.ensures w x e b) refl
 
 pub returns-then-once : goal.returns-then-once
 returns-then-once c w x y p e a =

@@ -1,23 +1,31 @@
 -- Names in a row, with one name in mind: a name counts one or none, and then the others are left. Assumes nothing.
 use Prim.Native.Nat.{ℕ, ◌+◌, ◌-◌, ◌<◌, ◌≤◌}
-use mathlib.Core.Path.{◌≡◌, refl}
+use mathlib.Core.Path.{◌≡◌, refl, ap, ◌∙◌}
 use mathlib.Core.Bool.{Bool, true, false}
 use mathlib.Core.List.{List, [], ◌∷◌}
 use native.Mathlib.Omega.{arith}
 use lib.ListN.{length-append}
+use mir.Val.{bool_byte}
 use Rattle.std.specs.Prelude.{if◌then◌else◌}
 use Rattle.rules.specs.Name.{Name, same, encode_name, encode_names}
 use Rattle.rules.specs.Straight.{count}
 use Rattle.term.specs.Place.{NameAt, NamesAt}
-use Rattle.term.proofs.node.Names.{AfterIs, first-name, other-names, some-name, name-end}
+use Rattle.term.proofs.node.Names.{AfterIs, SameIs, first-name, other-names, some-name, name-end}
 use Rattle.straight.specs.Counts.{PastNames}
 
 abbrev Some : List ℕ → ℕ → ℕ → Type 0
 Some s i n = (xs : List Name) × NamesAt s i n xs
 
--- what `is_it` ensures
+-- what is counted of the name at i: one if it is x, else none
 abbrev pub ItIs : List ℕ → ℕ → Name → ℕ → Type 0
 ItIs s i x d = (y : Name) → NameAt s i y → d ≡ (if same x y then 1 else 0)
+
+one_if : (b : Bool) → bool_byte b ≡ (if b then 1 else 0)
+one_if true = refl
+one_if false = refl
+
+pub it_is : (s : List ℕ) (i : ℕ) (x : Name) (b : Bool) (d : ℕ) → SameIs s i x b → d ≡ bool_byte b → ItIs s i x d
+it_is s i x b d f e y w = e ∙ one_if b ∙ ap (λ (z : Bool). if z then 1 else 0) (f y w)
 
 -- the n names at i end at r, and m of them are x
 abbrev pub SameNamesIs : List ℕ → ℕ → ℕ → Name → ℕ → ℕ → Type 0

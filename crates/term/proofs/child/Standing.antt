@@ -1,5 +1,6 @@
 -- Child k stands where `locate_call` says: the k parts before it are passed, by induction on the row of parts. So its places are in order and within
 -- the caller's bytes, and what stands there are its own bytes. Assumes nothing.
+use Rattle.std.specs.Prelude.{Ok}
 use Prim.Native.Nat.{ℕ, zero, suc, ◌+◌, ◌-◌, ◌<◌, ◌≤◌}
 use mathlib.Core.Path.{◌≡◌, refl, sym, ap, ◌∙◌}
 use mathlib.Core.List.{List, [], ◌∷◌, ◌++◌, append_assoc}
@@ -9,11 +10,11 @@ use lib.ListN.{length, take, drop, get_elem?, length-append}
 use lib.Seq.{take_at}
 use Rattle.rules.specs.Basic.{Bytes}
 use Rattle.rules.specs.Limits.{Limits}
-use Rattle.rules.specs.Refusal.{good}
 use Rattle.rules.specs.Name.{encode_names}
 use Rattle.rules.specs.Term.{Term, encode, size, names, parts}
 use Rattle.rules.specs.Reading.{read_term}
-use Rattle.rules.specs.Calls.{Places, places_from, part_places, or_no_child, locate_call, child_call}
+use Rattle.rules.specs.declared.Places.{Places}
+use Rattle.rules.specs.Calls.{places_from, part_places, or_no_child, locate_call, child_call}
 use Rattle.laws.specs.Outcome.{good-first}
 use Rattle.laws.specs.reading.Decoding.{term-sound}
 use Rattle.term.specs.Node.{encode_all}
@@ -75,7 +76,7 @@ some_at i (suc k) (t ∷ ts) p e = omega (arith, some_at (i + size t) k ts p e)
 -- What stands between the two places: a part of the term that was read.
 pub record Stands (L : Limits) (s : Bytes) (k : ℕ) (p : Places) : Type 0 where
   pub term : Term
-  pub read : read_term L 1 s ≡ good term
+  pub read : read_term L 1 s ≡ Ok term
   pub child : Term
   pub is : get_elem? (parts term) k ≡ some child
   pub here : TermAt s p.from child
@@ -85,18 +86,18 @@ pub record Stands (L : Limits) (s : Bytes) (k : ℕ) (p : Places) : Type 0 where
 pub row_of : (s : Bytes) (t : Term) → TermAt s 0 t → TermsAt s (1 + length (encode_names (names t))) (length (parts t)) (parts t)
 row_of s t w = at-parts s 0 t w (1 + length (encode_names (names t))) (length (parts t)) (omega arith) refl
 
-has : (o : Option Places) (p : Places) → or_no_child o ≡ good p → o ≡ some p
+has : (o : Option Places) (p : Places) → or_no_child o ≡ Ok p → o ≡ some p
 has none p e = absurd (let z : ◌≡◌ {A = ℕ} 0 1 = cc in omega arith)
 has (some q) p e = cc
 
 module _ (L : Limits) (s : Bytes) (k : ℕ) (p : Places) where
-  standing : (t : Term) → read_term L 1 s ≡ good t → get_elem? (part_places t) k ≡ some p → Picked s (1 + length (encode_names (names t))) k (parts t) → Stands L s k p
+  standing : (t : Term) → read_term L 1 s ≡ Ok t → get_elem? (part_places t) k ≡ some p → Picked s (1 + length (encode_names (names t))) k (parts t) → Stands L s k p
   standing t e f c =
       let m = 1 + length (encode_names (names t)) + length (encode_all c.before) in
       let q : (record { from = m; end = m + size c.term }) ≡ p = cc (c.placed m refl, f) in
       record { term = t; read = e; child = c.term; is = c.is; here = rw (← q) (c.stands m refl); ends = rw (← q) refl }
 
-  pub located : locate_call L s k ≡ good p → Stands L s k p
+  pub located : locate_call L s k ≡ Ok p → Stands L s k p
   unfolding locate_call
   located h =
       let (t, e, g) = good-first (read_term L 1 s) _ p h in
@@ -104,7 +105,7 @@ module _ (L : Limits) (s : Bytes) (k : ℕ) (p : Places) where
       let w = whole t s (term-sound L 1 s t e).bytes in
       standing t e f (pick s k _ (length (parts t)) (parts t) (row_of s t w) (some_at _ k (parts t) p f))
 
-  module _ (h : locate_call L s k ≡ good p) where
+  module _ (h : locate_call L s k ≡ Ok p) where
     pub in_order : p.from ≤ p.end
     in_order = omega (arith, (located h).ends)
 

@@ -176,9 +176,6 @@ starts s i q h e f t w = omega (arith, f (names t) (rw (e ∙ at-count-names s i
 abbrev pub LookIs : List ℕ → (i h p : ℕ) → Type 0
 LookIs s i h p = (t : Term) → TermAt s i t → (h ≡ i + length (head t)) × (p ≡ length (parts t))
 
-pub look_is : (s : List ℕ) (i q p h : ℕ) → q ≡ names_after (get_or s i 0) → p ≡ parts_after (get_or s i 0) → AfterIs s (i + 1) q h → LookIs s i h p
-look_is s i q p h eq ep eh t w = (starts s i q h eq eh t w, ep ∙ at-count-parts s i t w)
-
 module _ (s : List ℕ) (i n h p : ℕ) (f : LookIs s i h p) (l : 0 < n) where
   pub turned : (t : Term) (ts : List Term) → TermsAt s i n (t ∷ ts) → TermsAt s h (n - 1 + p) (parts t ++ ts)
   turned t ts w = let e = f t (first s i n t ts w) in unrolled s i n t ts w h (n - 1 + p) e.0 (ap (λ (k : ℕ). n - 1 + k) e.1)

@@ -7,12 +7,11 @@ use lib.ListN.{length}
 use Rattle.rules.specs.Name.{Name}
 use Rattle.rules.specs.Term.{Term, encode, parts}
 use Rattle.laws.specs.size.Parts.{nodes_of_all, parts-nodes}
-use Rattle.term.specs.Node.{encode_all}
 use Rattle.term.specs.Place.{TermAt, TermsAt, NameAt, NamesAt}
 use Rattle.term.proofs.node.Names.{AfterIs, first-name, other-names, name-end}
-use Rattle.term.proofs.node.Terms.{Some, first, others, alone, LookIs, turned, turn-some, turn-ahead, turn-skip}
+use Rattle.term.proofs.node.Terms.{Some, first, others, LookIs, turned, turn-some, turn-ahead, turn-skip}
 use Rattle.term.specs.declared.span.Extent.{Extent}
-use Rattle.term.specs.Measured.{Measured, MeasuredTwo, Named}
+use Rattle.term.specs.Measured.{Measured, MeasuredRow, MeasuredTwo, Named}
 
 nodes-append : (xs ys : List Term) → nodes_of_all (xs ++ ys) ≡ nodes_of_all xs + nodes_of_all ys
 nodes-append [] ys = omega arith
@@ -20,40 +19,46 @@ nodes-append (x ∷ xs) ys = omega (arith, nodes-append xs ys)
 
 -- the n terms at i end at r, and have m nodes
 abbrev pub SpanIs : List ℕ → ℕ → ℕ → ℕ → ℕ → Type 0
-SpanIs s i n r m = (ts : List Term) → TermsAt s i n ts → (r ≡ i + length (encode_all ts)) × (m ≡ nodes_of_all ts)
+SpanIs s i n r m = (ts : List Term) → TermsAt s i n ts → MeasuredRow i ts (record { next = r; nodes = m })
 
--- `count` nodes were met up to i; whatever the rest has, the whole has that and them
-pub record Going (s : List ℕ) (at i left count : ℕ) : Type 0 where
+-- `count` nodes of the n terms at `at` were met up to i; whatever the rest has, the whole has that and them
+pub record Going (s : List ℕ) (at n i left count : ℕ) : Type 0 where
   pub some : Some s i left
   pub past : at + count ≤ i
-  pub rest : (r m : ℕ) → SpanIs s i left r m → SpanIs s at 1 r (count + m)
+  pub rest : (r m : ℕ) → SpanIs s i left r m → SpanIs s at n r (count + m)
 
-pub begin : (s : List ℕ) (at : ℕ) → ((t : Term) × TermAt s at t) → Going s at at 1 0
-begin s at (t, w) = record { some = (t ∷ [], alone s at t w); past = omega arith; rest = λ r m f ts w. let e = f ts w in (e.0, omega (arith, e.1)) }
+pub begin : (s : List ℕ) (at n : ℕ) → Some s at n → Going s at n at n 0
+begin s at n w = record { some = w; past = omega arith; rest = λ r m f ts w. let e = f ts w in record { next = e.next; nodes = omega (arith, e.nodes) } }
 
-pub done : (s : List ℕ) (at i left count : ℕ) → Going s at i left count → left ≡ 0 → (t : Term) → TermAt s at t → Measured at t (record { next = i; nodes = count })
-done s at i left count g z t w =
-    let e = g.rest i 0 none (t ∷ []) (alone s at t w) in
-    record { next = omega (arith, e.0, ap (λ (z : List ℕ). length z) (append-nil (encode t))); nodes = omega (arith, e.1) }
+pub done : (s : List ℕ) (at n i left count : ℕ) → Going s at n i left count → left ≡ 0 → (ts : List Term) → TermsAt s at n ts → MeasuredRow at ts (record { next = i; nodes = count })
+done s at n i left count g z ts w = let e = g.rest i 0 none ts w in record { next = e.next; nodes = omega (arith, e.nodes) }
   where
     none : SpanIs s i left i 0
-    none [] u = (omega arith, refl)
+    none [] u = record { next = omega arith; nodes = refl }
     none (x ∷ ts) u = absurd (omega (arith, u.many))
 
-module _ (s : List ℕ) (at i n count h p : ℕ) (g : Going s at i n count) (f : LookIs s i h p) (l : 0 < n) where
+module _ (s : List ℕ) (at k i n count h p : ℕ) (g : Going s at k i n count) (f : LookIs s i h p) (l : 0 < n) where
   so-rest : (r m : ℕ) → SpanIs s h (n - 1 + p) r m → SpanIs s i n r (1 + m)
   so-rest r m k [] w = absurd (omega (arith, w.many))
   so-rest r m k (t ∷ ts) w =
       let e = k (parts t ++ ts) (turned s i n h p f l t ts w) in
-      (turn-skip s i n h p f l r (λ us u. (k us u).0) (t ∷ ts) w, omega (arith, e.1, parts-nodes t, nodes-append (parts t) ts))
+      record {
+        next = turn-skip s i n h p f l r (λ us u. (k us u).next) (t ∷ ts) w;
+        nodes = omega (arith, e.nodes, parts-nodes t, nodes-append (parts t) ts);
+      }
 
-  pub turn : Going s at h (n - 1 + p) (count + 1)
+  pub turn : Going s at k h (n - 1 + p) (count + 1)
   turn =
       record {
         some = turn-some s i n h p f l g.some;
         past = omega (arith, g.past, turn-ahead s i n h p f l g.some);
-        rest = λ r m k ts w. let e = g.rest r (1 + m) (so-rest r m k) ts w in (e.0, omega (arith, e.1));
+        rest = λ r m f ts w. let e = g.rest r (1 + m) (so-rest r m f) ts w in record { next = e.next; nodes = omega (arith, e.nodes) };
       }
+
+-- a term by itself
+pub one-measured : (i : ℕ) (t : Term) (r : Extent) → MeasuredRow i (t ∷ []) r → Measured i t r
+one-measured i t r m =
+    record { next = omega (arith, m.next, ap (λ (z : List ℕ). length z) (append-nil (encode t))); nodes = omega (arith, m.nodes) }
 
 -- ---- two terms in a row
 

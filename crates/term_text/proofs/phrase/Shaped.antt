@@ -67,9 +67,6 @@ module _ {s : List ℕ} {at : ℕ} {out : List ℕ} {to : ℕ} where
               ∙ ap (λ (l : List ℕ). l ++ (encode g ++ u.rest)) (sym (append-nil (encode f)));
         }
 
-    pub discard-room : to + 35 ≤ length out
-    discard-room = omega (arith, after_tag.room)
-
     module _ {o : List ℕ} {p q : ℕ} (a : Prints out to (say "discard in ") o p) (h : q ≡ at + 1 + length (encode f ++ [])) where
       place : q ≡ at + 1 + length (encode f)
       place = h ∙ ap (λ (l : List ℕ). at + 1 + length l) (append-nil (encode f))

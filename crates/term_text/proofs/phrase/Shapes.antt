@@ -1,19 +1,14 @@
 -- The words of a term's tags, tag by tag.
 -- Assumes nothing.
-use Prim.Native.Nat.{ℕ, ◌<◌, ◌≤◌}
+use Prim.Native.Nat.{◌<◌}
 use mathlib.Core.Path.{◌≡◌, refl}
 use mathlib.Core.List.{◌++◌}
 use native.Mathlib.Omega.{arith}
-use borrow.Author.Tests.{leb-true}
-use Rattle.rules.specs.Basic.{say, ◌≤?◌}
+use Rattle.rules.specs.Basic.{say}
 use Rattle.rules.specs.Term.{Term, two, Leaf, unit, trivial, One, inl, inr, fst, snd, abort, promote, derelict, Two, pair, app, discard, leaf_tag, one_tag, two_tag}
 use Rattle.rules.specs.Text.{leaf_text, one_text, text}
-use Rattle.laws.specs.Below.{below}
 use Rattle.term.specs.Shape.{Bracketed}
-use Rattle.term_text.specs.Words.{length_of_word, sign_of, between_of}
-
-pub long-few : (k : ℕ) → k < 16 → length_of_word k ≤ 9
-long-few k h = leb-true (length_of_word k) 9 (below (λ i. length_of_word i ≤? 9) 16 refl k h)
+use Rattle.term_text.specs.Words.{sign_of}
 
 pub leaf-word : (k : Leaf) → sign_of (leaf_tag k) ≡ say (leaf_text k)
 leaf-word unit = refl
@@ -41,7 +36,12 @@ one-low abort = omega arith
 one-low promote = omega arith
 one-low derelict = omega arith
 
-pub two-text : (k : Two) → Bracketed k → (a b : Term) → text (two k a b) ≡ say "(" ++ (text a ++ (between_of (two_tag k) ++ (text b ++ say ")")))
+pub two-low : (k : Two) → Bracketed k → two_tag k < 16
+two-low pair h = omega arith
+two-low app h = omega arith
+two-low discard h = absurd h
+
+pub two-text : (k : Two) → Bracketed k → (a b : Term) → text (two k a b) ≡ say "(" ++ (text a ++ (sign_of (two_tag k) ++ (text b ++ say ")")))
 unfolding text
 two-text pair h a b = refl
 two-text app h a b = refl

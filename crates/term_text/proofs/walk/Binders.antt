@@ -108,9 +108,6 @@ module _ {s : List ℕ} {at : ℕ} {out : List ℕ} {to : ℕ} where
     pub copy-in : NameIn s (at + 1) × NameIn s (after_name s (at + 1))
     copy-in = (name_in copy-first t.legal.0.short, name_in copy-second t.legal.1.short)
 
-    pub copy-room : to + 8 ≤ length out
-    copy-room = omega (arith, copy-task.room)
-
     module _ {o : List ℕ} {p q : ℕ} (a : Prints out to (say "copy ") o p) (h : q ≡ after_name s (after_name s (at + 1))) where
       copy_parts : Task s q o p (encode f ++ encode g) (text f ++ (as-names ++ text g))
       copy_parts = rw h (printed (say "copy ") (after_two 17 x y (encode f ++ encode g) copy-task) a)
@@ -193,9 +190,6 @@ module _ {s : List ℕ} {at : ℕ} {out : List ℕ} {to : ℕ} where
 
     pub case-in : NameIn s (at + 1) × NameIn s (after_name s (at + 1))
     case-in = (name_in case-first t.legal.0.short, name_in case-second t.legal.1.short)
-
-    pub case-room : to + 8 ≤ length out
-    case-room = omega (arith, case-task.room)
 
     module _ {o : List ℕ} {p q : ℕ} (a : Prints out to (say "case ") o p) (h : q ≡ after_name s (after_name s (at + 1))) where
       case-parts : Task s q o p parts (text f ++ left-words)

@@ -15,7 +15,7 @@ use Rattle.words.specs.Steps.{told-done}
 use Rattle.term.specs.Node.{single_part}
 use Rattle.term.specs.Shape.{Bracketed, shape_of, a-var, a-two, an-abs}
 use Rattle.term_text.specs.Task.{TermTask, TermDone, name_at, after_name, NameIn, Whole}
-use Rattle.term_text.specs.Words.{sign_of, between_of}
+use Rattle.term_text.specs.Words.{sign_of}
 use Rattle.term_text.proofs.walk.Inverts.{two-key, made_of, made_one, Rest, is_whole}
 use Rattle.term_text.proofs.phrase.Shaped.{begun}
 use Rattle.term_text.proofs.walk.Walking.{At, On, here, brackets-room, ends, one-asked, one-turn, two-room, left-part, two-further, between-room, two-turn, last-task, last-long, last_done, abs-in, abs-room, abs-turn}
@@ -53,10 +53,10 @@ module _ {s : List ℕ} {at : ℕ} {out₀ : List ℕ} {to : ℕ} {T : Term} {ou
         pub left-further : i < l % 65536
         left-further = let v = a_pair in two-further v.0 v.1 v.2 v.3 v.4 b (f v.2 (left-part v.0 v.1 v.2 v.3 v.4 b))
 
-        pub left-room : l / 65536 + 8 ≤ length o₂
+        pub left-room : (get_or s i 0 < 16) × (l / 65536 + 9 ≤ length o₂)
         left-room = let v = a_pair in between-room v.0 v.1 v.2 v.3 v.4 b (f v.2 (left-part v.0 v.1 v.2 v.3 v.4 b))
 
-        pub left-next : {o₃ : List ℕ} {q : ℕ} → Prints o₂ (l / 65536) (between_of (get_or s i 0)) o₃ q → On s at out₀ to T o₃ (l % 65536) q (c + 1)
+        pub left-next : {o₃ : List ℕ} {q : ℕ} → Prints o₂ (l / 65536) (sign_of (get_or s i 0)) o₃ q → On s at out₀ to T o₃ (l % 65536) q (c + 1)
         left-next e =
             let v = a_pair in
             record { t = v.3; stands = two-turn v.0 v.1 v.2 v.3 v.4 b (f v.2 (left-part v.0 v.1 v.2 v.3 v.4 b)) e }

@@ -15,8 +15,8 @@ use Rattle.words.specs.Task.{Task, Done}
 use Rattle.words.specs.Steps.{first_byte, passed, printed, part_of, part_end, after-part, part_then, pass-then, print-then, no_more, no-more-done, told, told-done, Named, named}
 use Rattle.term.specs.Shape.{Bracketed}
 use Rattle.term_text.specs.Task.{TermTask, TermDone, name_at, after_name, NameIn}
-use Rattle.term_text.specs.Words.{sign_of, between_of}
-use Rattle.term_text.proofs.phrase.Shapes.{one_word, one-low, two-text}
+use Rattle.term_text.specs.Words.{sign_of}
+use Rattle.term_text.proofs.phrase.Shapes.{one_word, one-low, two-low, two-text}
 use Rattle.term_text.proofs.phrase.Names.{name_in, name-is, after_one, one_then}
 use Rattle.term_text.proofs.phrase.Shaped.{chosen}
 
@@ -79,12 +79,12 @@ module _ {s : List ℕ} {at : ℕ} {out₀ : List ℕ} {to : ℕ} {T : Term} {ou
   -- ---- a pair or an application: its bracket is counted
   module _ (k : Two) (z : Bracketed k) (f g : Term) (a : At s at out₀ to T out i o c (two k f g)) where
     abbrev later : List ℕ
-    later = between_of (two_tag k) ++ (text g ++ brackets (c + 1))
+    later = sign_of (two_tag k) ++ (text g ++ brackets (c + 1))
 
     two-spelt : text (two k f g) ++ brackets c ≡ say "(" ++ (text f ++ later)
     two-spelt =
         let q : suc c ≡ c + 1 = omega arith in
-        let x = between_of (two_tag k) in
+        let x = sign_of (two_tag k) in
         ap (λ (l : List ℕ). l ++ brackets c) (two-text k z f g)
         ∙ ap (λ (l : List ℕ). say "(" ++ l)
         (append_assoc (text f) (x ++ (text g ++ say ")")) (brackets c) ∙ ap (λ (l : List ℕ). text f ++ l)
@@ -128,16 +128,17 @@ module _ {s : List ℕ} {at : ℕ} {out₀ : List ℕ} {to : ℕ} {T : Term} {ou
         pub two-further : i < l % 65536
         two-further = omega (arith, part_end (encode f) (encode g) (text f) later two-parts d)
 
-        pub between-room : l / 65536 + 8 ≤ length o₂
-        between-room = omega (arith, between.room)
+        pub between-room : (get_or s i 0 < 16) × (l / 65536 + 9 ≤ length o₂)
+        unfolding encode
+        between-room = (omega (arith, first_byte a.task, two-low k z), omega (arith, between.room))
 
-        pub two-turn : {o₃ : List ℕ} {q : ℕ} → Prints o₂ (l / 65536) (between_of (get_or s i 0)) o₃ q → At s at out₀ to T o₃ (l % 65536) q (c + 1) g
+        pub two-turn : {o₃ : List ℕ} {q : ℕ} → Prints o₂ (l / 65536) (sign_of (get_or s i 0)) o₃ q → At s at out₀ to T o₃ (l % 65536) q (c + 1) g
         unfolding encode
         two-turn {o₃} {q} e =
-            let w : Prints o₂ (l / 65536) (between_of (two_tag k)) o₃ q = rw (ap (λ (n : ℕ). between_of n) (first_byte a.task)) at e in
+            let w : Prints o₂ (l / 65536) (sign_of (two_tag k)) o₃ q = rw (ap (λ (n : ℕ). sign_of n) (first_byte a.task)) at e in
             record {
               legal = a.legal.1;
-              task = printed (between_of (two_tag k)) between w;
+              task = printed (sign_of (two_tag k)) between w;
               gives = λ r. a.gives (told-done (sym two-spelt)
                   (pass-then (two_tag k ∷ []) (encode f ++ encode g) (print-then b (part_then (encode f) (encode g) (text f) later two-parts d (print-then w r)))));
             }

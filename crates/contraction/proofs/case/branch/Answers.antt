@@ -12,8 +12,8 @@ bounds-s-scrutinee c =
     let j = c.requires.redex.6 in
     scrutinee-inside j.stands (c.span_names-names.ensures _ _ (branch-names _ _ _ _ _ j.stands))
 
-pub find_in-found-requires-2 : goal.find_in-found-requires-2
-find_in-found-requires-2 c =
+pub find_in-body-requires-2 : goal.find_in-body-requires-2
+find_in-body-requires-2 c =
     let j = c.requires.redex.6 in
     let m = c.span_names-names.ensures _ _ (branch-names _ _ _ _ _ j.stands) in
     let h = c.span-value.ensures _ (case-value j m) in
@@ -21,27 +21,19 @@ find_in-found-requires-2 c =
     let i = case-inside j m in
     record {
       term_at = (_, case-right j m h g, (branches-few j m).1);
-      name_le_past = (i.2, omega (arith, i), right-short j m h g, c.requires.row.0);
+      short = (right-short j m h g, c.requires.row.0);
     }
 
-pub find_in-found-requires : goal.find_in-found-requires
-find_in-found-requires c =
+pub find_in-body-requires : goal.find_in-body-requires
+find_in-body-requires c =
     let j = c.requires.redex.6 in
     let m = c.span_names-names.ensures _ _ (branch-names _ _ _ _ _ j.stands) in
     let h = c.span-value.ensures _ (case-value j m) in
     let i = case-inside j m in
     record {
       term_at = (_, case-left j m h, (branches-few j m).0);
-      name_le_past = (i.1, omega (arith, i), left-short j m h, c.requires.row.0);
+      short = (left-short j m h, c.requires.row.0);
     }
-
-pub overflow_add-at : goal.overflow_add-at
-overflow_add-at c = omega (arith, inside c.requires.redex.6)
-
-pub overflow_add-at-then-s-scrutinee-eq-INL : goal.overflow_add-at-then-s-scrutinee-eq-INL
-overflow_add-at-then-s-scrutinee-eq-INL c =
-    let j = c.requires.redex.6 in
-    omega (arith, case-inside j (c.span_names-names.ensures _ _ (branch-names _ _ _ _ _ j.stands)))
 
 pub overflow_add-from : goal.overflow_add-from
 overflow_add-from c =
@@ -58,7 +50,7 @@ overflow_sub-kept c =
     let j = c.requires.redex.6 in
     let m = c.span_names-names.ensures _ _ (branch-names _ _ _ _ _ j.stands) in
     let h = c.span-value.ensures _ (case-value j m) in
-    let o = c.find_in-found.ensures.kept _ (case-left j m h) in
+    let o = c.find_in-body.ensures.kept _ (case-left j m h) in
     omega (arith, left-nodes j m h o (c.span-other.ensures _ (left_other j m h o)))
 
 pub overflow_sub-kept-2 : goal.overflow_sub-kept-2
@@ -87,7 +79,7 @@ put_here-requires-2 c =
     let h = c.span-value.ensures _ (case-value j m) in
     let g = c.span-other-2.ensures _ (case-left j m h) in
     record {
-      by_index = (_, _, _, _, _, right-placing j m h g (c.find_in-found-2.ensures.kept _ (case-right j m h g)));
+      placing = (_, _, _, _, right-placing j m h g (c.find_in-body-2.ensures.kept _ (case-right j m h g)));
       room = c.requires.row.1;
     }
 
@@ -96,9 +88,9 @@ put_here-requires c =
     let j = c.requires.redex.6 in
     let m = c.span_names-names.ensures _ _ (branch-names _ _ _ _ _ j.stands) in
     let h = c.span-value.ensures _ (case-value j m) in
-    let o = c.find_in-found.ensures.kept _ (case-left j m h) in
+    let o = c.find_in-body.ensures.kept _ (case-left j m h) in
     record {
-      by_index = (_, _, _, _, _, left-placing j m h o (c.span-other.ensures _ (left_other j m h o)));
+      placing = (_, _, _, _, left-placing j m h o (c.span-other.ensures _ (left_other j m h o)));
       room = c.requires.row.1;
     }
 
@@ -109,9 +101,9 @@ returns c = record {
       let h = c.span-value.ensures _ (case-value j m) in
       let g = c.span-other-2.ensures _ (case-left j m h) in
       let is = is_right d _ (scrutinee-tag j.stands m) c.if-s-scrutinee-eq-INL.false in
-      let c' = c.put_here-2.ensures _ _ _ _ _ (right-placing j m h g (c.find_in-found-2.ensures.kept _ (case-right j m h g))) in
+      let c' = c.put_here-2.ensures _ _ _ _ (right-placing j m h g (c.find_in-body-2.ensures.kept _ (case-right j m h g))) in
       rw is (rw is at c');
-  row_2 = c.find_in-found-2.ensures.row;
+  row_2 = c.find_in-body-2.ensures.row;
 }
 
 pub returns-then-s-scrutinee-eq-INL : goal.returns-then-s-scrutinee-eq-INL
@@ -119,11 +111,11 @@ returns-then-s-scrutinee-eq-INL c = record {
   contracts = λ x y d v l r j.
       let m = c.span_names-names.ensures _ _ (branch-names _ _ _ _ _ j.stands) in
       let h = c.span-value.ensures _ (case-value j m) in
-      let o = c.find_in-found.ensures.kept _ (case-left j m h) in
+      let o = c.find_in-body.ensures.kept _ (case-left j m h) in
       let is = is-left d _ (scrutinee-tag j.stands m) c.if-s-scrutinee-eq-INL.true in
-      let c' = c.put_here.ensures _ _ _ _ _ (left-placing j m h o (c.span-other.ensures _ (left_other j m h o))) in
+      let c' = c.put_here.ensures _ _ _ _ (left-placing j m h o (c.span-other.ensures _ (left_other j m h o))) in
       rw is (rw is at c');
-  row_2 = c.find_in-found.ensures.row;
+  row_2 = c.find_in-body.ensures.row;
 }
 
 pub span-other-requires : goal.span-other-requires
@@ -131,7 +123,7 @@ span-other-requires c =
     let j = c.requires.redex.6 in
     let m = c.span_names-names.ensures _ _ (branch-names _ _ _ _ _ j.stands) in
     let h = c.span-value.ensures _ (case-value j m) in
-    (_, left_other j m h (c.find_in-found.ensures.kept _ (case-left j m h)))
+    (_, left_other j m h (c.find_in-body.ensures.kept _ (case-left j m h)))
 
 pub span-other-requires-2 : goal.span-other-requires-2
 span-other-requires-2 c =
@@ -146,3 +138,41 @@ span-value-requires c =
 
 pub span_names-names-requires : goal.span_names-names-requires
 span_names-names-requires c = (_, _, branch-names _ _ _ _ _ c.requires.redex.6.stands)
+
+pub overflow_add-site : goal.overflow_add-site
+overflow_add-site c = omega (arith, inside c.requires.redex.6)
+
+pub overflow_add-site-then-s-scrutinee-eq-INL : goal.overflow_add-site-then-s-scrutinee-eq-INL
+overflow_add-site-then-s-scrutinee-eq-INL c =
+    let j = c.requires.redex.6 in
+    omega (arith, case-inside j (c.span_names-names.ensures _ _ (branch-names _ _ _ _ _ j.stands)))
+
+pub slice_bounds-find_in-count : goal.slice_bounds-find_in-count
+slice_bounds-find_in-count c =
+    let j = c.requires.redex.6 in
+    omega (arith, case-inside j (c.span_names-names.ensures _ _ (branch-names _ _ _ _ _ j.stands)))
+
+pub slice_bounds-find_in-end : goal.slice_bounds-find_in-end
+slice_bounds-find_in-end c =
+    let j = c.requires.redex.6 in
+    omega (arith, case-inside j (c.span_names-names.ensures _ _ (branch-names _ _ _ _ _ j.stands)))
+
+pub slice_bounds-find_in-start : goal.slice_bounds-find_in-start
+slice_bounds-find_in-start c =
+    let j = c.requires.redex.6 in
+    omega (arith, case-inside j (c.span_names-names.ensures _ _ (branch-names _ _ _ _ _ j.stands)))
+
+pub slice_bounds-find_in-count-2 : goal.slice_bounds-find_in-count-2
+slice_bounds-find_in-count-2 c =
+    let j = c.requires.redex.6 in
+    omega (arith, case-inside j (c.span_names-names.ensures _ _ (branch-names _ _ _ _ _ j.stands)))
+
+pub slice_bounds-find_in-end-2 : goal.slice_bounds-find_in-end-2
+slice_bounds-find_in-end-2 c =
+    let j = c.requires.redex.6 in
+    omega (arith, case-inside j (c.span_names-names.ensures _ _ (branch-names _ _ _ _ _ j.stands)))
+
+pub slice_bounds-find_in-start-2 : goal.slice_bounds-find_in-start-2
+slice_bounds-find_in-start-2 c =
+    let j = c.requires.redex.6 in
+    omega (arith, case-inside j (c.span_names-names.ensures _ _ (branch-names _ _ _ _ _ j.stands)))

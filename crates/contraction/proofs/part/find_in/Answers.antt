@@ -9,15 +9,15 @@ use Rattle.contraction.proofs.part.find_in.Goals as goal
 pub returns : goal.returns
 returns c =
     let a = c.requires.term_at in
-    let b = c.requires.name_le_past in
-    let f = (c.find_places-found.ensures _ (at-start _ _ b.2 a.1)).1 in
+    let b = c.requires.short in
+    let f = (c.find_places-kept.ensures _ (at-start _ _ b.0 a.1)).1 in
     record {
-      kept = λ e w. is-kept _ _ b.2 w b.0 b.1 (count-within _ _ a.2 b.3 f) (c.find_places-found.ensures e (at-start _ _ b.2 w));
-      row = wrote-length f ∙ b.3;
+      kept = λ e w. is-kept _ _ b.0 w (count-within _ _ a.2 b.1 f) (c.find_places-kept.ensures e (at-start _ _ b.0 w));
+      row = wrote-length f ∙ b.1;
     }
 
 pub slice_bounds-find_places-count : goal.slice_bounds-find_places-count
-slice_bounds-find_places-count c = omega (arith, found-room _ _ c.requires.name_le_past.2 c.requires.term_at.1)
+slice_bounds-find_places-count c = omega (arith, found-room _ _ c.requires.short.0 c.requires.term_at.1)
 
 pub slice_bounds-find_places-start : goal.slice_bounds-find_places-start
-slice_bounds-find_places-start c = omega (arith, found-room _ _ c.requires.name_le_past.2 c.requires.term_at.1)
+slice_bounds-find_places-start c = omega (arith, found-room _ _ c.requires.short.0 c.requires.term_at.1)

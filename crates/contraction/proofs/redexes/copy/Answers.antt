@@ -10,12 +10,9 @@ both-requires c =
     let j = c.requires.redex.4 in
     let m = c.span_names-names.ensures _ _ (both-names _ _ _ _ _ j.stands) in
     record {
-      by_index = (_, _, _, _, _, _, _, copy-pairing j m (c.span-source.ensures _ (copy-source j m)));
+      pairing = (_, _, _, _, _, _, copy-pairing j m (c.span-source.ensures _ (copy-source j m)));
       row = c.requires.row;
     }
-
-pub overflow_add-at : goal.overflow_add-at
-overflow_add-at c = omega (arith, inside c.requires.redex.4)
 
 pub overflow_sub-rest : goal.overflow_sub-rest
 overflow_sub-rest c =
@@ -33,7 +30,7 @@ pub returns : goal.returns
 returns c = record {
   contracts = λ x y v e j.
       let m = c.span_names-names.ensures _ _ (both-names _ _ _ _ _ j.stands) in
-      c.both.ensures.by_index_2 _ _ _ _ _ _ _ (copy-pairing j m (c.span-source.ensures _ (copy-source j m)));
+      c.both.ensures.contracts _ _ _ _ _ _ (copy-pairing j m (c.span-source.ensures _ (copy-source j m)));
   row_2 = c.both.ensures.row_2;
 }
 
@@ -44,3 +41,6 @@ span-source-requires c =
 
 pub span_names-names-requires : goal.span_names-names-requires
 span_names-names-requires c = (_, _, both-names _ _ _ _ _ c.requires.redex.4.stands)
+
+pub overflow_add-site : goal.overflow_add-site
+overflow_add-site c = omega (arith, inside c.requires.redex.4)

@@ -5,21 +5,21 @@ use Rattle.contraction.proofs.part.Standing.{inside}
 use Rattle.contraction.proofs.Staying.{in_two, first_part, gone-nodes, second-stays}
 use Rattle.contraction.proofs.redexes.discard.Goals as goal
 
-pub overflow_add-at : goal.overflow_add-at
-overflow_add-at c = omega (arith, inside c.requires.3, (in_two c.requires.3).ends)
-
 pub overflow_sub-result : goal.overflow_sub-result
 overflow_sub-result c =
-    let j = c.requires.3 in
+    let j = c.requires.2 in
     omega (arith, gone-nodes j (in_two j) (c.span-gone.ensures _ (first_part j (in_two j))))
 
 pub overflow_sub-result-2 : goal.overflow_sub-result-2
 overflow_sub-result-2 c =
-    let j = c.requires.3 in
+    let j = c.requires.2 in
     omega (arith, gone-nodes j (in_two j) (c.span-gone.ensures _ (first_part j (in_two j))))
 
 pub returns : goal.returns
-returns c l v e j made = second-stays j (in_two j) (c.span-gone.ensures _ (first_part j (in_two j))) (of-discard v e) _ made
+returns c v e j made = second-stays j (in_two j) (c.span-gone.ensures _ (first_part j (in_two j))) (of-discard v e) _ made
 
 pub span-gone-requires : goal.span-gone-requires
-span-gone-requires c = (_, first_part c.requires.3 (in_two c.requires.3))
+span-gone-requires c = (_, first_part c.requires.2 (in_two c.requires.2))
+
+pub overflow_add-site : goal.overflow_add-site
+overflow_add-site c = omega (arith, inside c.requires.2, (in_two c.requires.2).ends)

@@ -12,12 +12,9 @@ both-requires c =
     let m = c.span_names-names.ensures _ _ (both-names _ _ _ _ _ j.stands) in
     let h = c.span-first.ensures _ (let-first j m) in
     record {
-      by_index = (_, _, _, _, _, _, _, let-pairing j m h (c.span-second.ensures _ (let-second j m h)));
+      pairing = (_, _, _, _, _, _, let-pairing j m h (c.span-second.ensures _ (let-second j m h)));
       row = c.requires.row;
     }
-
-pub overflow_add-at : goal.overflow_add-at
-overflow_add-at c = omega (arith, inside c.requires.redex.5)
 
 pub overflow_add-from : goal.overflow_add-from
 overflow_add-from c =
@@ -50,7 +47,7 @@ returns c = record {
   contracts = λ x y a b e j.
       let m = c.span_names-names.ensures _ _ (both-names _ _ _ _ _ j.stands) in
       let h = c.span-first.ensures _ (let-first j m) in
-      c.both.ensures.by_index_2 _ _ _ _ _ _ _ (let-pairing j m h (c.span-second.ensures _ (let-second j m h)));
+      c.both.ensures.contracts _ _ _ _ _ _ (let-pairing j m h (c.span-second.ensures _ (let-second j m h)));
   row_2 = c.both.ensures.row_2;
 }
 
@@ -67,3 +64,6 @@ span-second-requires c =
 
 pub span_names-names-requires : goal.span_names-names-requires
 span_names-names-requires c = (_, _, both-names _ _ _ _ _ c.requires.redex.5.stands)
+
+pub overflow_add-site : goal.overflow_add-site
+overflow_add-site c = omega (arith, inside c.requires.redex.5)

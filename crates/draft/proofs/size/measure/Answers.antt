@@ -5,5 +5,4 @@ use Rattle.draft.proofs.write.Sizing.{measured-two}
 use Rattle.draft.proofs.size.measure.Goals as goal
 
 pub loop-i-init : goal.loop-i-init
-loop-i-init c =
-    (omega arith, refl, measured-two c.args.sizes.now (omega (arith, c.requires.room)))
+loop-i-init c = (refl, measured-two c.args.sizes.now (omega (arith, c.requires.room)))

@@ -3,8 +3,8 @@ use mathlib.Core.Path.{refl}
 use Rattle.extract.proofs.ending.Ending.{walk-gives, stop-gives}
 use Rattle.extract.proofs.extractor.extract_with.Goals as goal
 
-pub returns-then-begun : goal.returns-then-begun
-returns-then-begun c = walk-gives c.args.entries.now refl c.begin-begun.ensures c.if-begun.true c.walk_proof.ensures.0 c.walk_proof.ensures.1
+pub returns-in-None : goal.returns-in-None
+returns-in-None c = walk-gives c.args.entries.now refl (rw c.in-None.is at c.begin.ensures) c.walk_proof.ensures.0 c.walk_proof.ensures.1
 
-pub returns : goal.returns
-returns c = stop-gives c.args.entries.now refl c.begin-begun.ensures c.if-begun.false
+pub returns-in-Some : goal.returns-in-Some
+returns-in-Some c = stop-gives _ c.args.proof.now c.args.out.now c.args.scratch.now c.args.entries.now refl _ (rw c.in-Some.is at c.begin.ensures)

@@ -1,20 +1,8 @@
--- `order::same_at` meets its contract: where lengths or last bytes differ the names do, and else all bytes are compared. Assumes nothing.
-use native.Mathlib.Omega.{arith}
-use Rattle.term.proofs.node.Names.{name-room}
-use Rattle.free.proofs.order.Comparing.{other_length, other_last}
+-- `order::same_at` meets its contract: the bytes behind the lengths are the names. Assumes nothing.
+use mathlib.Core.Path.{sym, ap, ◌∙◌}
+use Rattle.rules.specs.Name.{same}
+use Rattle.free.proofs.order.Orders.{same-bytes}
 use Rattle.free.proofs.order.same_at.Goals as goal
 
-pub bounds-s-last : goal.bounds-s-last
-bounds-s-last c = omega (arith, name-room _ c.args.at (c.requires.0, c.requires.2))
-
-pub bounds-s-last_other : goal.bounds-s-last_other
-bounds-s-last_other c = omega (arith, name-room _ c.args.other (c.requires.1, c.requires.3), c.if-s-other.false)
-
-pub returns-then-s-last : goal.returns-then-s-last
-returns-then-s-last c = other_last _ _ _ c.if-s-last.true
-
-pub returns-then-s-other : goal.returns-then-s-other
-returns-then-s-other c = other_length _ _ _ c.if-s-other.true
-
-pub slice_bounds-same_name-end : goal.slice_bounds-same_name-end
-slice_bounds-same_name-end c = omega (arith, name-room _ c.args.at (c.requires.0, c.requires.2))
+pub returns : goal.returns
+returns c = λ x y w v. c.eq.ensures ∙ sym (same-bytes c.name.result.now c.name-2.result.now) ∙ ap (λ z. same z c.name-2.result.now) (c.name.ensures x w) ∙ ap (λ z. same x z) (c.name-2.ensures y v)

@@ -9,22 +9,22 @@ pub print_reduced-requires : goal.print_reduced-requires
 print_reduced-requires c =
     let a = c.args in
     let k = c.load in
-    let o = opens a.file.now a.term.now a.scratch.now a.out.now (omega (arith, c.requires.2)) k.ensures.value c.in-Good.n c.in-Good.is k.new.out k.ensures.out_after in
+    let o = opens a.file.now a.term.now a.scratch.now a.out.now (omega (arith, c.requires.2)) k.ensures.value c.in-Ok.n c.in-Ok.is k.new.out k.ensures.out_after in
     (o.inside, c.requires.0, c.requires.1, omega (arith, c.requires.2, k.auto.out))
 
-pub returns-in-Good : goal.returns-in-Good
-returns-in-Good c =
+pub returns-in-Ok : goal.returns-in-Ok
+returns-in-Ok c =
     let a = c.args in
     let k = c.load in
     let p = c.print_reduced.ensures in
-    let o = opens a.file.now a.term.now a.scratch.now a.out.now (omega (arith, c.requires.2)) k.ensures.value c.in-Good.n c.in-Good.is k.new.out k.ensures.out_after in
+    let o = opens a.file.now a.term.now a.scratch.now a.out.now (omega (arith, c.requires.2)) k.ensures.value c.in-Ok.n c.in-Ok.is k.new.out k.ensures.out_after in
     record { starts = starts-as o.prints p.starts; term_after = p.term_after ∙ sym o.terms; scratch_after = p.scratch_after ∙ sym o.scratches }
 
-pub returns-in-Refused : goal.returns-in-Refused
-returns-in-Refused c =
+pub returns-in-Err : goal.returns-in-Err
+returns-in-Err c =
     let a = c.args in
     let k = c.load in
-    let o = unopened a.file.now a.term.now a.scratch.now a.out.now (omega (arith, c.requires.2)) k.ensures.value c.in-Refused.r c.in-Refused.is in
+    let o = unopened a.file.now a.term.now a.scratch.now a.out.now (omega (arith, c.requires.2)) k.ensures.value c.in-Err.r c.in-Err.is in
     record {
       starts = starts-as o.prints (starts-line c.put_refusal.ensures (omega (arith, c.requires.2, k.auto.out)));
       term_after = sym o.terms;

@@ -4,7 +4,7 @@ use Rattle.proof.proofs.conclusion.Passing.{Passing}
 use Rattle.proof.proofs.conclusion.pass_formulas.Given as goal
 
 abbrev pub invariant-loop-left : goal.invariant-loop-left
-invariant-loop-left l = Passing l.s l.most l.from l.n l.next l.formulas l.left
+invariant-loop-left l = Passing l.s l.most l.fn.from l.n l.row l.left
 
 abbrev pub decreases-loop-left : goal.decreases-loop-left
-decreases-loop-left l = l.most.formulas - l.formulas
+decreases-loop-left l = l.most.formulas - l.row.formulas

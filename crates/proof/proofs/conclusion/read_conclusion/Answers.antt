@@ -1,5 +1,6 @@
 -- `conclusion::read_conclusion` meets its contract: its stages, one after the other. Assumes nothing.
 use mathlib.Core.Path.{sym, ◌∙◌}
+use Rattle.laws.specs.Handed.{handed}
 use Rattle.proof.specs.Seen.{within}
 use Rattle.proof.specs.Stages.{own_of, linear_of}
 use Rattle.proof.proofs.conclusion.Views.{came}
@@ -7,24 +8,24 @@ use Rattle.proof.proofs.conclusion.Ways.{steady-own, steady-linear}
 use Rattle.proof.proofs.conclusion.Tops.{top-no-rule, top-no-linear, top-on}
 use Rattle.proof.proofs.conclusion.read_conclusion.Goals as goal
 
-pub returns-in-Fault : goal.returns-in-Fault
-returns-in-Fault c =
+pub returns-in_err-own : goal.returns-in_err-own
+returns-in_err-own c =
     let a = c.args in
-    sym (top-no-rule (within a.most) a.s.now a.from _ _ (sym c.read_own.ensures ∙ c.in-Fault.is))
+    handed c.from_residual.result c.from_residual.ensures.1 ∙ sym (top-no-rule (within a.most) a.s.now a.from _ (sym c.read_own.ensures ∙ c.in_err-own.was))
 
-pub returns-in-Fault-read_linear : goal.returns-in-Fault-read_linear
-returns-in-Fault-read_linear c =
+pub returns-in_err-linear : goal.returns-in_err-linear
+returns-in_err-linear c =
     let a = c.args in
     let own = came (own_of (within a.most)) (steady-own (within a.most)) a.s.now a.from
     c.requires.formulas_bound.1
-    (sym c.read_own.ensures ∙ c.in-To.is) in
-    sym (top-no-linear (within a.most) a.s.now a.from own _ _ (sym c.read_linear.ensures ∙ c.in-Fault-read_linear.is))
+    (sym c.read_own.ensures ∙ c.in_ok-own.was) in
+    handed c.from_residual-in_err-linear.result c.from_residual-in_err-linear.ensures.1 ∙ sym (top-no-linear (within a.most) a.s.now a.from own _ (sym c.read_linear.ensures ∙ c.in_err-linear.was))
 
-pub returns-in-To-read_linear : goal.returns-in-To-read_linear
-returns-in-To-read_linear c =
+pub returns : goal.returns
+returns c =
     let a = c.args in
     let own = came (own_of (within a.most)) (steady-own (within a.most)) a.s.now a.from
     c.requires.formulas_bound.1
-    (sym c.read_own.ensures ∙ c.in-To.is) in
-    let linear = came (linear_of (within a.most)) (steady-linear (within a.most)) a.s.now _ own.inside (sym c.read_linear.ensures ∙ c.in-To-read_linear.is) in
+    (sym c.read_own.ensures ∙ c.in_ok-own.was) in
+    let linear = came (linear_of (within a.most)) (steady-linear (within a.most)) a.s.now _ own.inside (sym c.read_linear.ensures ∙ c.in_ok-linear.was) in
     c.read_count.ensures ∙ sym (top-on (within a.most) a.s.now a.from own linear)

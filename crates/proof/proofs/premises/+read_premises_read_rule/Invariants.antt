@@ -2,7 +2,6 @@
 -- In the row's loop, whatever the premises that are still to be read come to, the row comes to.
 use Prim.Native.Nat.{◌+◌, ◌-◌, ◌*◌}
 use lib.ListN.{length}
-use Rattle.proof.specs.Seen.{reached_at}
 use Rattle.proof.proofs.Above.{Going}
 use Rattle.proof.proofs.premises.+read_premises_read_rule.Given as goal
 
@@ -12,9 +11,5 @@ decreases-read_premises l = 2 * (length l.s.now.now - l.from.next) + 1
 abbrev pub decreases-read_rule : goal.decreases-read_rule
 decreases-read_rule l = 2 * (length l.s.now.now - l.next)
 
-abbrev pub invariant-read_premises-loop-left : goal.invariant-read_premises-loop-left
-invariant-read_premises-loop-left l =
-    Going l.s.now l.n (reached_at l.initial.next l.initial.rules l.initial.formulas) (reached_at l.next l.rules l.formulas) l.left
-
-abbrev pub decreases-read_premises-loop-left : goal.decreases-read_premises-loop-left
-decreases-read_premises-loop-left l = l.left
+abbrev pub invariant-read_premises-loop : goal.invariant-read_premises-loop
+invariant-read_premises-loop l = Going l.s.now l.n l.fn.from l.reached (l.n + 1 - l.counter)

@@ -7,7 +7,7 @@ pub bounds-s-at : goal.bounds-s-at
 bounds-s-at c = formula-inside _ _ c.requires.0 c.requires.1
 
 pub bounds-s-past : goal.bounds-s-past
-bounds-s-past c = omega (arith, name-end _ _ c.requires c.if-tag-lt3.true)
+bounds-s-past c = omega (arith, name-end _ _ c.requires (omega arith))
 
 pub formula_parts-requires : goal.formula_parts-requires
 formula_parts-requires c = formula-small _ _ c.requires.0 c.requires.1
@@ -16,13 +16,13 @@ pub overflow_add-past : goal.overflow_add-past
 overflow_add-past c = omega (arith, formula-inside _ _ c.requires.0 c.requires.1)
 
 pub overflow_add-result : goal.overflow_add-result
-overflow_add-result c = omega (arith, name-end _ _ c.requires c.if-tag-lt3.true)
+overflow_add-result c = omega (arith, name-end _ _ c.requires (omega arith))
 
-pub overflow_add-result-then-tag-lt3 : goal.overflow_add-result-then-tag-lt3
-overflow_add-result-then-tag-lt3 c = omega (arith, name-end _ _ c.requires c.if-tag-lt3.true)
+pub overflow_add-result-then-tag-le-NEG_ATOM : goal.overflow_add-result-then-tag-le-NEG_ATOM
+overflow_add-result-then-tag-le-NEG_ATOM c = omega (arith, name-end _ _ c.requires (omega arith))
 
 pub returns : goal.returns
-returns c = spread-other _ _ (omega (arith, c.if-tag-lt3.false)) _ c.formula_parts.ensures
+returns c = spread-other _ _ (omega arith) _ c.formula_parts.ensures
 
-pub returns-then-tag-lt3 : goal.returns-then-tag-lt3
-returns-then-tag-lt3 c = spread-atom _ _ c.if-tag-lt3.true
+pub returns-then-tag-le-NEG_ATOM : goal.returns-then-tag-le-NEG_ATOM
+returns-then-tag-le-NEG_ATOM c = spread-atom _ _ (omega arith)

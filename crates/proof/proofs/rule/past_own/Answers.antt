@@ -10,13 +10,13 @@ pub overflow_add-own : goal.overflow_add-own
 overflow_add-own c = omega (arith, here-inside _ _ c.requires)
 
 pub returns : goal.returns
-returns c = nothing-past _ _ _ c.carried_by-carries.ensures c.if-carries-eq-FORMULA.false c.if-carries-eq-INDEX.false
+returns c = nothing-past _ _ c.if-tag-eq-CUT.false c.if-tag-eq-FOCUS_POSITIVE.false c.if-tag-eq-FOCUS_NEGATIVE.false
 
-pub returns-then-carries-eq-FORMULA : goal.returns-then-carries-eq-FORMULA
-returns-then-carries-eq-FORMULA c = formula-past _ _ _ c.carried_by-carries.ensures c.if-carries-eq-FORMULA.true _ c.skip_formulas.ensures
+pub returns-then-tag-eq-CUT : goal.returns-then-tag-eq-CUT
+returns-then-tag-eq-CUT c = formula-past _ _ c.if-tag-eq-CUT.true _ c.skip_formulas.ensures
 
-pub returns-then-carries-eq-INDEX : goal.returns-then-carries-eq-INDEX
-returns-then-carries-eq-INDEX c = index-past _ _ _ c.carried_by-carries.ensures c.if-carries-eq-INDEX.true
+pub returns-then-tag-eq-FOCUS_POSITIVE : goal.returns-then-tag-eq-FOCUS_POSITIVE
+returns-then-tag-eq-FOCUS_POSITIVE c = index-past _ _ c.then-tag-eq-FOCUS_POSITIVE.either
 
 pub skip_formulas-requires : goal.skip_formulas-requires
-skip_formulas-requires c = formula-some _ _ _ c.carried_by-carries.ensures c.if-carries-eq-FORMULA.true c.requires
+skip_formulas-requires c = formula-some _ _ c.if-tag-eq-CUT.true c.requires

@@ -3,4 +3,4 @@ use Rattle.proof_draft.proofs.plan.Acting.{plan-tells}
 use Rattle.proof_draft.proofs.plan.plan_at.Goals as goal
 
 pub returns : goal.returns
-returns c = record { tells = λ p w. plan-tells p (c.look_rule-rule.ensures p w) c.plan_of.ensures }
+returns c = record { tells = λ p w. plan-tells p (c.look_rule-rule.ensures p w) c.act_of.ensures }

@@ -4,8 +4,11 @@ use Rattle.reader.specs.Form.{layout_of}
 use Rattle.reader.specs.Count.{Gone}
 use Rattle.reader.proofs.ahead.go_ahead.Given as goal
 
-abbrev pub invariant-loop-met : goal.invariant-loop-met
-invariant-loop-met l = Gone (layout_of l.form) l.s l.at l.n l.next l.met l.known l.names × (l.next ≤ l.end + 60)
+abbrev pub invariant-loop-gone : goal.invariant-loop-gone
+invariant-loop-gone l = record {
+  good : Gone (layout_of l.form) l.s l.at l.n l.gone.next l.gone.met l.gone.known l.gone.names;
+  near : l.gone.next ≤ l.end + 60;
+}
 
-abbrev pub decreases-loop-met : goal.decreases-loop-met
-decreases-loop-met l = l.end - l.next
+abbrev pub decreases-loop-gone : goal.decreases-loop-gone
+decreases-loop-gone l = l.end - l.gone.next

@@ -5,6 +5,3 @@ use Rattle.reader.proofs.ahead.pass_ones.Given as goal
 
 abbrev pub invariant-loop-p : goal.invariant-loop-p
 invariant-loop-p l = (l.at ≤ l.p) × (l.p - l.at ≤ l.end - l.at) × Passes l.form l.s l.at l.p
-
-abbrev pub decreases-loop-p : goal.decreases-loop-p
-decreases-loop-p l = l.end - l.p

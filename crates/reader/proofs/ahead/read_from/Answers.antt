@@ -22,4 +22,4 @@ returns c =
     ∙ ap view (same F a.most a.most d a.used a.at (drop a.at a.s.now) (omega arith) h)
 
 pub returns-then-s-at : goal.returns-then-s-at
-returns-then-s-at c = let a = c.args in λ d h. c.bad.ensures ∙ sym (ap view (node-out (layout_of a.form) a.most a.s.now a.used a.at c.if-s-at.true d))
+returns-then-s-at c = let a = c.args in λ d h. c.fault.ensures ∙ sym (ap view (node-out (layout_of a.form) a.most a.s.now a.used a.at c.if-s-at.true d))

@@ -12,4 +12,4 @@ returns c = let a = c.args in λ e. digit-allowed a.form a.s.now a.at a.end (ome
 
 pub returns-then-starts : goal.returns-then-starts
 returns-then-starts c = let a = c.args in
-    λ e. started-allowed (spelling_of a.form) a.t.now c.requires.alphabet a.s.now a.at (a.end - a.at) (omega (arith, c.shared_slice_known-2-1.given a.at)) (sym c.starts.ensures ∙ c.if-starts.true) (omega arith) (omega arith)
+    λ e. started-allowed (spelling_of a.form) a.t.now c.requires.alphabet a.s.now a.at (a.end - a.at) (omega (arith, c.type_inv.s a.at)) (sym c.starts.ensures ∙ c.if-starts.true) (omega arith) (omega arith)

@@ -13,6 +13,6 @@ is_plain-requires c = record { alphabet = c.requires.alphabet; at_lt_end = omega
 
 pub returns-then-is_plain : goal.returns-then-is_plain
 returns-then-is_plain c = let a = c.args in
-    λ h u.
-    sym (spelled-on (spelling_of a.form) a.s.now u (a.at + 1) _ (omega arith) (sym (c.skip_letters.ensures u) ∙ ap (skipped u) c.in-To.is) (c.is_plain.ensures c.if-is_plain.true))
+    λ u.
+    sym (spelled-on (spelling_of a.form) a.s.now u (a.at + 1) _ (omega arith) (sym (c.skip_letters.ensures u) ∙ ap (skipped u) c.in-Ok.is) (c.is_plain.ensures c.if-is_plain.true))
     ∙ name-on (spelling_of a.form) a.s.now u a.at (omega arith) (omega arith) (omega (arith, c.longest_name.ensures)) (omega arith) _ (omega arith)

@@ -2,6 +2,7 @@
 use Prim.Native.Nat.{◌+◌, ◌-◌, ◌/◌}
 use native.Mathlib.Omega.{arith}
 use mathlib.Core.Path.{◌≡◌, sym, ◌∙◌}
+use Rattle.laws.specs.Handed.{handed}
 use Rattle.reader.specs.Form.{layout_of}
 use Rattle.reader.proofs.node.Rest.{rest-is, rest-none, rest-same}
 use Rattle.reader.proofs.node.Turn.{turn-out, turn-full, turn-unknown, few-parts, turn-off, turn_on}
@@ -24,7 +25,7 @@ loop-met-preserved c = let a = c.args in
       omega (arith, c.room_for-room.ensures),
       rest-same (layout_of a.form) a.most a.s.now less more _
           ∙ sym (turn_on a.form a.most a.s.now (l.known - l.met) (a.used + l.met) l.next (omega arith)
-          (omega arith) (omega (arith, c.room_for-room.ensures)) k.result k.ensures c.if-code-eq0.false names.result names.ensures _ c.in-To.is) ∙ l.invariant.3,
+          (omega arith) (omega (arith, c.room_for-room.ensures)) k.result k.ensures c.if-code-eq0.false names.result names.ensures _ c.in_ok-next.was) ∙ l.invariant.3,
     )
 
 pub returns : goal.returns
@@ -32,29 +33,29 @@ returns c = let a = c.args in
     let l = c.loop-met in
     sym (rest-none (layout_of a.form) a.most a.s.now (l.known - l.met) (a.used + l.met) l.next (omega arith)) ∙ l.invariant.3
 
-pub returns-in-Fault : goal.returns-in-Fault
-returns-in-Fault c = let a = c.args in
+pub returns-in_err-next : goal.returns-in_err-next
+returns-in_err-next c = let a = c.args in
     let l = c.loop-met in
     let k = c.code_of-code in
     let names = c.skip_names in
-    c.bad-in-Fault.ensures
+    handed c.from_residual.result c.from_residual.ensures.1
     ∙ sym (turn-off a.form a.most a.s.now (l.known - l.met) (a.used + l.met) l.next (omega arith)
-    (omega arith) (omega (arith, c.room_for-room.ensures)) k.result k.ensures c.if-code-eq0.false names.result names.ensures _ _ c.in-Fault.is)
+    (omega arith) (omega (arith, c.room_for-room.ensures)) k.result k.ensures c.if-code-eq0.false names.result names.ensures _ _ c.in_err-next.was)
     ∙ l.invariant.3
 
 pub returns-then-code-eq0 : goal.returns-then-code-eq0
 returns-then-code-eq0 c = let a = c.args in
     let l = c.loop-met in
     let k = c.code_of-code in
-    c.bad-then-code-eq0.ensures
+    c.fault-then-code-eq0.ensures
     ∙ sym (turn-unknown a.form a.most a.s.now (l.known - l.met) (a.used + l.met) l.next (omega arith) (omega arith) (omega (arith, c.room_for-room.ensures)) k.result k.ensures c.if-code-eq0.true) ∙ l.invariant.3
 
 pub returns-then-room-met : goal.returns-then-room-met
 returns-then-room-met c = let a = c.args in
     let l = c.loop-met in
-    c.bad-then-room-met.ensures ∙ sym (turn-full a.form a.most a.s.now (l.known - l.met) (a.used + l.met) l.next (omega arith) (omega arith) (omega (arith, c.room_for-room.ensures))) ∙ l.invariant.3
+    c.fault-then-room-met.ensures ∙ sym (turn-full a.form a.most a.s.now (l.known - l.met) (a.used + l.met) l.next (omega arith) (omega arith) (omega (arith, c.room_for-room.ensures))) ∙ l.invariant.3
 
 pub returns-then-s-next : goal.returns-then-s-next
 returns-then-s-next c = let a = c.args in
     let l = c.loop-met in
-    c.bad.ensures ∙ sym (turn-out a.form a.most a.s.now (l.known - l.met) (a.used + l.met) l.next (omega arith) (omega arith)) ∙ l.invariant.3
+    c.fault.ensures ∙ sym (turn-out a.form a.most a.s.now (l.known - l.met) (a.used + l.met) l.next (omega arith) (omega arith)) ∙ l.invariant.3

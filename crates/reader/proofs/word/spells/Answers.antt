@@ -11,13 +11,13 @@ loop-i-preserved c =
     let l = c.loop-i in
     let i = l.i in (
       omega arith,
-      l.invariant.1 ∙ alike-on a.form a.s.now a.words.now (a.n - i) (a.n - i - 1) (a.at + i) (a.w + i) (omega arith) (omega arith) (omega arith) _ c.compared_byte-b.ensures c.if-b-words.false
+      l.invariant.1 ∙ alike-on a.form a.s.now a.words.now (a.n - i) (a.n - i - 1) (a.at + i) (a.w + i) (omega arith) (omega arith) (omega arith) _ c.compared_byte.ensures c.if-compared_byte-words.false
           ∙ alike_same a.form a.s.now a.words.now (a.n - i - 1) (a.at + i + 1) (a.w + i + 1) (a.n - (i + 1)) (a.at + (i + 1)) (a.w + (i + 1)) (omega arith) (omega arith) (omega arith),
     )
 
-pub returns-then-b-words : goal.returns-then-b-words
-returns-then-b-words c =
+pub returns-then-compared_byte-words : goal.returns-then-compared_byte-words
+returns-then-compared_byte-words c =
     let a = c.args in
     let l = c.loop-i in
     let i = l.i in
-    sym (l.invariant.1 ∙ alike-off a.form a.s.now a.words.now (a.n - i) (a.n - i - 1) (a.at + i) (a.w + i) (omega arith) (omega arith) (omega arith) _ c.compared_byte-b.ensures c.if-b-words.true)
+    sym (l.invariant.1 ∙ alike-off a.form a.s.now a.words.now (a.n - i) (a.n - i - 1) (a.at + i) (a.w + i) (omega arith) (omega arith) (omega arith) _ c.compared_byte.ensures c.if-compared_byte-words.true)

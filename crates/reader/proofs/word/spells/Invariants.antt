@@ -6,6 +6,3 @@ use Rattle.reader.proofs.word.spells.Given as goal
 
 abbrev pub invariant-loop-i : goal.invariant-loop-i
 invariant-loop-i l = (l.i ≤ l.n) × (alike l.form l.s l.words l.n l.at l.w ≡ alike l.form l.s l.words (l.n - l.i) (l.at + l.i) (l.w + l.i))
-
-abbrev pub decreases-loop-i : goal.decreases-loop-i
-decreases-loop-i l = l.n - l.i

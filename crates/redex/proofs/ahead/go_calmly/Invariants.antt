@@ -9,9 +9,13 @@ use Rattle.reader.specs.Count.{Gone}
 use Rattle.redex.specs.Swept.{Swept}
 use Rattle.redex.proofs.ahead.go_calmly.Given as goal
 
-abbrev pub invariant-loop-met : goal.invariant-loop-met
-invariant-loop-met l =
-    Gone (layout_of Term) l.s 0 1 l.next l.met l.known l.names × (l.next ≤ length l.s + 60) × (l.calm ≡ true → Swept l.s l.next 0)
+abbrev pub invariant-loop-gone : goal.invariant-loop-gone
+invariant-loop-gone l =
+    record {
+      good : Gone (layout_of Term) l.s 0 1 l.gone.next l.gone.met l.gone.known l.gone.names;
+      near : l.gone.next ≤ length l.s + 60;
+      swept : l.calm ≡ true → Swept l.s l.gone.next 0;
+    }
 
-abbrev pub decreases-loop-met : goal.decreases-loop-met
-decreases-loop-met l = length l.s - l.next
+abbrev pub decreases-loop-gone : goal.decreases-loop-gone
+decreases-loop-gone l = length l.s - l.gone.next

@@ -1,10 +1,7 @@
 -- `moves::climb` meets its contract. The loop's invariant: whatever whole the climb began in, it is behind a term of that whole that has
--- no step. The measure is the number of nodes above. Assumes nothing.
+-- no step. Assumes nothing.
 use Rattle.reduction.proofs.moves.Ups.{Climbing}
 use Rattle.reduction.proofs.moves.climb.Given as goal
 
-abbrev pub invariant-loop-depth : goal.invariant-loop-depth
-invariant-loop-depth l = Climbing l.scratch l.initial.out l.initial.stack l.to l.at l.under l.out l.stack l.o l.i l.depth
-
-abbrev pub decreases-loop-depth : goal.decreases-loop-depth
-decreases-loop-depth l = l.depth
+abbrev pub invariant-loop-top : goal.invariant-loop-top
+invariant-loop-top l = Climbing l.scratch l.initial.out l.initial.stack l.fn.from l.out l.stack l.o l.i l.top

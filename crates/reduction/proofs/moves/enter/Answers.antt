@@ -8,8 +8,8 @@ bounds-stack-depth c =
     let a = c.requires in
     (enter-depth a.1).1
 
-pub copy-past-requires : goal.copy-past-requires
-copy-past-requires c =
+pub copy-requires : goal.copy-requires
+copy-requires c =
     let a = c.requires in
     enter-room a.1
 
@@ -29,4 +29,4 @@ overflow_cast-stack c =
     omega (arith, enter-depth a.1)
 
 pub returns : goal.returns
-returns c = λ w e. entered e c.copy-past.ensures
+returns c = λ w e. entered e c.copy.ensures

@@ -5,12 +5,12 @@ use Rattle.reduction.proofs.moves.pass.Goals as goal
 pub climb-requires : goal.climb-requires
 climb-requires c =
     let a = c.requires in
-    (a.0, done a.1 c.copy-past.ensures)
+    (a.0, done a.1 c.copy.ensures)
 
-pub copy-past-requires : goal.copy-past-requires
-copy-past-requires c =
+pub copy-requires : goal.copy-requires
+copy-requires c =
     let a = c.requires in
     pass-room a.1
 
 pub returns : goal.returns
-returns c = λ w e. c.climb.ensures w (done e c.copy-past.ensures)
+returns c = λ w e. c.climb.ensures w (done e c.copy.ensures)

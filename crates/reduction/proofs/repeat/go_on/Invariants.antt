@@ -6,10 +6,10 @@ use Rattle.reduction.specs.Turning.{Stands}
 use Rattle.reduction.proofs.repeat.Turns.{Kept}
 use Rattle.reduction.proofs.repeat.go_on.Given as goal
 
-abbrev pub invariant-loop-repeated : goal.invariant-loop-repeated
-invariant-loop-repeated l =
-    Kept l.initial.out l.initial.scratch l.initial.stack l.initial.made l.out l.scratch l.stack l.places l.made
-    × ((t : Term) → Stands l.limit t l.initial.out l.initial.scratch l.initial.stack l.initial.course → Stands l.limit t l.out l.scratch l.stack l.course)
+abbrev pub invariant-loop-length : goal.invariant-loop-length
+invariant-loop-length l =
+    Kept l.initial.out l.initial.scratch l.initial.stack l.out l.scratch l.stack
+    × ((t : Term) → Stands l.limit t l.initial.out l.initial.scratch l.initial.stack l.fn.from → Stands l.limit t l.out l.scratch l.stack l.course)
 
-abbrev pub decreases-loop-repeated : goal.decreases-loop-repeated
-decreases-loop-repeated l = l.limit - l.course.steps
+abbrev pub decreases-loop-length : goal.decreases-loop-length
+decreases-loop-length l = l.limit - l.course.steps

@@ -13,18 +13,18 @@ overflow_sub-begin c =
     let a = c.requires in
     (begin-room a.0.1 c.args.scratch.now a.1).0
 
-pub returns : goal.returns
-returns c = λ t d. settled d c.args.scratch.now c.requires.1 (c.to_redex-at.ensures t (begins d c.args.scratch.now c.requires.1 c.copy.ensures)) _ _ c.no_counts-counts.ensures c.if-at.false
+pub returns-in-Break : goal.returns-in-Break
+returns-in-Break c = λ t d. rw c.stopped.ensures (settled d c.args.scratch.now c.requires.1 c.args.limit _ c.no_counts.ensures (record { o = 0; i = 0; depth = 0 }) (c.in-Break.ensures t (begins d c.args.scratch.now c.requires.1 c.copy.ensures)))
 
-pub returns-then-at : goal.returns-then-at
-returns-then-at c = λ t d. c.with_room.ensures t (first d c.args.scratch.now c.requires.1 (c.to_redex-at.ensures t (begins d c.args.scratch.now c.requires.1 c.copy.ensures)) _ _ c.no_counts-counts.ensures c.if-at.true)
+pub returns-in-Continue : goal.returns-in-Continue
+returns-in-Continue c = λ t d. c.with_room.ensures t (first d c.args.scratch.now c.requires.1 c.args.limit _ c.no_counts.ensures (c.in-Continue.ensures t (begins d c.args.scratch.now c.requires.1 c.copy.ensures)))
 
-pub to_redex-at-requires : goal.to_redex-at-requires
-to_redex-at-requires c =
+pub to_redex-requires : goal.to_redex-requires
+to_redex-requires c =
     let a = c.requires in
     (a.0.0, begins a.0.1 c.args.scratch.now a.1 c.copy.ensures)
 
 pub with_room-requires : goal.with_room-requires
 with_room-requires c =
     let a = c.requires in
-    (a.0.0, first a.0.1 c.args.scratch.now a.1 (c.to_redex-at.ensures a.0.0 (begins a.0.1 c.args.scratch.now a.1 c.copy.ensures)) _ _ c.no_counts-counts.ensures c.if-at.true)
+    (a.0.0, first a.0.1 c.args.scratch.now a.1 c.args.limit _ c.no_counts.ensures (c.in-Continue.ensures a.0.0 (begins a.0.1 c.args.scratch.now a.1 c.copy.ensures)))

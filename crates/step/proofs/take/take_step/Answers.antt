@@ -7,12 +7,12 @@ use Rattle.step.proofs.take.take_step.Goals as goal
 pub contract_at-requires : goal.contract_at-requires
 contract_at-requires c =
     let w = c.requires in
-    let q = spotted w.0.1 _ (sym c.in-Redex.is ∙ c.find.ensures w.0.0 (whole w.0.0 _ w.0.1.whole)) in
+    let q = spotted w.0.1 _ (sym c.in-Ok.is ∙ c.find.ensures w.0.0 (whole w.0.0 _ w.0.1.whole)) in
     ((q.around, q.redex, q.job), w.1)
 
-pub returns-in-After : goal.returns-in-After
-returns-in-After c = λ t d. nowhere d _ (sym c.in-After.is ∙ c.find.ensures t (whole t _ d.whole))
+pub returns-in-Err : goal.returns-in-Err
+returns-in-Err c = λ t d. nowhere d _ (sym c.in-Err.is ∙ c.find.ensures t (whole t _ d.whole))
 
-pub returns-in-Redex : goal.returns-in-Redex
-returns-in-Redex c = λ t d. let q = spotted d _ (sym c.in-Redex.is ∙ c.find.ensures t (whole t _ d.whole)) in
+pub returns-in-Ok : goal.returns-in-Ok
+returns-in-Ok c = λ t d. let q = spotted d _ (sym c.in-Ok.is ∙ c.find.ensures t (whole t _ d.whole)) in
     rw q.is (c.contract_at.ensures q.around q.redex q.job)

@@ -8,23 +8,23 @@ use Rattle.rules.specs.Stored.{used_bytes_in}
 use Rattle.stored.specs.Opening.{fault-is, block_refused, block-opened}
 use Rattle.stored.proofs.block.open_block.Goals as goal
 
-pub returns : goal.returns
-returns c =
+pub returns-in-None : goal.returns-in-None
+returns-in-None c =
     let a = c.args in
     let u = c.used_in-used.ensures ∙ ap (λ (n : ℕ). used_bytes_in n a.number) c.two_bytes.ensures in
-    block-opened limits a.kind a.file.now a.number a.block.now c.first_fault-fault.result
+    block-opened limits a.kind a.file.now a.number a.block.now c.first_fault.result
     (fault-is limits a.kind a.file.now a.number a.block.now c.two_bytes-2.ensures c.check_of.ensures c.head_wrong-head.ensures
-    u c.zero_from-clean.ensures c.first_fault-fault.ensures)
-    c.used_in-used.result c.if-fault-ne0.false u
+    u c.zero_from-clean.ensures c.first_fault.ensures)
+    c.used_in-used.result c.in-None.is u
 
-pub returns-then-fault-ne0 : goal.returns-then-fault-ne0
-returns-then-fault-ne0 c =
+pub returns-in-Some : goal.returns-in-Some
+returns-in-Some c =
     let a = c.args in
     let u = c.used_in-used.ensures ∙ ap (λ (n : ℕ). used_bytes_in n a.number) c.two_bytes.ensures in
-    block_refused limits a.kind a.file.now a.number a.block.now c.first_fault-fault.result
+    block_refused limits a.kind a.file.now a.number a.block.now c.first_fault.result
     (fault-is limits a.kind a.file.now a.number a.block.now c.two_bytes-2.ensures c.check_of.ensures c.head_wrong-head.ensures
-    u c.zero_from-clean.ensures c.first_fault-fault.ensures)
-    c.refused.result c.if-fault-ne0.true c.refused.ensures
+    u c.zero_from-clean.ensures c.first_fault.ensures)
+    c.refused.result _ c.in-Some.is c.refused.ensures
 
 pub slice_bounds-zero_from-end : goal.slice_bounds-zero_from-end
 slice_bounds-zero_from-end c = sym (length-take-le 510 c.args.block.now (omega arith))

@@ -9,8 +9,6 @@ use Rattle.stored.proofs.blocks.open_blocks.Given as goal
 
 abbrev pub invariant-loop-number : goal.invariant-loop-number
 invariant-loop-number l =
-    (l.number ≤ l.many) × (l.many ≡ length l.file / block_bytes) × (l.at ≤ block_content * l.number) × (length l.content ≡ length l.initial.content)
-    × (opened_blocks limits l.kind l.file 0 l.many ≡ behind (take l.at l.content) (opened_blocks limits l.kind l.file l.number (l.many - l.number)))
-
-abbrev pub decreases-loop-number : goal.decreases-loop-number
-decreases-loop-number l = l.many - l.number
+    let many = length l.file / block_bytes in
+    (l.at ≤ block_content * l.number) × (length l.content ≡ length l.initial.content)
+    × (opened_blocks limits l.kind l.file 0 many ≡ behind (take l.at l.content) (opened_blocks limits l.kind l.file l.number (many - l.number)))

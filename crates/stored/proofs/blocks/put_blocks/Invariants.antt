@@ -9,8 +9,5 @@ use Rattle.stored.proofs.blocks.put_blocks.Given as goal
 
 abbrev pub invariant-loop-number : goal.invariant-loop-number
 invariant-loop-number l =
-    (l.number ≤ l.many) × (l.many ≤ block_count_for limits.bytes) × (l.many ≡ block_count_for (length l.content)) × (l.at ≡ block_bytes * l.number) × (length l.out ≡ length l.initial.out)
-    × (sets l.out l.at (blocks l.kind l.number (l.many - l.number) l.content) ≡ sets l.initial.out 0 (stored l.kind l.content))
-
-abbrev pub decreases-loop-number : goal.decreases-loop-number
-decreases-loop-number l = l.many - l.number
+    (l.many ≡ block_count_for (length l.content)) × (l.many ≤ block_count_for limits.bytes) × (length l.out ≡ length l.initial.out)
+    × (sets l.out (block_bytes * l.number) (blocks l.kind l.number (l.many - l.number) l.content) ≡ sets l.initial.out 0 (stored l.kind l.content))

@@ -1,21 +1,21 @@
 -- `check::check_of` meets its contract: zeros behind weigh nothing. Assumes nothing.
 use Prim.Native.Nat.{ℕ, ◌%◌}
 use mathlib.Core.Path.{◌≡◌, sym, ap, ◌∙◌}
-use native.Mathlib.Omega.{arith}
 use lib.ListN.{take}
-use lib.Seq.{length-take-le, take-take}
+use lib.Seq.{take-take}
 use Rattle.rules.specs.Stored.{weighed}
 use Rattle.stored.specs.Weights.{weighed-clean}
 use Rattle.stored.proofs.check.check_of.Goals as goal
+use Rattle.stored.proofs.check.check_of.Goals.{then-clean, else-clean}
 
-pub returns-then-clean : goal.returns-then-clean
-returns-then-clean c =
+pub returns : goal.returns
+returns c =
     let b = c.args.block.now in
-    let w : weighed 0 (take c.args.end (take 510 b)) ≡ weighed 0 (take 510 b) = weighed-clean (take 510 b) c.args.end (sym c.requires.2 ∙ c.if-clean.true) in
-    ap (λ (k : ℕ). k % 65521) (c.weigh.ensures ∙ ap (weighed 0) (sym (take-take c.args.end 510 b c.requires.0)) ∙ w)
-
-pub slice_bounds-weigh-end-2 : goal.slice_bounds-weigh-end-2
-slice_bounds-weigh-end-2 c = let a = c.args in sym (length-take-le 510 a.block.now (omega arith))
-
-pub weigh-requires-2 : goal.weigh-requires-2
-weigh-requires-2 c = let a = c.args in omega (arith, length-take-le 510 a.block.now (omega arith))
+    let weighs : (n : ℕ) → c.if-clean.weighty ≡ n → c.weigh.result ≡ weighed 0 (take n b) = λ n e. c.weigh.ensures ∙ ap (λ (m : ℕ). weighed 0 (take m b)) e in
+    ap
+    (λ (k : ℕ). k % 65521)
+    (elim c.if-clean.branch [
+      | then-clean w ↦ weighs c.args.end w.weighty-is ∙ ap (weighed 0) (sym (take-take c.args.end 510 b c.requires.0))
+          ∙ weighed-clean (take 510 b) c.args.end (sym c.requires.2 ∙ w.if-clean.true)
+      | else-clean w ↦ weighs 510 w.weighty-is
+    ])

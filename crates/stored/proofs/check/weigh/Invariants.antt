@@ -6,9 +6,7 @@ use Rattle.rules.specs.Stored.{weighed}
 use Rattle.stored.specs.Weights.{total}
 use Rattle.stored.proofs.check.weigh.Given as goal
 
-abbrev pub invariant-loop-i : goal.invariant-loop-i
-invariant-loop-i l =
-    (l.i ≤ length l.body) × (l.bytes ≤ 255 * (length l.body - l.i)) × (l.sum ≤ 130050 * (length l.body - l.i)) × (l.bytes ≡ total (drop l.i l.body)) × (l.sum ≡ weighed 0 (drop l.i l.body))
-
-abbrev pub decreases-loop-i : goal.decreases-loop-i
-decreases-loop-i l = l.i
+abbrev pub invariant-loop-byte : goal.invariant-loop-byte
+invariant-loop-byte l =
+    (length l.yielded ≤ length l.body) × (l.bytes ≤ 255 * length l.yielded) × (l.sum ≤ 130050 * length l.yielded)
+    × (l.bytes ≡ total (drop (length l.body - length l.yielded) l.body)) × (l.sum ≡ weighed 0 (drop (length l.body - length l.yielded) l.body))

@@ -1,18 +1,29 @@
 -- `binder::once` meets its contract: the part of the list that it seeks is the binder's name. Assumes nothing.
-use native.Mathlib.Omega.{arith}
-use Rattle.straight.proofs.binder.Binding.{name-inside, elsewhere, not-once, inside}
+use mathlib.Core.Path.{sym, ◌∙◌}
+use borrow.Author.Tests.{true-eqb, false-eqb}
+use Rattle.straight.proofs.binder.Binding.{elsewhere, not-once, inside}
 use Rattle.straight.proofs.binder.once.Goals as goal
+use Rattle.straight.proofs.binder.once.Goals.{then-all-eq1, else-all-eq1}
 
-pub returns : goal.returns
-returns c w x e b =
-    inside _ c.uses_in-all.ensures b (omega (arith, c.if-all-ne1.false))
-    (omega (arith, c.if-all-ne1-2.false)) _ c.uses_in-inside.ensures
+pub returns-then-single : goal.returns-then-single
+returns-then-single c w x e b =
+    let sought = c.name-sought.ensures in
+    let all = c.uses_in-all.ensures in
+    let single = c.if-single.true in
+    elim c.if-all-eq1.branch [
+      | then-all-eq1 u ↦ inside _ sought _ all b u.if-all-eq1.true (true-eqb _ 1 (sym single ∙ u.single-is)) _ c.uses_in.ensures
+      | else-all-eq1 u ↦ absurd (u.if-all-eq1.false (true-eqb _ 1 (sym single ∙ u.single-is)))
+    ]
 
-pub returns-then-all-ne1 : goal.returns-then-all-ne1
-returns-then-all-ne1 c w x e b = elsewhere _ c.uses_in-all.ensures b (λ z. omega (arith, c.if-all-ne1.true))
+pub returns-else-single : goal.returns-else-single
+returns-else-single c w x e b =
+    let sought = c.name-sought.ensures in
+    let all = c.uses_in-all.ensures in
+    let single = c.if-single.false in
+    elim c.if-all-eq1.branch [
+      | then-all-eq1 u ↦ single ∙ not-once _ sought _ all b u.if-all-eq1.true (false-eqb _ 1 (sym single ∙ u.single-is))
+      | else-all-eq1 u ↦ single ∙ elsewhere _ sought _ all b u.if-all-eq1.false
+    ]
 
-pub returns-then-all-ne1-2 : goal.returns-then-all-ne1-2
-returns-then-all-ne1-2 c w x e b = not-once _ c.uses_in-all.ensures b (omega (arith, c.if-all-ne1.false)) (λ z. omega (arith, c.if-all-ne1-2.true))
-
-pub slice_bounds-uses_in-end : goal.slice_bounds-uses_in-end
-slice_bounds-uses_in-end c = name-inside c.requires
+pub name-sought-requires : goal.name-sought-requires
+name-sought-requires c = let (w, x, e, b) = c.requires in (x, b.named)

@@ -8,28 +8,28 @@ pub loop-left-init : goal.loop-left-init
 loop-left-init c = begin _ _ _ c.requires
 
 pub loop-left-preserved : goal.loop-left-preserved
-loop-left-preserved c = turn c.loop-left.invariant c.loop-left-test.true _ c.uses_at-m.ensures
+loop-left-preserved c = turn c.loop-left.invariant c.loop-left-test.true _ c.uses_at-own.ensures
 
 pub loop-left-smaller : goal.loop-left-smaller
 loop-left-smaller c =
     let g = c.loop-left.invariant in
-    omega (arith, room g c.loop-left-test.true _ c.uses_at-m.ensures)
+    omega (arith, room g c.loop-left-test.true _ c.uses_at-own.ensures)
 
 pub overflow_add-left : goal.overflow_add-left
-overflow_add-left c = omega (arith, few c.loop-left.invariant c.loop-left-test.true _ c.uses_at-m.ensures)
+overflow_add-left c = omega (arith, few c.loop-left.invariant c.loop-left-test.true _ c.uses_at-own.ensures)
 
 pub overflow_add-stands : goal.overflow_add-stands
 overflow_add-stands c =
     let g = c.loop-left.invariant in
-    omega (arith, g.past, room g c.loop-left-test.true _ c.uses_at-m.ensures)
+    omega (arith, g.past, room g c.loop-left-test.true _ c.uses_at-own.ensures)
 
 pub overflow_add-uses : goal.overflow_add-uses
 overflow_add-uses c =
     let g = c.loop-left.invariant in
-    omega (arith, g.past, room g c.loop-left-test.true _ c.uses_at-m.ensures)
+    omega (arith, g.past, room g c.loop-left-test.true _ c.uses_at-own.ensures)
 
 pub returns : goal.returns
 returns c = finish c.loop-left.invariant (omega arith)
 
-pub uses_at-m-requires : goal.uses_at-m-requires
-uses_at-m-requires c = one-here c.loop-left.invariant c.loop-left-test.true
+pub uses_at-own-requires : goal.uses_at-own-requires
+uses_at-own-requires c = one-here c.loop-left.invariant c.loop-left-test.true

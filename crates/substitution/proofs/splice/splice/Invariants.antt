@@ -5,8 +5,8 @@ use lib.ListN.{length}
 use Rattle.substitution.proofs.splice.Splicing.{Going}
 use Rattle.substitution.proofs.splice.splice.Given as goal
 
-abbrev pub invariant-loop-k : goal.invariant-loop-k
-invariant-loop-k l = Going l.body l.places l.gap l.value l.initial.out l.out l.tally l.k
+abbrev pub invariant-loop-place : goal.invariant-loop-place
+invariant-loop-place l = Going l.body l.places l.gap l.value l.initial.out l.out l.tally l.place-index
 
-abbrev pub decreases-loop-k : goal.decreases-loop-k
-decreases-loop-k l = length l.places - l.k
+abbrev pub decreases-loop-place : goal.decreases-loop-place
+decreases-loop-place l = length l.places - l.place-index

@@ -12,12 +12,12 @@ after_names-second-requires c =
     let ne = c.if-names-eq0.false in
     some-single _ _ (one_name _ _ _ _ c.args.name.now q p ne c.requires)
 
-pub after_names-start-requires : goal.after_names-start-requires
-after_names-start-requires c =
+pub after_names-requires : goal.after_names-requires
+after_names-requires c =
     let q = c.names_of-names.ensures in
     let p = c.parts_of-parts.ensures in
     let ne = c.if-names-eq0.false in
-    some-single _ _ (two-names _ _ _ _ c.args.name.now q p ne _ _ c.same_name-x.ensures c.after_names-second.ensures c.if-parts-eq0.false c.if-names-eq1.false c.requires)
+    some-single _ _ (two-names _ _ _ _ c.args.name.now q p ne _ _ c.same_name-x.ensures c.after_names-second.ensures c.in_default.is-1.1 c.in_default.is-0.1 c.requires)
 
 pub bounds-s-at : goal.bounds-s-at
 bounds-s-at c = at-inside _ _ c.requires.0 c.requires.1
@@ -31,29 +31,29 @@ overflow_add-first c = omega (arith, at-inside _ _ c.requires.0 c.requires.1)
 pub parts_of-parts-requires : goal.parts_of-parts-requires
 parts_of-parts-requires c = omega (arith, at_small _ _ c.requires.0 c.requires.1)
 
-pub returns : goal.returns
-returns c =
+pub returns-in_default : goal.returns-in_default
+returns-in_default c =
     let q = c.names_of-names.ensures in
     let p = c.parts_of-parts.ensures in
     let ne = c.if-names-eq0.false in
-    seen-two _ _ _ _ c.args.name.now q p ne _ _ c.same_name-x.ensures c.after_names-second.ensures c.if-parts-eq0.false c.if-names-eq1.false _ _ _ c.same_name-y.ensures c.after_names-start.ensures c.by_two-hides.ensures
+    seen-two _ _ _ _ c.args.name.now q p ne _ _ c.same_name-x.ensures c.after_names-second.ensures c.in_default.is-1.1 c.in_default.is-0.1 _ _ _ c.same_name-y.ensures c.after_names.ensures c.by_two.ensures
 
 pub returns-then-names-eq0 : goal.returns-then-names-eq0
 returns-then-names-eq0 c = seen-bare _ _ _ _ c.args.name.now c.names_of-names.ensures c.parts_of-parts.ensures c.if-names-eq0.true
 
-pub returns-then-names-eq1 : goal.returns-then-names-eq1
-returns-then-names-eq1 c =
+pub returns-in-1-default : goal.returns-in-1-default
+returns-in-1-default c =
     let q = c.names_of-names.ensures in
     let p = c.parts_of-parts.ensures in
     let ne = c.if-names-eq0.false in
-    seen-abs _ _ _ _ c.args.name.now q p ne _ _ c.same_name-x.ensures c.after_names-second.ensures c.if-parts-eq0.false c.if-names-eq1.true _ c.by_one-hides.ensures
+    seen-abs _ _ _ _ c.args.name.now q p ne _ _ c.same_name-x.ensures c.after_names-second.ensures c.in-1-default.is-1.1 c.in-1-default.is-0 _ c.by_one.ensures
 
-pub returns-then-parts-eq0 : goal.returns-then-parts-eq0
-returns-then-parts-eq0 c =
+pub returns-in_default-eq0 : goal.returns-in_default-eq0
+returns-in_default-eq0 c =
     let q = c.names_of-names.ensures in
     let p = c.parts_of-parts.ensures in
     let ne = c.if-names-eq0.false in
-    seen-var _ _ _ _ c.args.name.now q p ne _ _ c.same_name-x.ensures c.after_names-second.ensures c.if-parts-eq0.true
+    seen-var _ _ _ _ c.args.name.now q p ne _ _ c.same_name-x.ensures c.after_names-second.ensures c.in_default-eq0.is-1
 
 pub same_name-x-requires : goal.same_name-x-requires
 same_name-x-requires c =
@@ -67,4 +67,4 @@ same_name-y-requires c =
     let q = c.names_of-names.ensures in
     let p = c.parts_of-parts.ensures in
     let ne = c.if-names-eq0.false in
-    two-names _ _ _ _ c.args.name.now q p ne _ _ c.same_name-x.ensures c.after_names-second.ensures c.if-parts-eq0.false c.if-names-eq1.false c.requires
+    two-names _ _ _ _ c.args.name.now q p ne _ _ c.same_name-x.ensures c.after_names-second.ensures c.in_default.is-1.1 c.in_default.is-0.1 c.requires

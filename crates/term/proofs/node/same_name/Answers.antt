@@ -1,6 +1,7 @@
 -- `node::same_name` meets its contract: the part that it compares is the name. Assumes nothing.
-use Rattle.term.proofs.node.Names.{name-room}
+use mathlib.Core.Path.{ap, ◌∙◌}
+use Rattle.rules.specs.Name.{Name, same}
 use Rattle.term.proofs.node.same_name.Goals as goal
 
-pub slice_bounds-same-end : goal.slice_bounds-same-end
-slice_bounds-same-end c = name-room c.args.s.now c.args.at c.requires
+pub returns : goal.returns
+returns c y w = c.same.ensures ∙ ap (λ (z : Name). same c.args.sought.now z) (c.name.ensures y w)

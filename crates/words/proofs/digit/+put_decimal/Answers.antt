@@ -1,12 +1,10 @@
 -- `digit::put_decimal` meets its contract: the digits of a tenth, then the last one. Assumes nothing.
-use mathlib.Core.Path.{sym, ap, ◌∙◌}
-use mathlib.Core.List.{[], ◌∷◌}
-use Prim.Native.Nat.{◌+◌, ◌/◌, ◌%◌}
+use mathlib.Core.Path.{sym, ap}
+use Prim.Native.Nat.{◌+◌, ◌%◌}
 use native.Mathlib.Omega.{arith}
-use lib.ListN.{length, length-append}
-use Rattle.rules.specs.Basic.{decimal}
+use lib.ListN.{length}
 use Rattle.buffer.specs.Writing.{chain}
-use Rattle.words.specs.Digits.{decimal-one, decimal-more, wrote_one, wrote_as}
+use Rattle.words.specs.Digits.{decimal-one, decimal-more, length-decimal, wrote_one, wrote_as}
 use Rattle.words.proofs.digit.+put_decimal.Goals as goal
 
 pub bounds-out-at : goal.bounds-out-at
@@ -17,20 +15,17 @@ returns-then-n-lt10 t c = wrote_as (sym (decimal-one c.args.n c.if-n-lt10.true))
 
 pub put_decimal-past-requires : goal.put_decimal-past-requires
 put_decimal-past-requires t c =
-    let n = c.args.n in
-    let l = ap length (decimal-more n c.if-n-lt10.false) ∙ length-append (decimal (n / 10)) ((48 + n % 10) ∷ []) in
+    let l = length-decimal c.args.n c.if-n-lt10.false in
     (omega (arith, c.decreases, c.if-n-lt10.false), omega (arith, c.requires))
 
 pub bounds-out-past : goal.bounds-out-past
 bounds-out-past t c =
-    let n = c.args.n in
-    let l = ap length (decimal-more n c.if-n-lt10.false) ∙ length-append (decimal (n / 10)) ((48 + n % 10) ∷ []) in
+    let l = length-decimal c.args.n c.if-n-lt10.false in
     omega (arith, c.requires, c.put_decimal-past.ensures.ends, c.put_decimal-past.auto.out)
 
 pub overflow_add-result-2 : goal.overflow_add-result-2
 overflow_add-result-2 t c =
-    let n = c.args.n in
-    let l = ap length (decimal-more n c.if-n-lt10.false) ∙ length-append (decimal (n / 10)) ((48 + n % 10) ∷ []) in
+    let l = length-decimal c.args.n c.if-n-lt10.false in
     omega (arith, c.requires, c.put_decimal-past.ensures.ends, c.put_decimal-past.auto.out)
 
 pub returns : goal.returns

@@ -12,7 +12,7 @@ pub const L: Limits = Limits::BASE;
 const FILLED: u8 = 170;
 const FULL: Entry = Entry { place: 7, counter: 9 };
 
-/// The calls by their numbers, as crates/vectors/src/call_names.rt has them.
+/// The calls by their numbers, as crates/vectors/src/call.rt has them.
 #[derive(Clone, Copy, Debug, PartialEq, Eq, PartialOrd, Ord)]
 pub enum Call {
     CheckTerm = 1,
