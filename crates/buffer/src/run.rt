@@ -13,6 +13,7 @@ pub fn same(a: &[u8], b: &[u8]) -> bool
 }
 
 // Copies src[from..end] to out from `to` on, and returns the place after it.
+// Kept: an output and a place in it, here and where texts and terms are written: what stands in front of the place stays, which a contract over a part of the output would have to say besides.
 pub fn copy(src: &[u8], from: usize, end: usize, out: &mut [u8], to: usize) -> usize
     requires { (from ≤ end) × (end ≤ length src.now) × (to + (end - from) ≤ length out.old) }
     ensures { Wrote out.old to (slice from end src.now) out.new result }

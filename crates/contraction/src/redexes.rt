@@ -57,6 +57,7 @@ pub fn first(site: Site, made: &mut [u8]) -> Option<Contraction>
 }
 
 // Snd of Pair.
+// Kept: beside `discard`, another rule: what is the same is a call and the struct that it fills.
 pub fn second(site: Site) -> Option<Contraction>
     requires { (a : Term) × (b : Term) × RedexAt site (one snd (two pair a b)) }
     ensures { (a : Term) → (b : Term) → RedexAt site.entry (one snd (two pair a b)) → (made : Bytes) → ContractsAt site.entry (one snd (two pair a b)) Snd none b made result }

@@ -33,25 +33,26 @@ fn put_two_digits(n: usize, out: &mut [u8], at: usize) -> usize
     requires { at + 2 ≤ length out.old }
     ensures { Wrote out.old at (last_two n) out.new result }
 {
-    out[at] = 48 + (n / 10 % 10) as u8;
-    out[at + 1] = 48 + (n % 10) as u8;
+    out[at] = b'0' + (n / 10 % 10) as u8;
+    out[at + 1] = b'0' + (n % 10) as u8;
     at + 2
 }
 
 // The digits of a number: three at most without a call.
+// Kept: beside words::digit, which it calls from the third digit on; so most names are written without a call.
 fn put_digits(n: usize, out: &mut [u8], at: usize) -> usize
     requires { at + length (decimal n) ≤ length out.old }
     ensures { Wrote out.old at (decimal n) out.new result }
 {
     if n < 10 {
-        out[at] = 48 + n as u8;
+        out[at] = b'0' + n as u8;
         return at + 1;
     }
     if n < 100 {
         return put_two_digits(n, out, at);
     }
     if n < 1000 {
-        out[at] = 48 + (n / 100) as u8;
+        out[at] = b'0' + (n / 100) as u8;
         return put_two_digits(n, out, at + 1);
     }
     let past = put_decimal((n / 100) as u64, out, at);

@@ -38,6 +38,7 @@ pub fn tell_refusal(r: Refusal, told: &mut [u64; 16])
 }
 
 // A count or a refusal, told as numbers.
+// Kept: writers by two arms: one over all would hand an array of values through a closure, whose contract is longer than the arms.
 pub fn tell(answer: Result<usize, Refusal>, told: &mut [u64; 16])
     ensures { told.new ≡ told_answer answer }
 {

@@ -51,6 +51,7 @@ fn refused_end(refusal: Refusal, before: u32, room: usize) -> Ended
 }
 
 // How an extraction ends, beside a row of so many entries. Where a term was made, none of them is left.
+// Kept: a function and no From, since it is told the counter before and the room too.
 fn end_of(made: Result<Extraction, Refusal>, before: u32, room: usize) -> Ended
     ensures { result ≡ ended_of made before room }
 {

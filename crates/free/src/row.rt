@@ -51,6 +51,7 @@ impl NameRow {
 
     // The name at `at`, of a variable: put into the row unless it is there already or a binder passed is of that name; and where it stands.
     // A call of its own, so that the walk has few registers to save.
+    // Kept: no map, since there is no heap: the names found are in order, and where a name like it was last seen is asked first.
     #[inline(never)]
     fn find_or_put(&mut self, s: &[u8], at: usize, low: usize) -> usize
         requires { (x : Name) × (xs : List Name) × (l : List Name) × Meets s.now at self.old.places low self.old.found x xs l }

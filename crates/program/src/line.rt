@@ -10,6 +10,7 @@ use rules::{Counts, Refusal};
 use words::digit::put_decimal;
 
 // A word, then a number, which has at most 20 digits.
+// Kept: functions over a lent buffer and no Display, since a contract says which bytes stand where in it.
 fn put_field(word: &[u8], n: u64, out: &mut [u8], at: usize) -> usize
     requires { at + (length word.now + 20) ≤ length out.old }
     ensures { Field out.old at word.now n out.new result }

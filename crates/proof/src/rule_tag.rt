@@ -1,4 +1,5 @@
 // The tags of a proof's rules, by the names of the rules.
+// Kept: bytes and no enum, as the tags of a term (term::tag).
 
 pub const AXIOM: u8 = 1;
 

@@ -23,6 +23,7 @@ pub struct Drafted {
 }
 
 // Puts a row behind the `used` ones, which is the part that was made.
+// Kept: the rows and how many are used, since the array has a fixed size (there is no heap) and what is behind is written next.
 fn push_row(row: Row, next: usize, rows: &mut [Row], used: usize, counter: usize) -> Drafted
     requires { Open rows.old used × (row.first < used + 2) × (row.second < used + 2) × (row.number < most_number) }
     ensures { (s : Bytes) → (a : Term) → (b : Term) → (n : ℕ) → counter ≤ n + 2

@@ -35,6 +35,8 @@ pub fn longest_name(form: Form) -> usize
 
 // What a byte may be, by a table: 1 that it is a tag, 2 for each of its names, 8 for each of its parts, 32 that it follows in a name, and 64 times
 // 2^n that it leads names of n letters and no word of n letters.
+// Kept: a table beside its form, of which `requires` says what is asked: names ask less of it (`Letters`, `Alphabet`) than nodes (`Classes`), so one struct would
+// ask more of `is_plain`, `skip_spelled` and `plain_end`, and three would be turned into each other at each call.
 
 const TAG: u32 = 1;
 
@@ -188,6 +190,7 @@ pub fn starts(t: &[u32; 256], b: u8, n: usize) -> bool
 }
 
 // What a tag has: 0 for none, else 1, 2 for each name, 8 for each part.
+// Kept: 0 and no Option: it comes out of the table with the names and the parts, and one test tells it.
 pub fn code_of(form: Form, t: &[u32; 256], b: u8) -> usize
     requires { Classes (layout_of form) t.now }
     ensures { result ≡ code_at (layout_of form) (head_by_tag (layout_of form).heads b) }

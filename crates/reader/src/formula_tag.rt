@@ -1,4 +1,5 @@
 // The tags of a formula's nodes, by the names of their forms.
+// Kept: bytes and no enum, as the tags of a term (term::tag).
 
 pub const ATOM: u8 = 1;
 

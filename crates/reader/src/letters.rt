@@ -1,39 +1,13 @@
 // Counts letters, many bytes at once.
-ghost use Rattle.std.specs.Prelude.{◌≡◌, ◌-◌, ◌≤◌, ◌<◌, length, if◌then◌else◌, ◌==◌};
-ghost use Rattle.rules.specs.Basic.{between};
+ghost use Rattle.std.specs.Prelude.{◌≡◌, ◌-◌, ◌≤◌, ◌<◌, length};
 ghost use Rattle.rules.specs.Name.{follows};
 ghost use Rattle.reader.specs.Letters.{one, letters_from};
-
-// 1 where a byte is from `from` to `to`, else the other number.
-fn within(b: u8, from: u8, to: u8, other: u8) -> u8
-    ensures { result ≡ (if between from to b then 1 else other) }
-{
-    if b < from {
-        return other;
-    }
-    if to < b {
-        return other;
-    }
-    1
-}
-
-fn same_as(b: u8, k: u8, other: u8) -> u8
-    ensures { result ≡ (if b == k then 1 else other) }
-{
-    if b == k {
-        return 1;
-    }
-    other
-}
 
 // 1 for a byte that may follow in a name.
 fn letter(b: u8) -> u8
     ensures { result ≡ one (follows b) }
 {
-    let digit = within(b, b'0', b'9', 0);
-    let line = same_as(b, b'_', digit);
-    let small = within(b, b'a', b'z', line);
-    within(b, b'A', b'Z', small)
+    u8::from(b.is_ascii_alphanumeric() || b == b'_')
 }
 
 // In a byte, so that many are counted at once.

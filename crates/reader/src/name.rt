@@ -11,6 +11,8 @@ use crate::class::{Form, follows, leads, longest_name, starts};
 use crate::word::is_word;
 use rules::{Fault, Reason};
 
+// Kept: places in the input and no part of it, since a fault is told by its place.
+
 pub fn fault<T>(reason: Reason, place: usize) -> Result<T, Fault>
     ensures { result ≡ fault reason place }
 {
@@ -81,6 +83,7 @@ pub fn skip_spelled(
 }
 
 // Where the name at `at` ends, if it is good and plainly no word.
+// Kept: a quick way beside the exact `skip_name`, which alone knows the fault.
 pub fn plain_end(s: &[u8], form: Form, t: &[u32; 256], at: usize) -> Option<usize>
     requires alphabet { Alphabet (spelling_of form) t.now }
     requires at_in_bounds { at < length s.now }

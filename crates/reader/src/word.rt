@@ -16,30 +16,28 @@ fn compared_byte(form: Form, b: u8) -> u8
     }
 }
 
-// Whether the n letters of s at `at` are the n bytes of `words` at w.
-fn spells(s: &[u8], form: Form, at: usize, n: usize, words: &[u8], w: usize) -> bool
-    requires { (at + n ≤ length s.now) × (w + n ≤ length words.now) }
-    ensures { result ≡ same (compared form (take n (drop at s.now))) (take n (drop w words.now)) }
+// Whether the letters of s at `at` begin with a word.
+fn spells(s: &[u8], form: Form, at: usize, word: &[u8]) -> bool
+    requires { at + length word.now ≤ length s.now }
+    ensures { result ≡ same (compared form (take (length word.now) (drop at s.now))) word.now }
 {
-    for i in 0..n {
-        if compared_byte(form, s[at + i]) != words[w + i] {
+    for i in 0..word.len() {
+        if compared_byte(form, s[at + i]) != word[i] {
             return false;
         }
     }
     true
 }
 
-// Whether they are one of the words of n letters that stand in a row.
+// Whether the n letters of s at `at` are one of the words of n letters that stand in a row.
 fn is_among(s: &[u8], form: Form, at: usize, n: usize, words: &[u8]) -> bool
     requires { (0 < n) × (at + n ≤ length s.now) }
     ensures { (ws : List Name) → InRow n ws words.now → result ≡ among (compared form (take n (drop at s.now))) ws }
 {
-    let mut w = 0;
-    while n <= words.len() - w {
-        if spells(s, form, at, n, words, w) {
+    for word in words.chunks_exact(n) {
+        if spells(s, form, at, word) {
             return true;
         }
-        w += n;
     }
     false
 }

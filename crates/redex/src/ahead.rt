@@ -12,6 +12,7 @@ use reader::ahead::{Ahead, last_pair, names_end};
 use reader::class::{Form, code_of};
 
 // What was gone over, and whether no node of it is a redex.
+// Kept: a flag, since what was gone over is told whether or not it is calm.
 #[derive(Clone, Copy)]
 pub struct Calmly {
     pub gone: Ahead,
@@ -30,6 +31,7 @@ fn is_calm(s: &[u8], tag: usize, names: usize, past: usize) -> bool
 }
 
 // From the beginning of s on, where one node is to be read.
+// Kept: a loop beside reader's `go_ahead`: in one for both, a closure would look at each node, with a clause for all the nodes it has seen.
 pub fn go_calmly(s: &[u8], t: &[u32; 256]) -> Calmly
     requires classes { Classes (layout_of Term) t.now }
     requires s_len_bound { length s.now ≤ 65536 }

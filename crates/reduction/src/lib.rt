@@ -23,6 +23,7 @@ mod room;
 mod sight;
 
 // The steps taken, one count for each rule, whether no step remains, and the length of the term in the output.
+// Kept: a flag, since the counts and the length are told whether or not a step remains.
 #[derive(Clone, Copy)]
 pub struct Reduction {
     pub steps: u32,

@@ -92,6 +92,7 @@ pub struct Row {
     pub parts: usize,
 }
 
+// Kept: a place, of which `requires` says that a term stands there: a struct that said so would be built by the same proof at each part.
 pub fn parts_at(s: &[u8], at: usize) -> Row
     requires { (t : Term) × TermAt s.now at t }
     ensures { (t : Term) → TermAt s.now at t → (result.start ≡ at + length (head t)) × (result.parts ≡ length (parts t)) }
@@ -122,6 +123,7 @@ pub fn same_name(s: &[u8], at: usize, sought: &[u8]) -> bool
 
 // A node, with a name in mind: where its parts start, how many there are, which of them a binder of that name covers,
 // and whether it is that variable.
+// Kept: a flag, since the parts are told of every node.
 #[derive(Clone, Copy)]
 pub struct Node {
     pub start: usize,

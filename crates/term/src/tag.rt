@@ -1,4 +1,5 @@
 // The tags of a term's nodes, by the names of their forms.
+// Kept: bytes and no enum, since a byte is what stands in the input: an enum would have to be decoded from it, by one test more at each node.
 
 pub const VAR: u8 = 1;
 

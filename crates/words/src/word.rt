@@ -36,7 +36,7 @@ pub fn closes(out: &mut [u8], to: usize, n: usize) -> usize
     to + n
 }
 
-// A place in the bytes and a place in the text, in one number, which comes back in a register.
+// A place in the bytes and a place in the text. Kept: in one number, which comes back in a register.
 pub fn places(at: usize, to: usize) -> usize
     requires { (at < 65536) × (to < 65536) }
     ensures { result ≡ places_of at to }

@@ -4,10 +4,12 @@ use Prim.Native.Nat.{ℕ, zero, suc, ◌+◌, ◌-◌, ◌<◌, ◌≤◌}
 use native.Mathlib.Nat.{add-zero, zero-add, suc-add}
 use native.Mathlib.Omega.{arith}
 use mathlib.Core.Path.{◌≡◌, refl, sym, ap, ◌∙◌}
-use mathlib.Core.Bool.{Bool, true, false, ◌||◌}
+use mathlib.Core.Bool.{Bool, true, false, ◌||◌, or_assoc, or_comm}
 use lib.ListN.{length, get_or, drop}
 use borrow.Author.Tests.{lt-leb, ne_eqb}
-use Rattle.std.specs.Prelude.{if◌then◌else◌, ◌==◌}
+use Rattle.std.specs.Prelude.{◌==◌}
+use Rattle.std.specs.Char.{is_ascii_alphanumeric}
+use Rattle.std.specs.Int.{from_bool}
 use Rattle.rules.specs.Basic.{Bytes, between}
 use Rattle.rules.specs.Name.{leads, follows}
 use Rattle.rules.specs.Reading.{byte_for, many}
@@ -24,16 +26,21 @@ pub low : (b : ℕ) → b < 48 → follows b ≡ false
 unfolding follows leads
 low b h = simp (lt-leb 65 b (omega arith), lt-leb 97 b (omega arith), lt-leb 48 b h, ne_eqb b 95 (λ e. omega arith))
 
-or-if : (a b : Bool) (x : ℕ) → (if a || b then 1 else x) ≡ (if a then 1 else (if b then 1 else x))
-or-if true b x = refl
-or-if false b x = refl
-
-pub by-ranges : (b : ℕ) → one (follows b) ≡ (if between 65 90 b then 1 else (if between 97 122 b then 1 else (if b == 95 then 1 else (if between 48 57 b then 1 else 0))))
+by-class : (b : ℕ) → follows b ≡ (is_ascii_alphanumeric b || (b == 95))
 unfolding follows leads
-by-ranges b =
-    or-if (between 65 90 b || (between 97 122 b || (b == 95))) (between 48 57 b) 0
-    ∙ or-if (between 65 90 b) (between 97 122 b || (b == 95)) (if between 48 57 b then 1 else 0)
-    ∙ ap (λ (x : ℕ). if between 65 90 b then 1 else x) (or-if (between 97 122 b) (b == 95) (if between 48 57 b then 1 else 0))
+by-class b =
+    let up = between 65 90 b in
+    let small = between 97 122 b in
+    let digit = between 48 57 b in
+    or_comm (up || (small || (b == 95))) digit ∙ sym (or_assoc digit up (small || (b == 95))) ∙ sym (or_assoc (digit || up) small (b == 95))
+
+from_bit : (b : Bool) → from_bool b ≡ one b
+from_bit true = refl
+from_bit false = refl
+
+-- whether a byte is an ASCII letter or digit or a line, as a byte
+pub of_class : (b : ℕ) (is : Bool) → is ≡ (is_ascii_alphanumeric b || (b == 95)) → from_bool is ≡ one (follows b)
+of_class b is h = from_bit is ∙ ap one (h ∙ sym (by-class b))
 
 -- sums of what was counted before and in one part more
 pub grown : (i from r count part l : ℕ) → from ≤ i → i < r → count ≤ i - from → part ≡ l → l ≤ r - i → count + part ≤ r - from

@@ -4,7 +4,7 @@ use mathlib.Core.Path.{◌≡◌, refl, ◌∙◌}
 use mathlib.Core.Bool.{Bool, true, false, not, ◌&&◌}
 use mathlib.Core.List.{[], ◌∷◌}
 use native.Mathlib.Omega.{arith}
-use lib.ListN.{length, get_or, take, drop, length-map, length-take, length-drop}
+use lib.ListN.{length, get_or, take, drop, length-map, length-take, length-drop, drop_of_length-le}
 use borrow.Author.Tests.{eq-eqb, ne_eqb}
 use Rattle.std.specs.Prelude.{◌==◌}
 use Rattle.rules.specs.Basic.{Bytes}
@@ -32,16 +32,16 @@ compared-length Formula x = length-map x lower_of
 pub compared-long : (f : Form) (s : Bytes) (at n : ℕ) → at + n ≤ length s → length (compared f (take n (drop at s))) ≡ n
 compared-long f s at n h = compared-length f (take n (drop at s)) ∙ omega (arith, length-take n (drop at s), length-drop at s)
 
--- k letters of s at p beside k bytes of t at q
+-- k letters of s at p beside the bytes of t from q on
 module _ (f : Form) (s t : Bytes) where
   abbrev pub alike : (k p q : ℕ) → Bool
-  alike k p q = same (compared f (take k (drop p s))) (take k (drop q t))
+  alike k p q = same (compared f (take k (drop p s))) (drop q t)
 
   pub alike_same : (k p q k' p' q' : ℕ) → k ≡ k' → p ≡ p' → q ≡ q' → alike k p q ≡ alike k' p' q'
   alike_same k p q k' p' q' e d f = rw (e, d, f)
 
-  pub alike-none : (k p q : ℕ) → k ≡ 0 → alike k p q ≡ true
-  alike-none k p q e = rw (e, compared-none f)
+  pub alike-none : (k p q : ℕ) → k ≡ 0 → length t ≤ q → alike k p q ≡ true
+  alike-none k p q e h = rw (e, compared-none f, drop_of_length-le t {i = q} h)
 
   -- the first of them, which the code has as b
   module _ (k j p q : ℕ) (e : k ≡ suc j) (h : p < length s) (i : q < length t) (b : ℕ) (is : b ≡ byte_compared f (get_or s p 0)) where

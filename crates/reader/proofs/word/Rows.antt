@@ -1,11 +1,11 @@
 -- Words of one length in a row: the first of them and the rest, none; and that a name is a word if it is one of those of its length. Assumes nothing.
-use Prim.Native.Nat.{ℕ, ◌+◌, ◌-◌, ◌<◌, ◌≤◌}
-use mathlib.Core.Path.{◌≡◌, refl, sym, ap, ◌∙◌}
+use Prim.Native.Nat.{ℕ, ◌<◌, ◌≤◌}
+use mathlib.Core.Path.{◌≡◌, refl, sym, ap, subst, ◌∙◌}
 use mathlib.Core.Bool.{Bool, true, false, ◌||◌}
-use mathlib.Core.List.{List, [], ◌∷◌}
+use mathlib.Core.List.{List, [], ◌∷◌, ◌++◌}
 use native.Mathlib.Omega.{arith}
-use lib.ListN.{length, take, drop, length-take, length-drop}
-use lib.Seq.{drop-drop}
+use lib.ListN.{length, take, drop, length-take, length-append}
+use lib.Seq.{take_at, drop_at}
 use borrow.Author.Tests.{eqb-false, ne_eqb}
 use Rattle.std.specs.Prelude.{if◌then◌else◌, ◌==◌}
 use Rattle.rules.specs.Basic.{Bytes}
@@ -27,33 +27,36 @@ module _ (n : ℕ) (some : 0 < n) where
   row_first [] s h r = absurd (omega (arith, ap length r))
   row_first (w ∷ ws) s h r = record { others = ws; are = ap (λ (v : Name). v ∷ ws) (sym r.1); row = r.2 }
 
--- x is among all the words of a row if it is among those from w on
-abbrev pub Decides : Name → ℕ → Bytes → (w : ℕ) → Type 0
-Decides x n t w = (ws : List Name) → InRow n ws t → (vs : List Name) × InRow n vs (drop w t) × (among x ws ≡ among x vs)
+-- x is among all the words of a row t if it is among those of its end r
+abbrev pub Decides : Name → ℕ → (t r : Bytes) → Type 0
+Decides x n t r = (ws : List Name) → InRow n ws t → (vs : List Name) × InRow n vs r × (among x ws ≡ among x vs)
 
 module _ (x : Name) (n : ℕ) (some : 0 < n) (t : Bytes) where
-  pub decides-all : Decides x n t 0
-  decides-all ws r = (ws, r, refl)
+  module _ (r : Bytes) (d : Decides x n t r) where
+    pub decides-none : length r < n → (ws : List Name) → InRow n ws t → false ≡ among x ws
+    decides-none h ws row =
+        let v = d ws row in
+        sym (v.2 ∙ ap (among x) (row-none n some v.0 r h v.1))
 
-  module _ (w : ℕ) (d : Decides x n t w) where
-    pub decides-none : length t - w < n → (ws : List Name) → InRow n ws t → false ≡ among x ws
-    decides-none h ws r =
-        let v = d ws r in
-        let z : v.0 ≡ [] = row-none n some v.0 (drop w t) (omega (arith, length-drop w t)) v.1 in
-        sym (v.2 ∙ ap (among x) z)
+    -- the end begins with the word w
+    module _ (w q : Bytes) (is : r ≡ w ++ q) (long : length w ≡ n) where
+      first : (ws : List Name) → (row : InRow n ws t) → First n some (d ws row).0 r
+      first ws row = row_first n some (d ws row).0 r (omega (arith, long, ap length is, length-append w q)) (d ws row).1
 
-    module _ (h : n ≤ length t - w) where
-      first : (ws : List Name) → (r : InRow n ws t) → First n some (d ws r).0 (drop w t)
-      first ws r = row_first n some (d ws r).0 (drop w t) (omega (arith, length-drop w t)) (d ws r).1
+      word : take n r ≡ w
+      word = ap (take n) is ∙ take_at w q n long
 
-      pub decides-found : same x (take n (drop w t)) ≡ true → (ws : List Name) → InRow n ws t → true ≡ among x ws
-      decides-found e ws r = sym ((d ws r).2 ∙ ap (among x) (first ws r).are ∙ ap (λ (b : Bool). b || among x (first ws r).others) e)
+      others : (ws : List Name) → (row : InRow n ws t) → (b : Bool) → same x w ≡ b → among x ws ≡ (b || among x (first ws row).others)
+      others ws row b e = (d ws row).2 ∙ ap (among x) (first ws row).are ∙ ap (λ (y : Name). same x y || among x (first ws row).others) word ∙ ap (λ (c : Bool). c || among x (first ws row).others) e
 
-      pub decides-later : same x (take n (drop w t)) ≡ false → Decides x n t (w + n)
-      decides-later e ws r = (
-        (first ws r).others,
-        rw (drop-drop n w t) at (first ws r).row,
-        (d ws r).2 ∙ ap (among x) (first ws r).are ∙ ap (λ (b : Bool). b || among x (first ws r).others) e,
+      pub decides-found : same x w ≡ true → (ws : List Name) → InRow n ws t → true ≡ among x ws
+      decides-found e ws row = sym (others ws row true e)
+
+      pub decides-later : same x w ≡ false → Decides x n t q
+      decides-later e ws row = (
+        (first ws row).others,
+        subst (λ (y : Bytes). InRow n (first ws row).others y) (ap (drop n) is ∙ drop_at w q n long) (first ws row).row,
+        others ws row false e,
       )
 
 -- those of n letters
