@@ -1,5 +1,5 @@
 -- `line::put_fields` meets its contract: what is left to write makes up the whole. Assumes nothing.
-use Rattle.std.proofs.Common.{◌≡◌, ℕ, ◌+◌, ◌<◌, List, [], ◌∷◌, ◌++◌, length, drop, get_or, sym, ap, ◌∙◌, arith, drop-cons, add-one, drop_of_length-le, length-append}
+use Rattle.std.proofs.Common.{◌≡◌, ℕ, ◌+◌, ◌<◌, List, [], ◌∷◌, ◌++◌, length, drop, get_or, sym, ap, ◌∙◌, arith, drop-cons, add-one, length-append}
 use lib.Seq.{sets}
 use denote.Ref.{Bor}
 use Rattle.rules.specs.Basic.{Bytes, decimal}
@@ -18,12 +18,6 @@ text_of f = f.0.now ++ decimal f.1
 -- the next field, and those behind it
 split : (fs : List (Bor Bytes × ℕ)) (k : ℕ) → k < length fs → drop k fs ≡ get_or fs k none ∷ drop (k + 1) fs
 split fs k h = drop-cons fs k none h ∙ ap (λ (n : ℕ). get_or fs k none ∷ drop n fs) (sym (add-one k))
-
-pub put_field-past-requires : goal.put_field-past-requires
-put_field-past-requires c =
-    let l = c.loop-word in
-    let e = ap fields_room (split c.args.fields.now l.word-index c.loop-word-test.true) in
-    omega (arith, e, l.invariant.0, l.invariant.1, c.requires)
 
 pub loop-word-preserved : goal.loop-word-preserved
 loop-word-preserved c =
@@ -47,17 +41,3 @@ loop-word-preserved c =
           ∙ i.2,
       omega (arith, w.ends, i.3, ap length e, length-append (text_of f) rest),
     )
-
-pub returns : goal.returns
-returns c =
-    let l = c.loop-word in
-    let i = l.invariant in
-    let none_left = drop_of_length-le c.args.fields.now {i = l.word-index} c.loop-word-test.false in
-    record {
-      wrote =
-          record {
-            holds = ap (λ (fs : List (Bor Bytes × ℕ)). sets l.out l.past (fields_text fs)) (sym none_left) ∙ i.2;
-            ends = omega (arith, i.3, ap (λ (fs : List (Bor Bytes × ℕ)). length (fields_text fs)) none_left);
-          };
-      most = omega (arith, i.1, ap fields_room none_left);
-    }

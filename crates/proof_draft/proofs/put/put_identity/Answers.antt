@@ -5,9 +5,6 @@ use Rattle.draft.specs.Steady.{drafts-unit}
 use Rattle.proof_draft.proofs.put.Putting.{put_is, new-name}
 use Rattle.proof_draft.proofs.put.put_identity.Goals as goal
 
-pub push_row-requires : goal.push_row-requires
-push_row-requires c = let h = rw c.in-Some.is at c.requires.2 in (c.requires.0, omega arith, omega arith, h)
-
 pub returns-in-None : goal.returns-in-None
 returns-in-None c =
     λ s. rw c.in-None.is (put_is (new-name s c.args.counter) (c.push_row-in-None.ensures s (leaf unit) (leaf unit) _ (omega arith) (drafts-unit c.requires.0.rows) (drafts-unit c.requires.0.rows)))

@@ -6,7 +6,7 @@ use native.Mathlib.Omega.{arith}
 use native.Mathlib.Nat.{sub-zero}
 use lib.ListN.{drop, get_or, length}
 use lib.Seq.{drop-length}
-use Rattle.std.proofs.lemmas.Iterator.Consumers.{YieldsList-turn, YieldsList-end}
+use Rattle.std.proofs.lemmas.Iterator.Consumers.{YieldsList-turn}
 use Rattle.std.proofs.lemmas.Iterator.Adapters.{YieldsList-from_rev_slice}
 use Rattle.std.proofs.lemmas.List.{length-reverse, get_or-reverse, length_push}
 use Rattle.std.proofs.lemmas.Grind.{get_or_default_zero}
@@ -48,10 +48,3 @@ loop-byte-preserved c =
       omega (arith, t, here) ∙ ap (λ (n : ℕ). total (drop n body)) (sym next),
       omega (arith, w, here) ∙ ap (λ (n : ℕ). weighed 0 (drop n body)) (sym next),
     )
-
-pub returns : goal.returns
-returns c =
-    let body = c.args.body.now in
-    let end = YieldsList-end (YieldsList-from_rev_slice body cc) c.loop-byte.yielded _ c.loop-byte.yielded_by _ _ c.in-None.is c.next.ensures.steps in
-    let z : length body - length c.loop-byte.yielded ≡ 0 = omega (arith, end.1, length-reverse body) in
-    c.loop-byte.invariant.4 ∙ ap (λ (n : ℕ). weighed 0 (drop n body)) z

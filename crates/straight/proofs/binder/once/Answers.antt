@@ -24,6 +24,3 @@ returns-else-single c w x e b =
       | then-all-eq1 u ↦ single ∙ not-once _ sought _ all b u.if-all-eq1.true (false-eqb _ 1 (sym single ∙ u.single-is))
       | else-all-eq1 u ↦ single ∙ elsewhere _ sought _ all b u.if-all-eq1.false
     ]
-
-pub name-sought-requires : goal.name-sought-requires
-name-sought-requires c = let (w, x, e, b) = c.requires in (x, b.named)
