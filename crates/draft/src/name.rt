@@ -39,7 +39,7 @@ fn put_two_digits(n: usize, out: &mut [u8], at: usize) -> usize
 }
 
 // The digits of a number: three at most without a call.
-// Kept: beside words::digit, which it calls from the third digit on; so most names are written without a call.
+// Kept: beside words::digit, which it calls for four digits and more; so most names are written without a call.
 fn put_digits(n: usize, out: &mut [u8], at: usize) -> usize
     requires { at + length (decimal n) ≤ length out.old }
     ensures { Wrote out.old at (decimal n) out.new result }

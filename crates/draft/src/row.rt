@@ -27,7 +27,8 @@ pub enum RowKind {
     Copy,
 }
 
-// A row says the same five things whatever its kind. Kept: a number and a stem of 0 stand for none and for `x`, since only a Named row has them, and an Option would be in all.
+// A row says the same five things whatever its kind; a name without a number, and the stem of an `x`, are 0.
+// Kept: one flat row and 0 for none: with data in each variant, whoever asks for first, second or number would match on all kinds.
 #[derive(Clone, Copy)]
 pub struct Row {
     pub kind: RowKind,

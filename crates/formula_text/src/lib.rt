@@ -14,6 +14,7 @@ pub mod sign;
 pub mod walk;
 
 // The formula's text, then zeros.
+// Kept: beside term_text's, as docs/PROMISES.md has them: the rooms, the readers and the walks are others.
 pub fn pretty(formula: &[u8], out: &mut [u8]) -> Result<usize, Refusal>
     ensures value { result ≡ (formula_text_call limits formula.now out.old).answer }
     ensures out_after { out.new ≡ (formula_text_call limits formula.now out.old).output }

@@ -12,7 +12,8 @@ pub enum Shape {
     Connective,
 }
 
-// The shape of each tag from 0 on. Kept a table: a `match` on the tag becomes a row of tests, by which the walk takes half as long again.
+// The shape of each tag from 0 on.
+// Kept: a table; a `match` on the tag becomes a row of tests, by which the walk takes half as long again.
 static SHAPES: [Shape; 16] = [
     Shape::Leaf,
     Shape::Leaf,

@@ -36,6 +36,7 @@ pub fn proof_input(s: &[u8], input: u8) -> Result<usize, Refusal>
     }
 }
 
+// Kept: a call of its own beside those of reader, as docs/PROMISES.md has them.
 pub fn check_proof(proof: &[u8]) -> Result<usize, Refusal>
     ensures { result ≡ check_proof_call limits proof.now }
 {

@@ -108,7 +108,6 @@ pub fn look_rule(s: &[u8], at: usize) -> Looked
 
 // The place after n proofs.
 // Kept: a twin of the loop above, since a trait or a closure for both would have to say what a look tells of any list of items, which is longer than the loop.
-// Kept: beside `skip_formulas`: one for both would have to say what a look tells of a list of any items, which is longer than the loop.
 pub fn skip_proofs(s: &[u8], at: usize, n: usize) -> usize
     requires { (ps : List Proof) × ProofsAt s.now at n ps }
     ensures { (ps : List Proof) → ProofsAt s.now at n ps → result ≡ at + proofs_long ps }

@@ -61,7 +61,7 @@ fn check_within(
 }
 
 // An input of a call with several.
-// Kept: a function for each kind of input and each call, since README and include/patch.h name the calls.
+// Kept: a function for each kind of input and each call, which docs/PROMISES.md promises one by one.
 pub fn term_input(s: &[u8], input: u8) -> Result<usize, Refusal>
     ensures { result ≡ mapped node_count (read_term limits input s.now) }
 {

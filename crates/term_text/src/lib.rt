@@ -13,6 +13,7 @@ pub mod phrase;
 pub mod walk;
 
 // The term's text, then zeros.
+// Kept: beside formula_text's, as docs/PROMISES.md has them: the rooms, the readers and the walks are others.
 pub fn pretty(term: &[u8], out: &mut [u8]) -> Result<usize, Refusal>
     ensures value { result ≡ (text_call limits term.now out.old).answer }
     ensures out_after { out.new ≡ (text_call limits term.now out.old).output }

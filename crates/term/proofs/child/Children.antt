@@ -1,6 +1,6 @@
 -- What `locate` knows where it answers, by what the reader, `parts_at` and `skip` ensure; and what `child` and `child_fault` make of its answer.
 -- Assumes nothing.
-use Rattle.std.specs.Prelude.{Ok, Err, Some, None}
+use Rattle.std.specs.Prelude.{Ok, Err}
 use Rattle.std.specs.Result.{result_err}
 use Prim.Native.Nat.{ℕ, ◌+◌, ◌-◌, ◌<◌, ◌≤◌}
 use mathlib.Core.Path.{◌≡◌, refl, sym, ap, ◌∙◌}

@@ -2,7 +2,6 @@
 -- Assumes nothing.
 use mathlib.Core.Path.{sym, ◌∙◌}
 use native.Mathlib.Omega.{arith}
-use lib.Seq.{length-take-le}
 use Rattle.term.proofs.span.Rows.{app-name}
 use Rattle.contraction.proofs.part.Standing.{inside}
 use Rattle.contraction.proofs.app.Jobs.{app-body, app-few, app-bounds, app-argument, app-numbers, ends-in, app-placing, tail-room, tail-few, tail-stays}
@@ -37,12 +36,6 @@ overflow_sub-arg c =
     let j = c.requires.redex.3 in
     let g = c.after_names-from.ensures in
     omega (arith, app-numbers j g (c.find_in-body.ensures.kept _ (app-body j g)))
-
-pub overflow_sub-arg-then-ends_body : goal.overflow_sub-arg-then-ends_body
-overflow_sub-arg-then-ends_body c =
-    let j = c.requires.redex.3 in
-    let g = c.after_names-from.ensures in
-    omega (arith, tail-room j g (c.find_in-body.ensures.kept _ (app-body j g)) (sym (ends-in j g (c.find_in-body.ensures.kept _ (app-body j g)) c.ends_body.ensures) ∙ c.if-ends_body.true) c.requires.row.1)
 
 pub overflow_sub-rest : goal.overflow_sub-rest
 overflow_sub-rest c =
@@ -109,12 +102,6 @@ shared_ref_as_front-kept c =
     let j = c.requires.redex.3 in
     let g = c.after_names-from.ensures in
     omega (arith, (app-numbers j g (c.find_in-body.ensures.kept _ (app-body j g))).held_in, c.find_in-body.ensures.row)
-
-pub slice_bounds-kept-end : goal.slice_bounds-kept-end
-slice_bounds-kept-end c =
-    let j = c.requires.redex.3 in
-    let g = c.after_names-from.ensures in
-    sym (length-take-le _ _ (app-numbers j g (c.find_in-body.ensures.kept _ (app-body j g))).held_in)
 
 pub slice_bounds-find_in-count : goal.slice_bounds-find_in-count
 slice_bounds-find_in-count c = omega (arith, app-bounds c.requires.redex.3 c.after_names-from.ensures)

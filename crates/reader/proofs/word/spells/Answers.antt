@@ -3,7 +3,7 @@ use Prim.Native.Nat.{◌+◌, ◌-◌}
 use lib.ListN.{length}
 use mathlib.Core.Path.{sym, ◌∙◌}
 use native.Mathlib.Omega.{arith}
-use Rattle.reader.proofs.word.Compared.{alike_same, alike-none, alike-off, alike-on}
+use Rattle.reader.proofs.word.Compared.{alike_same, alike-off, alike-on}
 use Rattle.reader.proofs.word.spells.Goals as goal
 
 pub loop-i-preserved : goal.loop-i-preserved
@@ -24,10 +24,3 @@ returns-then-compared_byte-word c =
     let i = l.i in
     let n = length a.word.now in
     sym (l.invariant.1 ∙ alike-off a.form a.s.now a.word.now (n - i) (n - i - 1) (a.at + i) i (omega arith) (omega arith) (omega arith) _ c.compared_byte.ensures c.if-compared_byte-word.true)
-
-pub returns : goal.returns
-returns c =
-    let a = c.args in
-    let l = c.loop-i in
-    let n = length a.word.now in
-    sym (l.invariant.1 ∙ alike-none a.form a.s.now a.word.now (n - l.i) (a.at + l.i) l.i (omega arith) (omega arith))

@@ -2,11 +2,8 @@
 -- Assumes nothing.
 use native.Mathlib.Omega.{arith}
 use Rattle.term.proofs.node.Terms.{some_first, turn-fits, turn-ahead}
-use Rattle.term.proofs.span.Extents.{begin, done, turn}
+use Rattle.term.proofs.span.Extents.{done, turn}
 use Rattle.term.proofs.span.span_row.Goals as goal
-
-pub loop-left-init : goal.loop-left-init
-loop-left-init c = begin _ _ _ c.requires
 
 pub loop-left-preserved : goal.loop-left-preserved
 loop-left-preserved c = turn _ _ _ _ _ _ _ _ c.loop-left.invariant c.parts_at-row.ensures c.loop-left-test.true

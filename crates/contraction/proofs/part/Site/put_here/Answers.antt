@@ -1,7 +1,6 @@
 -- `part::Site::put_here` meets its contract: the parts are slices of the bytes, and what is put is what the redex becomes. Assumes nothing.
 use mathlib.Core.Path.{ap, sym, ◌∙◌}
 use native.Mathlib.Omega.{arith}
-use lib.Seq.{length-take-le}
 use Rattle.std.specs.Prelude.{Option, Some}
 use Rattle.substitution.specs.declared.put.Written.{Written}
 use Rattle.contraction.specs.declared.part.Contraction.{Contraction}
@@ -14,16 +13,8 @@ returns c t x e v j =
     placed j c.requires.room (c.put_in.ensures _ _ _ (putting j))
     (ap (λ (z : Contraction). Some z) c.of_written.ensures ∙ ap (λ (z : Option Written). contracted_of c.args.rule c.args.end z) (sym c.in_ok-written.was))
 
-pub returns-in_err-written : goal.returns-in_err-written
-returns-in_err-written c t x e v j =
-    placed j c.requires.room (c.put_in.ensures _ _ _ (putting j))
-    (c.from_residual.ensures ∙ ap (λ (z : Option Written). contracted_of c.args.rule c.args.end z) (sym c.in_err-written.was))
-
 pub slice_bounds-put_in-end : goal.slice_bounds-put_in-end
 slice_bounds-put_in-end c = omega (arith, bounds c.requires.placing.4)
-
-pub slice_bounds-put_in-end-2 : goal.slice_bounds-put_in-end-2
-slice_bounds-put_in-end-2 c = sym (length-take-le _ _ c.requires.placing.4.found.held.inside)
 
 pub slice_bounds-put_in-end-3 : goal.slice_bounds-put_in-end-3
 slice_bounds-put_in-end-3 c = omega (arith, part_in c.requires.placing.4.value)
