@@ -13,14 +13,16 @@ pub fn same(a: &[u8], b: &[u8]) -> bool
 }
 
 // Copies src[from..end] to out from `to` on, and returns the place after it.
+// By a loop and not by std's `copy_from_slice`, which calls memmove: the archive for C asks for memcpy and memset alone, and runs are mostly short.
 // Kept: an output and a place in it, here and where texts and terms are written: what stands in front of the place stays, which a contract over a part of the output would have to say besides.
 pub fn copy(src: &[u8], from: usize, end: usize, out: &mut [u8], to: usize) -> usize
     requires { (from ≤ end) × (end ≤ length src.now) × (to + (end - from) ≤ length out.old) }
     ensures { Wrote out.old to (slice from end src.now) out.new result }
 {
-    let past = to + (end - from);
-    out[to..past].copy_from_slice(&src[from..end]);
-    past
+    for i in from..end {
+        out[to + (i - from)] = src[i];
+    }
+    to + (end - from)
 }
 
 // Zeros in out from `from` on.

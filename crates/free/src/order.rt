@@ -22,10 +22,17 @@ pub fn order_at(s: &[u8], at: usize, other: usize) -> Ordering
     order(name(s, at), name(s, other))
 }
 
-// Whether the names at two places are the same.
+// Whether the names at two places are the same; the last byte tells most of them apart, and `==` comes to it last.
 pub fn same_at(s: &[u8], at: usize, other: usize) -> bool
     requires { (x : Name) × (y : Name) × NameAt s.now at x × NameAt s.now other y }
     ensures { (x : Name) → (y : Name) → NameAt s.now at x → NameAt s.now other y → result ≡ same_name x y }
 {
+    let len = s[at] as usize;
+    if s[other] as usize != len {
+        return false;
+    }
+    if s[at + len] != s[other + len] {
+        return false;
+    }
     name(s, at) == name(s, other)
 }

@@ -7,6 +7,22 @@ ghost use Rattle.straight.specs.Counts.{PastNames, AtNode, InTerm};
 
 use term::{node, tag};
 
+// Whether a and b are the same bytes. By a loop, since every name of a term is asked about for every binder and most are told by a byte or two:
+// `==` is a call for longer names, for which a walk puts its counts on the stack.
+fn same_bytes(a: &[u8], b: &[u8]) -> bool
+    ensures { result ≡ same_name a.now b.now }
+{
+    if a.len() != b.len() {
+        return false;
+    }
+    for i in 0..a.len() {
+        if a[i] != b[i] {
+            return false;
+        }
+    }
+    true
+}
+
 // Names in a row: the place after them, and how many of them are the name sought.
 #[derive(Clone, Copy)]
 pub struct SameNames {
@@ -21,7 +37,7 @@ fn same_names(s: &[u8], at: usize, n: usize, name: &[u8]) -> SameNames
     let mut next = at;
     let mut same = 0;
     for _ in 0..n {
-        same += usize::from(node::same_name(s, next, name));
+        same += usize::from(same_bytes(name, node::name(s, next)));
         next = node::after_names(s, next, 1);
     }
     SameNames { next, same }

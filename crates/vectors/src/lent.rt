@@ -11,14 +11,19 @@ pub enum Left {
     Other,
 }
 
+// Whether all bytes are b. Every byte is looked at, for then many are compared at once, where `all`, which stops at the first other one, goes byte by byte.
+fn all_are(bytes: &[u8], b: u8) -> bool {
+    bytes.iter().fold(true, |same, byte| same & (*byte == b))
+}
+
 impl Left {
     // Whether a buffer is as it was filled, or holds the wanted bytes and then zeros to its end.
     pub fn of(buffer: &[u8], wanted: &[u8]) -> Left {
-        if buffer.iter().all(|byte| *byte == FILLED) {
+        if all_are(buffer, FILLED) {
             return Left::AsItWas;
         }
         match buffer.strip_prefix(wanted) {
-            Some(rest) if rest.iter().all(|byte| *byte == 0) => Left::Answered,
+            Some(rest) if all_are(rest, 0) => Left::Answered,
             _ => Left::Other,
         }
     }

@@ -3,7 +3,7 @@ ghost use Rattle.std.specs.Prelude.{◌≡◌, ◌++◌, ◌+◌, ◌≤◌, len
 ghost use Rattle.rules.specs.Name.{name_most};
 ghost use Rattle.words.specs.Prints.{Prints};
 
-use crate::word::word;
+use crate::word::{first, word};
 use buffer::run;
 use rules::LONGEST_NAME;
 
@@ -12,11 +12,10 @@ pub fn few<const N: usize>(s: &[u8], from: usize, n: usize, out: &mut [u8], to: 
     requires { (n ≤ N) × (from + n ≤ length s.now) × (to + N ≤ length out.old) }
     ensures { Prints out.old to (take n (drop from s.now)) out.new result }
 {
-    if s.len() < from + N {
-        return run::copy(s, from, from + n, out, to);
+    match s[from..].first_chunk::<N>() {
+        Some(bytes) => first(out, to, bytes, n),
+        None => run::copy(s, from, from + n, out, to),
     }
-    out[to..to + N].copy_from_slice(&s[from..from + N]);
-    to + n
 }
 
 // A name, whose length stands at `at`. Most names have at most eight bytes, and these are put in where it is called.

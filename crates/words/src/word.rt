@@ -3,12 +3,16 @@ ghost use Rattle.std.specs.Prelude.{◌≡◌, [], ◌∷◌, ◌+◌, ◌/◌, 
 ghost use Rattle.words.specs.Prints.{Prints, brackets};
 ghost use Rattle.words.specs.Task.{Done, places as places_of};
 
-// The first n bytes of a word. All of it is written, so that it is a store or two however many count.
+// The first n bytes of a word. All of it is written, so that it is a store or two however many count: from a copy of it, and not by std's
+// `copy_from_slice`, which first asks whether both sides overlap.
 pub fn first<const N: usize>(out: &mut [u8], to: usize, w: &[u8; N], n: usize) -> usize
     requires { (n ≤ N) × (to + N ≤ length out.old) }
     ensures { Prints out.old to (take n w.now) out.new result }
 {
-    out[to..to + N].copy_from_slice(w);
+    let bytes = *w;
+    for i in 0..N {
+        out[to + i] = bytes[i];
+    }
     to + n
 }
 

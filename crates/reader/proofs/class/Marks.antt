@@ -1,20 +1,14 @@
--- Filling the table: what is written into a part of it is written one after the other.
+-- Filling the table: what is left to write makes up the whole.
 -- Assumes nothing.
-use Prim.Native.Nat.{ℕ, ◌+◌, ◌≤◌}
+use Prim.Native.Nat.{ℕ, suc, ◌+◌, ◌-◌, ◌<◌}
+use native.Mathlib.Numerals.{add-one}
 use native.Mathlib.Omega.{arith}
-use mathlib.Core.Path.{◌≡◌, refl, sym, ap, ◌∙◌}
-use mathlib.Core.List.{◌++◌}
-use lib.ListN.{length, take, drop}
+use mathlib.Core.Path.{◌≡◌, sym, ap, ◌∙◌}
+use lib.ListN.{set, replicate}
 use lib.Seq.{sets}
-use Rattle.std.proofs.Common.{append_assoc}
-use borrow.Rule.Slice.PartMut.{put_mid}
-use Rattle.std.proofs.lemmas.Slice.{put_mid-paste}
-use Rattle.std.proofs.lemmas.List.Edits.{paste_all, sets-eq}
 use Rattle.rules.specs.Basic.{Bytes}
 
-pub written : (t now vs : Bytes) (at k : ℕ) → now ≡ vs → length vs ≡ k → at + k ≤ length t → put_mid at k t now ≡ sets t at vs
-written t now vs at k e n h =
-    put_mid-paste at k t now vs k e refl (sym n)
-    ∙ paste_all t at vs k (sym n)
-    ∙ ap (λ (m : ℕ). take at t ++ (vs ++ drop (at + m) t)) (sym n)
-    ∙ sym (sets-eq vs t at (omega arith) ∙ simp append_assoc)
+pub mark-more : (t all : Bytes) (b to v : ℕ) → b < to → sets t b (replicate (to - b) v) ≡ all → sets (set t b v) (b + 1) (replicate (to - (b + 1)) v) ≡ all
+mark-more t all b to v h e =
+    let z : to - b ≡ suc (to - (b + 1)) = omega arith in
+    ap (λ i. sets (set t b v) i (replicate (to - (b + 1)) v)) (add-one b) ∙ sym (ap (λ n. sets t b (replicate n v)) z) ∙ e

@@ -46,7 +46,7 @@ module _ (s : List ℕ) (i n : ℕ) where
   other-names x xs w j e =
       record { many = omega (arith, w.many); rest = w.rest; bytes = drop_app (encode_name x) _ s i j (apart x xs w) e }
 
-name-length : (s : List ℕ) (i : ℕ) (x : Name) → NameAt s i x → get_or s i 0 ≡ length x
+pub name-length : (s : List ℕ) (i : ℕ) (x : Name) → NameAt s i x → get_or s i 0 ≡ length x
 name-length s i x w = head_byte s _ i (length x) w.bytes
 
 pub name-room : (s : List ℕ) (i : ℕ) → ((x : Name) × NameAt s i x) → i + 1 + get_or s i 0 ≤ length s
