@@ -60,6 +60,9 @@ module _ {s out : Bytes} {most : ℕ} {p : Proof} (w : Checked s out most p) {n 
       let e : outcome x ≡ refuse CounterOver 0 0 = ap (λ (b : Bool). decided b (fits limits x.0) x) z in
       record { says = q ∙ ap told (sym e); leaves = ap (λ (z : Outcome (Term × ℕ)). filled out (extract_ending z).writes) (sym e); clears = ap (λ (z : Outcome (Term × ℕ)). cleared 0 scratch (extract_ending z).says) (sym e) }
 
--- a proof of no more rules than a proof can have
+-- a proof of no more rules than were counted; and of no more than a proof can have
+pub checked-within : {s out : Bytes} {m most : ℕ} {p : Proof} → Checked s out m p → m ≤ most → Checked s out most p
+checked-within w h = record { holds = w.holds; few = omega (arith, w.few, h); room = w.room }
+
 pub checked-most : {s out : Bytes} {m : ℕ} {p : Proof} → Checked s out m p → Checked s out limits.rules p
 checked-most w = record { holds = w.holds; few = w.holds.few-rules; room = w.room }

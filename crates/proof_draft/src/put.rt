@@ -99,7 +99,7 @@ pub(crate) fn put_over(
 }
 
 // A pair of an earlier part and the one that was made last.
-pub(crate) fn put_pair(first: usize, second: Drafted, rows: &mut [Row]) -> Drafted
+pub fn put_pair(first: usize, second: Drafted, rows: &mut [Row]) -> Drafted
     requires { Open rows.old second.used × (first < second.used + 2) × (second.part < second.used + 2) }
     ensures { (s : Bytes) → (a : Term) → (b : Term) → Drafts s rows.old second.used first a
         → Drafts s rows.old second.used second.part b
@@ -115,7 +115,7 @@ pub(crate) fn put_pair(first: usize, second: Drafted, rows: &mut [Row]) -> Draft
 }
 
 // The producer and the consumer of a Cut, joined as the formula at `own` says: Tensor by a LetPair and Plus by a Case, of two new names, and else by an App.
-pub(crate) fn put_cut(
+pub fn put_cut(
     s: &[u8],
     own: usize,
     producer: Drafted,
