@@ -50,7 +50,9 @@ ported: program
 replayed:
 	@cargo run $(CARGO) -p apart -- program
 
+# The library asks for memcpy and memset from outside, and for nothing else: README says so to whoever links it.
 linked: library
+	@test "$$(nm -u $(LIBRARY) | awk 'NF == 2 { print $$2 }' | sort | xargs)" = "memcpy memset" || { nm -u $(LIBRARY); exit 1; }
 	@gcc -std=c99 $(WARN) host/c/smoke.c $(LIBRARY) -o host/target/smoke && host/target/smoke
 	@gcc -x c++ $(WARN) host/c/smoke.c -x none $(LIBRARY) -o host/target/smoke && host/target/smoke
 	@gcc -std=c99 $(WARN) host/c/example.c $(LIBRARY) -o host/target/example && host/target/example | tee host/target/example.c.out
