@@ -13,10 +13,11 @@ use term::{node, tag};
 pub fn plain(tag: usize) -> bool
     ensures { result ≡ plain_tag tag }
 {
-    !matches!(
-        u8::try_from(tag),
-        Ok(tag::CASE | tag::FST | tag::SND | tag::DISCARD | tag::COPY)
-    )
+    tag != tag::CASE as usize
+        && tag != tag::FST as usize
+        && tag != tag::SND as usize
+        && tag != tag::DISCARD as usize
+        && tag != tag::COPY as usize
 }
 
 // Whether the name at `name` stands at this one binder only and is used exactly once, in the term at `covers`.
